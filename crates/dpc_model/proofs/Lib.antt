@@ -1,0 +1,9 @@
+pub mod Causality
+pub mod Folding
+pub mod JoinCausality
+pub mod WindowCausality
+pub mod IdealCausality
+pub mod Order
+pub mod Prefixes
+pub mod FragmentValues
+pub mod Choice

@@ -1,0 +1,36 @@
+-- Engines that take one bucket after another: what they take, and what they answer.
+use Rattle.std.specs.Prelude.{◌≡◌, ℕ, ◌+◌, ◌*◌, ◌<◌, ◌≤◌, Bool, IsTrue, ◌&&◌, ◌||◌, ◌==◌, nat_lt, nat_le, List, ◌++◌, length, drop, All, ◌↔◌}
+use Rattle.std.specs.List.{AllAdjacentBelow}
+use Rattle.dpc_model.specs.declared.tuples.Tuple.{Tuple}
+use Rattle.dpc_model.specs.declared.tuples.Tagged.{Tagged}
+
+-- what an engine makes of its whole inputs, known up to a time
+abbrev pub Value : Type 0
+Value = List Tagged → ℕ → List Tuple
+
+-- a tagged tuple lies in bucket k
+abbrev pub LiesIn : ℕ → ℕ → Tagged → Type 0
+LiesIn width k x = (k * width ≤ x.tuple.stime) × (x.tuple.stime < (k + 1) * width)
+
+-- whether a tagged tuple may stand before another: by time, then by port
+abbrev pub precedes : Tagged → Tagged → Bool
+precedes x y = nat_lt x.tuple.stime y.tuple.stime || (x.tuple.stime == y.tuple.stime && nat_le x.port y.port)
+
+-- the tagged tuples of bucket k, in order of time and port
+pub record IsBucket (width k : ℕ) (xs : List Tagged) : Type 0 where
+  pub inside : All (LiesIn width k) xs
+  pub ordered : AllAdjacentBelow (λ x y. IsTrue (precedes x y)) xs (length xs)
+
+-- the output that bucket k adds, where the inputs before it are known
+abbrev pub added_output : Value → ℕ → List Tagged → List Tagged → ℕ → List Tuple
+added_output value width before bucket k = drop (length (value before (k * width))) (value (before ++ bucket) ((k + 1) * width))
+
+-- a value that an engine has is the same as another's
+abbrev pub SameValue : Value → Value → Type 0
+SameValue v w = (xs : List Tagged) (b : ℕ) → v xs b ≡ w xs b
+
+-- two engines have one width, one value, and accept the same
+pub record SameMake (w w' : ℕ) (v v' : Value) (a a' : ℕ → List Tagged → Type 0) : Type 0 where
+  pub width : w ≡ w'
+  pub value : SameValue v v'
+  pub accepts : (k : ℕ) (xs : List Tagged) → a k xs ↔ a' k xs

@@ -1,0 +1,18 @@
+//! The types of a replicated stream engine, and the definitions that the contracts of its crates cite.
+#![tactic(auto)]
+
+pub mod batches;
+pub mod engines;
+pub mod exact;
+pub mod expressions;
+pub mod faults;
+pub mod laws;
+pub mod lists;
+pub mod messages;
+pub mod operators;
+pub mod plans;
+pub mod scripts;
+pub mod steps;
+#[cfg(test)]
+mod tests;
+pub mod tuples;

@@ -1,0 +1,83 @@
+//! Events, and what actors send one another.
+use crate::lists::Listed;
+use crate::tuples::Items;
+
+/// What may happen in a run.
+#[derive(Clone, Copy, PartialEq, Eq)]
+pub enum Event {
+    Phase(u64),
+    Emit(u64, u64),
+    Release(u64, u64),
+    Cut(u64, u64),
+    Heal(u64, u64),
+    Crash(u64),
+    Restart(u64, u64),
+    Deliver(u64),
+    Tick(u64, u64),
+    Mill(u64, u64),
+}
+
+/// The name of a session: the reader's incarnation, and a number within it.
+#[derive(Clone, Copy, PartialEq, Eq)]
+pub struct Sess {
+    pub inc: u64,
+    pub number: u64,
+}
+
+#[derive(Clone, Copy, PartialEq, Eq)]
+pub enum NodeState {
+    Stable,
+    UpFailure,
+    Stabilization,
+}
+
+/// A reader asks for the stream from its tuple number `n` on.
+#[derive(Clone, Copy, PartialEq, Eq)]
+pub struct Subscribe {
+    pub sess: Sess,
+    pub n: u64,
+    pub tentative: bool,
+}
+
+/// What a sender tells of itself: the session and the number of batches are those of the addressee.
+#[derive(Clone, Copy, PartialEq, Eq)]
+pub struct Beat {
+    pub inc: u64,
+    pub state: NodeState,
+    pub recovering: bool,
+    pub over: u64,
+    pub link: Option<(Sess, u64)>,
+}
+
+#[derive(Drop)]
+pub enum Message {
+    Batch(Sess, u64, Items),
+    Subscribe(Subscribe),
+    Truncated(Sess, u64),
+    Beat(Beat),
+    Ack(u64, u64),
+    Ask(u64, u64),
+    Grant(u64, u64),
+    SnapAsk(u64, u64),
+}
+
+#[derive(Drop)]
+pub struct Out {
+    pub to: u64,
+    pub message: Message,
+}
+
+/// How good a replica is to read from, the best first.
+#[derive(Clone, Copy, PartialEq, Eq)]
+pub enum Rank {
+    Stable,
+    UpFailure,
+    Stabilizing,
+    Silent,
+}
+
+/// The ranks of the replicas in order.
+pub type Ranks = Listed<Rank>;
+
+/// Events in order.
+pub type Journal = Listed<Event>;

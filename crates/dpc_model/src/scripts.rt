@@ -1,0 +1,35 @@
+//! A script: a plan, and what happens in each phase.
+use crate::lists::Listed;
+use crate::plans::Plan;
+
+#[derive(Clone, Copy, PartialEq, Eq)]
+pub enum Directive {
+    Emit(u64, u64),
+    Release(u64, u64),
+    Cut(u64, u64),
+    Heal(u64, u64),
+    Lose(u64, u64),
+    Repeat(u64, u64),
+    Crash(u64),
+    Restart(u64),
+}
+
+#[derive(Drop)]
+pub struct Phase {
+    pub directives: Listed<Directive>,
+    pub now: u64,
+}
+
+#[derive(Drop)]
+pub struct Script {
+    pub plan: Plan,
+    pub phases: Listed<Phase>,
+    pub settle: bool,
+}
+
+/// The first fault of a script: its line in the canonical text, and the reason.
+#[derive(Clone, Copy, PartialEq, Eq, Debug)]
+pub struct PlanFault {
+    pub line: u64,
+    pub reason: u64,
+}

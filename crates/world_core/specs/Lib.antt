@@ -1,0 +1,7 @@
+pub mod Worlds
+pub mod Schedules
+pub mod Safe
+pub mod SessionLaw
+pub mod Steady
+pub mod Runs
+pub mod Orderly
