@@ -16,3 +16,5 @@ pub mod Ports
 pub mod Engines
 pub mod Sessions
 pub mod Columns
+pub mod Words
+pub mod ScriptText

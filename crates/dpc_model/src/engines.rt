@@ -1,5 +1,5 @@
 //! Engines that take one bucket of inputs after another.
-ghost use Rattle.std.specs.Prelude.{◌≡◌, ◌+◌, ◌^◌, ◌<◌, ◌++◌, ◌↔◌, ℕ, List, [], Bool, true, false, IfOk, OnOk, is_err, IsTrue};
+ghost use Rattle.std.specs.Prelude.{◌≡◌, ◌+◌, ◌^◌, ◌<◌, ◌++◌, ◌↔◌, ℕ, List, [], Bool, true, false, IfOk, OnOk, OnErr, is_err, IsTrue};
 ghost use Rattle.dpc_model.specs.Engines.{Value, added_output, SameMake};
 ghost use Rattle.dpc_model.specs.declared.tuples.Tagged.{Tagged};
 
@@ -40,6 +40,7 @@ pub trait Engine: Sized {
         ensures after { OnOk result ((before : List Tagged) → after self.old before k
             → after self.new (before ++ inputs.now) (k + 1)) }
         ensures next { OnOk result (next self.new ≡ k + 1) }
+        ensures kept { OnErr result (next self.new ≡ next self.old) }
         ensures spent { result ≡ Err StepFault.Spent ↔ is_spent self.old ≡ true }
         ensures stays { IsTrue (is_spent self.new) ↔ IsTrue (is_err result) }
         ensures made { SameMake (width self.old) (width self.new) (value self.old) (value self.new) (accepts self.old) (accepts self.new) };
@@ -69,24 +70,4 @@ pub trait Engine: Sized {
 
     /// And their next bucket is the same.
     ghost alike_next: { (x y : Self) → alike x y → next x ≡ next y };
-}
-
-/// Two buckets one after the other, on any engine.
-pub fn two_buckets<M: Engine>(
-    m: &mut M,
-    alloc: Global,
-    first: &[Tagged],
-    second: &[Tagged],
-    k: u64,
-) -> Result<(Tuples, Tuples), StepFault>
-    requires next { k ≡ M.next m.old }
-    requires range { k + 2 < 2 ^ 64 }
-    requires first { M.accepts m.old k first.now }
-    requires second { M.accepts m.old (k + 1) second.now }
-    ensures after { OnOk result ((before : List Tagged) → M.after m.old before k
-        → M.after m.new (before ++ first.now ++ second.now) (k + 2)) }
-{
-    let out = m.bucket(alloc, first, k)?;
-    let more = m.bucket(alloc, second, k + 1)?;
-    Ok((out, more))
 }

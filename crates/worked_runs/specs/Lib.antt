@@ -23,3 +23,5 @@ pub mod EmptyLog
 pub mod Hostile
 pub mod Laws
 pub mod OrderlyRuns
+pub mod MeterAlarm
+pub mod WaitingBuckets

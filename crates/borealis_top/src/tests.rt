@@ -1,0 +1,152 @@
+//! Whole commands over memory: what the worked rows of the language's description say, and the
+//! refusal of every limit.
+use crate::plain::plain;
+use crate::status::Status;
+use dpc_edge::memory::{MemSink, MemSource};
+use std::alloc::{AllocError, Global};
+use std::test::Fail;
+
+/// The smallest whole script.
+const SMALLEST: &str =
+    "borealis 1\nwidth 10\ndelay 20\nend 30\nsource s 1\nlog s 3 5\nlog s 12 7\nlog s 25 2\nfragment f 1 s\nfilter k s gt c0 4\nclient c f\nbegin\nrelease s 30\ntick 1\ntick 2\ntick 3\ntick 4\n";
+
+/// Its report.
+const REPORT: &str =
+    "client c\nstable 0 3 5\nstable 1 12 7\nboundary 30 2\nsummary c stable 2 bound 30 tentative 0 settled\n";
+
+/// A source of this text, so many bytes a call, that fails its call 1 where told.
+fn source(alloc: Global, text: &str, piece: u64, fails: bool) -> Result<MemSource, AllocError> {
+    let mut failing = Vec::new(alloc);
+    if fails {
+        failing.push(1)?;
+    }
+    let bytes = text.as_bytes().to_vec(alloc)?;
+    Ok(MemSource::new(bytes, piece.max(1), failing))
+}
+
+/// A sink that takes so many bytes a call and fails its call 2 where told.
+fn sink(alloc: Global, piece: u64, fails: bool) -> Result<MemSink, AllocError> {
+    let mut failing = Vec::new(alloc);
+    if fails {
+        failing.push(2)?;
+    }
+    Ok(MemSink::new(vec![in alloc; 0; 4096]?, piece.max(1), failing))
+}
+
+fn words(alloc: Global, first: &str, second: &str) -> Result<Vec<String>, AllocError> {
+    let mut words = Vec::new(alloc);
+    words.push(String::from_str(alloc, first)?)?;
+    if !second.is_empty() {
+        words.push(String::from_str(alloc, second)?)?;
+    }
+    Ok(words)
+}
+
+#[test]
+fn a_run_writes_its_report(rt: HostRuntime) -> Result<(), Fail> {
+    let alloc = rt.alloc();
+    let run = words(alloc, "run", "")?;
+    let mut input = source(alloc, SMALLEST, 1000, false)?;
+    let mut out = sink(alloc, 1000, false)?;
+    let mut err = sink(alloc, 1000, false)?;
+    let status = plain(alloc, run.as_slice(), &mut input, &mut out, &mut err);
+    assert_eq!(rt; status, Status::Done);
+    assert_eq!(rt; out.bytes(), REPORT.as_bytes());
+    assert_eq!(rt; err.bytes().len(), 0);
+    Ok(())
+}
+
+#[test]
+fn faults_end_a_run(rt: HostRuntime) -> Result<(), Fail> {
+    let alloc = rt.alloc();
+    let run = words(alloc, "run", "")?;
+    let rows = [
+        (true, false, Status::ReadFault, 0),
+        (false, true, Status::WriteFault, 16),
+    ];
+    for (input_fails, out_fails, wanted, most) in rows {
+        let mut input = source(alloc, SMALLEST, 16, input_fails)?;
+        let mut out = sink(alloc, 8, out_fails)?;
+        let mut err = sink(alloc, 1000, false)?;
+        let status = plain(alloc, run.as_slice(), &mut input, &mut out, &mut err);
+        assert_eq!(rt; status, wanted);
+        assert!(rt; out.bytes().len() <= most && REPORT.as_bytes().starts_with(out.bytes()));
+        assert_eq!(rt; err.bytes().len(), 0);
+    }
+    Ok(())
+}
+
+#[test]
+fn words_are_commands_or_not(rt: HostRuntime) -> Result<(), Fail> {
+    let alloc = rt.alloc();
+    let rows = [
+        ("--help", "", Status::Done),
+        ("--version", "", Status::Done),
+        ("run", "fast", Status::Words),
+        ("live", "", Status::Words),
+    ];
+    for (first, second, wanted) in rows {
+        let words = words(alloc, first, second)?;
+        let mut input = source(alloc, SMALLEST, 16, false)?;
+        let mut out = sink(alloc, 1000, false)?;
+        let mut err = sink(alloc, 1000, false)?;
+        let status = plain(alloc, words.as_slice(), &mut input, &mut out, &mut err);
+        assert_eq!(rt; status, wanted, "at {first} {second}");
+        let line: &[u8] = if wanted == Status::Words {
+            b"borealis: unknown words\n"
+        } else {
+            b""
+        };
+        assert_eq!(rt; err.bytes(), line, "at {first} {second}");
+    }
+    Ok(())
+}
+
+#[test]
+fn each_limit_refuses(rt: HostRuntime) -> Result<(), Fail> {
+    let alloc = rt.alloc();
+    let run = words(alloc, "run", "")?;
+    let rows = [
+        ("borealis 1\n", "borealis 2\n"),
+        ("width 10\n", "width 0\n"),
+        ("width 10\n", "width 1000001\n"),
+        ("delay 20\n", "delay 1000000000001\n"),
+        ("end 30\n", "end 35\n"),
+        ("end 30\n", "end 1099511627780\n"),
+        ("end 30\n", "end 100010\n"),
+        ("source s 1\n", "source s 9\n"),
+        ("source s 1\n", "source S 1\n"),
+        ("source s 1\n", "source aaaaaaaaaaaaaaaaa 1\n"),
+        ("log s 12 7\n", "log s 2 7\n"),
+        ("log s 25 2\n", "log s 30 2\n"),
+        ("log s 25 2\n", "log s 25 2 2\n"),
+        ("log s 3 5\n", "log s 3 -0\n"),
+        ("log s 3 5\n", "log s 3 9223372036854775808\n"),
+        ("log s 3 5\n", "log s 03 5\n"),
+        ("fragment f 1 s\n", "fragment f 2 s\n"),
+        ("filter k s gt c0 4\n", "filter k s gt c1 4\n"),
+        ("filter k s gt c0 4\n", "filter k s add c0 4\n"),
+        ("client c f\n", "client f f\n"),
+        ("release s 30\n", "release s 31\n"),
+        ("release s 30\n", "release s 40\n"),
+        ("tick 2\n", "tick 0\n"),
+        ("tick 4\n", "tick 1000000000001\n"),
+        ("tick 4\n", "tick 4"),
+        ("begin\n", "begin\n\n"),
+        ("begin\n", "begin \n"),
+    ];
+    for (line, other) in rows {
+        let Some((before, behind)) = SMALLEST.split_once(line) else {
+            return Ok(assert!(rt; false, "no line {line}"));
+        };
+        let text = format!(in alloc; "{before}{other}{behind}")?;
+        let mut input = source(alloc, text.as_str(), 1000, false)?;
+        let mut out = sink(alloc, 1000, false)?;
+        let mut err = sink(alloc, 1000, false)?;
+        let status = plain(alloc, run.as_slice(), &mut input, &mut out, &mut err);
+        assert_eq!(rt; status, Status::Refused, "at {other}");
+        assert_eq!(rt; err.bytes(), b"line 0: reason 0\n".as_slice(), "at {other}");
+        assert_eq!(rt; out.bytes().len(), 0, "at {other}");
+    }
+    Ok(())
+}

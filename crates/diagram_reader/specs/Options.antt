@@ -1,0 +1,12 @@
+-- One reading after another; there is none where one of them has none.
+use Rattle.std.specs.Prelude.{Bool, true, false, Option, Some, None}
+
+infixl 10 ◌>>=◌
+abbrev pub ◌>>=◌ : {A B : Type 0} → Option A → (A → Option B) → Option B
+None >>= f = None
+(Some x) >>= f = f x
+
+-- a value where a test holds
+abbrev pub given : {A : Type 0} → Bool → A → Option A
+given true x = Some x
+given false x = None

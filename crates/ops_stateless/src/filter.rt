@@ -1,0 +1,145 @@
+//! The filter.
+ghost use Rattle.std.specs.Prelude.{◌≡◌, ◌+◌, ◌^◌, ◌<◌, ◌↔◌, true, List, All, IfOk, OnOk, OnErr, IsTrue, is_err, refl};
+ghost use Rattle.dpc_model.specs.Operators.{filtered};
+ghost use Rattle.dpc_model.specs.Fragments.{at_port};
+ghost use Rattle.dpc_model.specs.Engines.{added_output, SameMake};
+ghost use Rattle.dpc_model.specs.declared.tuples.Tagged.{Tagged};
+ghost use Rattle.ops_stateless.specs.FilterOp.{filter_value, HasColumns, new_filter};
+
+use crate::eval;
+use dpc_model::engines::Engine;
+use dpc_model::exact::Exact;
+use dpc_model::expressions::Expr;
+use dpc_model::faults::StepFault;
+use dpc_model::lists::Listed;
+use dpc_model::tuples::{Tagged, Tuples};
+use std::alloc::{AllocError, Global};
+use std::marker::Model;
+
+/// Keeps the tuples of port 0 whose value counts as true. Contracts see a `FilterState`.
+#[derive(Drop)]
+pub struct Filter {
+    expr: Expr,
+    next: u64,
+    spent: bool,
+}
+
+impl Model for Filter {
+    ghost use Rattle.std.specs.Coded.{codes};
+    ghost use Rattle.dpc_model.specs.FormulaCode.{coded_formula};
+    ghost use Rattle.ops_stateless.specs.FilterOp.{FilterState};
+
+    ghost Value = { FilterState };
+
+    ghost coded = { Prim.hlevel (codes, coded_formula) };
+
+    ghost view = { λ f. record { expr = f.expr; next = f.next; spent = f.spent } };
+}
+
+impl Filter {
+    /// The filter by this expression, before bucket 0.
+    pub fn new(expr: Expr) -> Filter
+        ensures { result ≡ new_filter expr }
+    {
+        Filter {
+            expr,
+            next: 0,
+            spent: false,
+        }
+    }
+}
+
+/// The tuples of port 0 that pass, in order.
+fn passing(alloc: Global, expr: &Expr, inputs: &[Tagged]) -> Result<Tuples, AllocError>
+    requires { All (HasColumns expr.now) inputs.now }
+    ensures { IfOk result (λ out. out ≡ filtered expr.now (at_port 0 inputs.now)) }
+{
+    let mut out = Vec::new(alloc);
+    for x in inputs {
+        if x.port == 0 && eval(expr, &x.tuple) != 0 {
+            out.push(x.tuple.copy(alloc)?)?;
+        }
+    }
+    Ok(Listed::from_vec(out))
+}
+
+impl Engine for Filter {
+    ghost width = { λ f. 0 };
+
+    ghost value = { λ f. filter_value f.expr };
+
+    ghost accepts = { λ f k xs. All (HasColumns f.expr) xs };
+
+    ghost next = { λ f. f.next };
+
+    ghost is_spent = { λ f. f.spent };
+
+    ghost after = { λ f xs k. f.next ≡ k };
+
+    ghost alike = { λ f g. f ≡ g };
+
+    ghost alike_make = { λ x y e. Prim.rw e (record {
+      width = refl;
+      value = λ xs b. refl;
+      accepts = λ k xs. (λ h. h, λ h. h);
+    }) };
+
+    ghost alike_after = { λ x y xs k e h. Prim.rw (← e) h };
+
+    ghost alike_next = { λ x y e. Prim.rw e refl };
+
+    fn bucket(&mut self, alloc: Global, inputs: &[Tagged], k: u64) -> Result<Tuples, StepFault>
+        requires next { k ≡ self.old.next }
+        requires range { k + 1 < 2 ^ 64 }
+        requires accepts { All (HasColumns self.old.expr) inputs.now }
+        ensures answer { IfOk result (λ out. (before : List Tagged) → self.old.next ≡ k
+            → out ≡ added_output (filter_value self.old.expr) 0 before inputs.now k) }
+        ensures after { OnOk result ((before : List Tagged) → self.old.next ≡ k → self.new.next ≡ k + 1) }
+        ensures next { OnOk result (self.new.next ≡ k + 1) }
+        ensures kept { OnErr result (self.new.next ≡ self.old.next) }
+        ensures spent { result ≡ Err StepFault.Spent ↔ self.old.spent ≡ true }
+        ensures stays { IsTrue self.new.spent ↔ IsTrue (is_err result) }
+        ensures made { SameMake 0 0 (filter_value self.old.expr) (filter_value self.new.expr)
+            (λ k xs. All (HasColumns self.old.expr) xs) (λ k xs. All (HasColumns self.new.expr) xs) }
+
+        // It keeps nothing of its inputs.
+        ensures passing { IfOk result (λ out. out ≡ filtered self.old.expr (at_port 0 inputs.now)) }
+        ensures ok { OnOk result (self.new ≡ record self.old { next = k + 1 }) }
+        ensures err { OnErr result (self.new ≡ record self.old { spent = true }) }
+    {
+        if self.spent {
+            return Err(StepFault::Spent);
+        }
+        match passing(alloc, &self.expr, inputs) {
+            Ok(out) => {
+                self.next = k + 1;
+                Ok(out)
+            }
+            Err(_) => {
+                self.spent = true;
+                Err(StepFault::NoMemory)
+            }
+        }
+    }
+
+    fn copy(&self, alloc: Global) -> Result<Self, StepFault> {
+        if self.spent {
+            return Err(StepFault::Spent);
+        }
+        let expr = self.expr.copy(alloc)?;
+        Ok(Filter {
+            expr,
+            next: self.next,
+            spent: false,
+        })
+    }
+
+    fn same(&self, other: &Self) -> bool {
+        self.expr.same(&other.expr) && self.next == other.next && self.spent == other.spent
+    }
+
+    fn reset(&mut self) {
+        self.next = 0;
+        self.spent = false;
+    }
+}

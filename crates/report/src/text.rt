@@ -1,0 +1,164 @@
+//! The text report.
+ghost use Rattle.std.specs.Prelude.{◌≡◌, ◌∷◌, [], ◌++◌, OnOk, codes, decimal, map};
+ghost use Rattle.std.specs.Fmt.{signed_decimal};
+ghost use Rattle.dpc_model.specs.Words.{spaced, line_of, text_of};
+ghost use Rattle.report.specs.Spaces.{behind_spaces};
+ghost use Rattle.report.specs.Text.{tuple_words, item_words, settled_word, summary_words, client_lines};
+
+use dpc_model::faults::NoMemory;
+use dpc_model::tuples::{Item, Tuple};
+use itoa::Buffer;
+
+/// What the last line of a client tells: how many stable tuples it holds, up to where they are all,
+/// how many tentative ones, and whether nothing is missing and nothing may change.
+#[derive(Clone, Copy, Debug)]
+pub struct Summary {
+    pub stable: u64,
+    pub bound: u64,
+    pub tentative: u64,
+    pub settled: bool,
+}
+
+/// A word behind a space.
+fn put_word(text: &mut Vec<u8>, word: &[u8]) -> Result<(), NoMemory>
+    ensures { OnOk result (text.new.items ≡ text.old.items ++ behind_spaces (word.now ∷ [])) }
+{
+    text.push(b' ')?;
+    text.extend_from_slice(word)?;
+    Ok(())
+}
+
+/// A number behind a space.
+fn put_number(text: &mut Vec<u8>, number: u64) -> Result<(), NoMemory>
+    ensures { OnOk result (text.new.items ≡ text.old.items ++ behind_spaces (decimal number ∷ [])) }
+{
+    let mut buffer = Buffer::new();
+    put_word(text, buffer.format(number).as_bytes())
+}
+
+/// The values, each behind a space.
+fn put_values(text: &mut Vec<u8>, values: &[i64]) -> Result<(), NoMemory>
+    ensures { OnOk result (text.new.items ≡ text.old.items ++ behind_spaces (map signed_decimal values.now)) }
+{
+    for value in values {
+        let mut buffer = Buffer::new();
+        put_word(text, buffer.format(*value).as_bytes())?;
+    }
+    Ok(())
+}
+
+/// The time and the values of a tuple, each behind a space.
+fn put_tuple(text: &mut Vec<u8>, tuple: &Tuple) -> Result<(), NoMemory>
+    ensures { OnOk result (text.new.items ≡ text.old.items ++ behind_spaces (tuple_words tuple.now)) }
+{
+    put_number(text, tuple.stime)?;
+    put_values(text, tuple.vals.as_slice())
+}
+
+/// The first word of a line.
+fn put_first(text: &mut Vec<u8>, word: &[u8]) -> Result<(), NoMemory>
+    ensures { OnOk result (text.new.items ≡ text.old.items ++ word.now) }
+{
+    text.extend_from_slice(word)?;
+    Ok(())
+}
+
+/// The words of an item.
+fn put_item(text: &mut Vec<u8>, item: &Item) -> Result<(), NoMemory>
+    ensures { OnOk result (text.new.items ≡ text.old.items ++ spaced (item_words item.now)) }
+{
+    match item {
+        Item::Stable(number, tuple) => {
+            put_first(text, b"stable")?;
+            put_number(text, *number)?;
+            put_tuple(text, tuple)
+        }
+        Item::Tentative(tuple) => {
+            put_first(text, b"tentative")?;
+            put_tuple(text, tuple)
+        }
+        Item::Passed(upto) => {
+            put_first(text, b"passed")?;
+            put_number(text, *upto)
+        }
+        Item::Boundary(bound, count) => {
+            put_first(text, b"boundary")?;
+            put_number(text, *bound)?;
+            put_number(text, *count)
+        }
+        Item::Undo(number) => {
+            put_first(text, b"undo")?;
+            put_number(text, *number)
+        }
+        Item::RecDone => put_first(text, b"rec_done"),
+    }
+}
+
+/// One line for each item.
+fn put_items(text: &mut Vec<u8>, items: &[Item]) -> Result<(), NoMemory>
+    ensures { OnOk result (text.new.items ≡ text.old.items ++ text_of (map item_words items.now)) }
+{
+    for item in items {
+        put_item(text, item)?;
+        text.push(b'\n')?;
+    }
+    Ok(())
+}
+
+/// The line of a client's name.
+fn put_name(text: &mut Vec<u8>, name: &[u8]) -> Result<(), NoMemory>
+    ensures { OnOk result (text.new.items ≡ text.old.items ++ line_of (codes "client" ∷ name.now ∷ [])) }
+{
+    put_first(text, b"client")?;
+    put_word(text, name)?;
+    text.push(b'\n')?;
+    Ok(())
+}
+
+/// A word and a number, each behind a space.
+fn put_count(text: &mut Vec<u8>, word: &[u8], number: u64) -> Result<(), NoMemory>
+    ensures { OnOk result (text.new.items ≡ text.old.items ++ behind_spaces (word.now ∷ decimal number ∷ [])) }
+{
+    put_word(text, word)?;
+    put_number(text, number)
+}
+
+/// Whether a client is settled, as a word behind a space.
+fn put_settled(text: &mut Vec<u8>, settled: bool) -> Result<(), NoMemory>
+    ensures { OnOk result (text.new.items ≡ text.old.items ++ behind_spaces (settled_word settled ∷ [])) }
+{
+    if settled {
+        put_word(text, b"settled")
+    } else {
+        put_word(text, b"open")
+    }
+}
+
+/// The summary line of a client.
+pub fn put_summary(text: &mut Vec<u8>, name: &[u8], summary: &Summary) -> Result<(), NoMemory>
+    ensures { OnOk result (text.new.items ≡ text.old.items ++ line_of (summary_words name.now summary.now)) }
+{
+    put_first(text, b"summary")?;
+    put_word(text, name)?;
+    put_count(text, b"stable", summary.stable)?;
+    put_count(text, b"bound", summary.bound)?;
+    put_count(text, b"tentative", summary.tentative)?;
+    put_settled(text, summary.settled)?;
+    text.push(b'\n')?;
+    Ok(())
+}
+
+/// Appends the lines of one client: its name, one line for each item that it took, and its summary.
+/// Where memory ends, what stands behind the old text is left open.
+pub fn put_client(
+    text: &mut Vec<u8>,
+    name: &[u8],
+    items: &[Item],
+    summary: &Summary,
+) -> Result<(), NoMemory>
+    ensures { OnOk result (text.new.items ≡ text.old.items ++ text_of (client_lines name.now items.now summary.now)) }
+{
+    put_name(text, name)?;
+    put_items(text, items)?;
+    put_summary(text, name, summary)
+}
