@@ -61,3 +61,11 @@ run-IsSafeSmall script events first =
     let p = first.0 in
     let plan = (first_script p).plan in
     rw first.2 (kept-IsSafeSmall (run_from (opening plan) events) (run_from-kept (opening plan) events (opening-kept plan (first-IsSmallPlan p first.1))))
+
+-- the plan of every world of a run is sound
+pub run-IsSound : (script : Script) (events : List Event) → IsFirstForm script → IsSound (run script.plan events).plan
+unfolding run
+run-IsSound script events first =
+    let p = first.0 in
+    let plan = (first_script p).plan in
+    rw first.2 (run_from-kept (opening plan) events (opening-kept plan (first-IsSmallPlan p first.1))).plan.sound

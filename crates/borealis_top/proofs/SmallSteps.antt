@@ -42,7 +42,7 @@ AreTrueBatches-push plan [] b h k = (k, tt)
 AreTrueBatches-push plan (c ∷ bs) b h k = (h.0, AreTrueBatches-push plan bs b h.1 k)
 
 -- a batch that was sent is true
-AreTrueBatches-get : (plan : Plan) (bs : List Sent) (k : ℕ) (b : Sent) → AreTrueBatches plan bs → slice_get bs k ≡ Some b → AreTrueItems plan (stream_of b.to_client) b.items
+pub AreTrueBatches-get : (plan : Plan) (bs : List Sent) (k : ℕ) (b : Sent) → AreTrueBatches plan bs → slice_get bs k ≡ Some b → AreTrueItems plan (stream_of b.to_client) b.items
 AreTrueBatches-get plan [] k b h e = absurd (cc)
 AreTrueBatches-get plan (c ∷ bs) zero b h e = let same : b ≡ c = cc in rw same h.0
 AreTrueBatches-get plan (c ∷ bs) (suc k) b h e = AreTrueBatches-get plan bs k b h.1 e
@@ -127,7 +127,7 @@ milled-kept r w k complete =
     sends-kept true items (record w { cursor = w.cursor + r; stamps = later }) moved (mill-true r w k complete)
 
 -- a tick mills no bucket that is not complete
-overdue_end-ready : (now : ℕ) (w : SmallWorld) → overdue_end now w ≤ w.cursor + ready w
+pub overdue_end-ready : (now : ℕ) (w : SmallWorld) → overdue_end now w ≤ w.cursor + ready w
 overdue_end-ready now w =
     elim (last_below (λ k. nat_le w.cursor k && waited_long (stamp_of w.stamps k) w.plan.delay now) (w.plan.end / w.plan.width)) as
     (λ o. elim o [ None ↦ w.cursor | Some last ↦ min (last + 1) (w.cursor + ready w) ] ≤ w.cursor + ready w) [

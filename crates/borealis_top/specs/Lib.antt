@@ -4,3 +4,7 @@ pub mod Inputs
 pub mod SmallWorlds
 pub mod SmallSchedules
 pub mod SmallSafe
+pub mod OrderProps
+pub mod SmallSides
+pub mod Ends
+pub mod SmallRuns

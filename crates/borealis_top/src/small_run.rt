@@ -1,268 +1,157 @@
-//! The run of a script of the first form on one thread. One source, one node with a filter, and one
-//! client; links lose nothing, so batches alone tell the whole run, and what a batch carries of the log
-//! is told by how far it goes.
-ghost use Rattle.std.specs.Prelude.{◌≡◌, ◌+◌, ◌^◌, ◌<◌, ◌≤◌, All, IfOk, OnOk, map, length};
-ghost use Rattle.dpc_model.specs.Fragments.{tag};
-ghost use Rattle.borealis_top.specs.Inputs.{IsReadable};
+//! The run of a script of the first form on one thread: a source, a node and a client, and the batches
+//! between them. Links lose nothing, and a batch comes in the phase after the one that it was sent in.
+ghost use Rattle.std.specs.Prelude.{◌≡◌, ℕ, ◌+◌, ◌^◌, ◌<◌, ◌≤◌, ◌∷◌, [], ◌++◌, List, length, map, All, OnOk, Some, slice_get};
+ghost use Rattle.borealis_top.specs.Inputs.{IsReadable, IsForNode};
 
-use dpc_model::engines::Engine;
-use dpc_model::exact::Exact;
-use dpc_model::expressions::Expr;
+use crate::batch::Batch;
+use crate::small_client::SmallClient;
+use crate::small_node::SmallNode;
+use crate::small_source::SmallSource;
 use dpc_model::faults::NoMemory;
 use dpc_model::scripts::{Directive, Phase};
-use dpc_model::tuples::{Item, Tagged, Tuple};
-use ops_stateless::filter::Filter;
 use std::alloc::Global;
 use std::mem;
 
-/// The most buckets that one batch of milled output covers.
+/// The most buckets that one batch of output covers.
 const MOST_MILLED: u64 = 16;
-
-/// A batch on its way.
-#[derive(Drop)]
-enum Batch {
-    /// From the source: its log below a number, and the boundary.
-    Logged { upto: usize, bound: u64 },
-    /// From the node: its output.
-    Output(Vec<Item>),
-}
-
-/// What the client took.
-#[derive(Drop)]
-pub struct Received {
-    pub items: Vec<Item>,
-    /// The number of stable tuples.
-    pub stable: u64,
-    /// Up to this time they are all.
-    pub bound: u64,
-}
-
-/// The first time that a run sees, its buckets, and how long a bucket may wait.
-#[derive(Clone, Copy)]
-pub struct Timing {
-    pub width: u64,
-    pub delay: u64,
-    ghost some: { 0 < width },
-}
 
 /// A small run so far.
 #[derive(Drop)]
 pub struct SmallRun<'a> {
-    alloc: Global,
-    log: &'a [Tuple],
-    timing: Timing,
-    /// The source: how many tuples it sent, and its boundary.
-    emitted: usize,
-    released: u64,
-    /// The node: how many tuples it took, up to where they are all, how many of them it milled into
-    /// how many tuples, the first bucket that is not milled, and when the first tuple of a bucket came.
-    taken: usize,
-    bound: u64,
-    milled: usize,
-    outputs: u64,
-    cursor: u64,
-    clock: u64,
-    stamps: Vec<(u64, u64)>,
-    filter: Filter,
-    /// Batches that were sent in this phase.
-    sent: Vec<Batch>,
-    received: Received,
-    ghost readable: { All (IsReadable filter.expr) log.now },
-    ghost in_step: { filter.next ≡ cursor },
-    ghost within: { emitted ≤ length log.now },
-}
-
-/// The tuples as inputs of port 0.
-fn tagged(alloc: Global, tuples: &[Tuple]) -> Result<Vec<Tagged>, NoMemory>
-    ensures { IfOk result (λ inputs. inputs.items ≡ map (tag 0) tuples.now) }
-{
-    let mut inputs = Vec::with_capacity(alloc, tuples.len())?;
-    for tuple in tuples {
-        let tuple = tuple.copy(alloc)?;
-        inputs.push(Tagged { port: 0, tuple })?;
-    }
-    Ok(inputs)
-}
-
-/// How many of the tuples from one number on lie below a time, in order of time.
-fn count_below(log: &[Tuple], from: usize, time: u64) -> usize
-    requires { from ≤ length log.now }
-    ensures within { result ≤ length log.now }
-    ensures onwards { from ≤ result }
-{
-    let mut count = from;
-    while count < log.len() && log[count].stime < time {
-        count += 1;
-    }
-    count
+    pub alloc: Global,
+    pub end: u64,
+    pub source: SmallSource<'a>,
+    pub node: SmallNode,
+    pub client: SmallClient,
+    /// The batches that were sent in this phase.
+    pub sent: Vec<Batch>,
+    ghost readable: { All (IsReadable node.filter.expr) source.log.now },
+    ghost for_node: { All (IsForNode node.filter.expr) sent.items },
 }
 
 impl<'a> SmallRun<'a> {
-    /// The run at its opening: nothing was sent.
-    pub fn new(alloc: Global, log: &'a [Tuple], timing: Timing, test: Expr) -> SmallRun<'a>
-        requires { All (IsReadable test) log.now }
+    ghost use Rattle.dpc_model.specs.Lists.{range_with_len};
+    ghost use Rattle.dpc_model.specs.declared.messages.Event.TheVariants.{Release, Deliver, Tick, Mill};
+    ghost use Rattle.world_core.specs.Schedules.{mill_events};
+    ghost use Rattle.borealis_top.specs.SmallWorlds.{Sent, SmallWorld, may_release, happens, run_from, ready};
+    ghost use Rattle.borealis_top.specs.SmallSchedules.{release_events, phase_events};
+    ghost use Rattle.borealis_top.specs.SmallSides.{sent_of};
+    ghost use Rattle.borealis_top.specs.SmallRuns.{IsRunOf};
+
+    /// One phase: its releases, the ready buckets, the batches of the last phase, and the ticks.
+    pub fn phase(&mut self, spec: &Phase) -> Result<(), NoMemory>
+        ensures { OnOk result ((before : List Sent) (w : SmallWorld) (p : ℕ) → IsRunOf self.old before w
+            → IsRunOf self.new w.sent (run_from w (phase_events p (length before) spec.entry.now w))) }
     {
-        SmallRun {
-            alloc,
-            log,
-            timing,
-            emitted: 0,
-            released: 0,
-            taken: 0,
-            bound: 0,
-            milled: 0,
-            outputs: 0,
-            cursor: 0,
-            clock: 0,
-            stamps: Vec::new(alloc),
-            filter: Filter::new(test),
-            sent: Vec::new(alloc),
-            received: Received {
-                items: Vec::new(alloc),
-                stable: 0,
-                bound: 0,
-            },
-        }
+        let pending = mem::replace(&mut self.sent, Vec::new(self.alloc));
+        self.release_all(spec.directives.as_slice())?;
+        self.mill_ready()?;
+        self.deliver_all(pending)?;
+        self.tick(spec.now)?;
+        Ok(())
     }
 
-    /// One phase: its releases, the ready buckets, the batches of the last phase, and the tick.
-    pub fn phase(&mut self, phase: &Phase) -> Result<(), NoMemory> {
-        let pending = mem::replace(&mut self.sent, Vec::new(self.alloc));
-        for directive in phase.directives.as_slice() {
-            if let Directive::Release(_, time) = directive {
-                self.release(*time)?;
+    /// The releases of a phase.
+    fn release_all(&mut self, directives: &[Directive]) -> Result<(), NoMemory>
+        ensures run { OnOk result ((before : List Sent) (w : SmallWorld) → IsRunOf self.old before w
+            → IsRunOf self.new before (run_from w (release_events directives.now))) }
+        ensures kept { self.new.node.filter.expr ≡ self.old.node.filter.expr }
+    {
+        for directive in directives {
+            if let Directive::Release(source, time) = directive {
+                self.release(*source, *time)?;
             }
         }
-        self.mill_ready()?;
-        for batch in pending {
-            self.deliver(batch)?;
-        }
-        self.tick(phase.now)
+        Ok(())
     }
 
-    /// What the client took.
-    pub fn into_received(self) -> Received {
-        self.received
-    }
-
-    /// The source sends what it logged below a time, and that this is all.
-    fn release(&mut self, time: u64) -> Result<(), NoMemory> {
-        if time <= self.released {
+    /// The source sends what it logged below a time and did not send yet.
+    fn release(&mut self, source: u64, time: u64) -> Result<(), NoMemory>
+        ensures run { OnOk result ((before : List Sent) (w : SmallWorld) → IsRunOf self.old before w
+            → IsRunOf self.new before (happens w (Release source time))) }
+        ensures kept { self.new.node.filter.expr ≡ self.old.node.filter.expr }
+    {
+        if !self.may_release(source, time) {
             return Ok(());
         }
-        let upto = count_below(self.log, self.emitted, time);
-        self.emitted = upto;
-        self.released = time;
-        self.sent.push(Batch::Logged { upto, bound: time })?;
+        if let Some(batch) = self.source.release(self.alloc, time)? {
+            self.sent.push(batch)?;
+        }
         Ok(())
+    }
+
+    /// Whether a release is of the source, at a multiple of the width from 1 to the end.
+    fn may_release(&self, source: u64, time: u64) -> bool
+        ensures { (before : List Sent) (w : SmallWorld) → IsRunOf self.now before w → result ≡ may_release source time w }
+    {
+        source == 0 && 1 <= time && time <= self.end && time % self.node.timing.width == 0
     }
 
     /// The node mills what is complete, some buckets at a time.
-    fn mill_ready(&mut self) -> Result<(), NoMemory> {
-        let complete = self.bound / self.timing.width;
-        while self.cursor < complete {
-            let next = self.cursor.saturating_add(MOST_MILLED).min(complete);
-            self.mill_upto(next)?;
+    fn mill_ready(&mut self) -> Result<(), NoMemory>
+        ensures run { OnOk result ((before : List Sent) (w : SmallWorld) → IsRunOf self.old before w
+            → IsRunOf self.new before (run_from w (mill_events 1 (ready w)))) }
+        ensures kept { self.new.node.filter.expr ≡ self.old.node.filter.expr }
+    {
+        let mut left = self.node.ready();
+        while left > 0 {
+            let count = left.min(MOST_MILLED);
+            self.mill(count)?;
+            left -= count;
         }
         Ok(())
     }
 
-    /// The node mills the buckets below a number, and sends their output in one batch.
-    fn mill_upto(&mut self, next: u64) -> Result<(), NoMemory>
-        ensures { OnOk result (self.old.cursor ≤ next → self.new.cursor ≡ next) }
+    /// The node mills so many buckets.
+    fn mill(&mut self, count: u64) -> Result<(), NoMemory>
+        requires { self.old.node.cursor + count < 2 ^ 64 }
+        ensures run { OnOk result ((before : List Sent) (w : SmallWorld) → IsRunOf self.old before w
+            → 1 ≤ count → count ≤ MOST_MILLED → count ≤ ready w → IsRunOf self.new before (happens w (Mill 1 count))) }
+        ensures next { OnOk result (self.new.node.cursor ≡ self.old.node.cursor + count) }
+        ensures kept { self.new.node.filter.expr ≡ self.old.node.filter.expr }
     {
-        let mut items = Vec::new(self.alloc);
-        while self.cursor < next {
-            self.mill_bucket(&mut items)?;
-        }
-        let bound = self.cursor.saturating_mul(self.timing.width);
-        items.push(Item::Boundary(bound, self.outputs))?;
-        let cursor = self.cursor;
-        self.stamps.retain(|stamp| cursor <= stamp.0);
-        self.sent.push(Batch::Output(items))?;
+        let batch = self.node.mill(self.alloc, count)?;
+        self.sent.push(batch)?;
         Ok(())
     }
 
-    /// The node mills its next bucket, and appends the output.
-    fn mill_bucket(&mut self, items: &mut Vec<Item>) -> Result<(), NoMemory>
-        requires { self.old.cursor + 1 < 2 ^ 64 }
-        ensures { OnOk result (self.new.cursor ≡ self.old.cursor + 1) }
+    /// The batches of the last phase come, in order.
+    fn deliver_all(&mut self, pending: Vec<Batch>) -> Result<(), NoMemory>
+        requires { All (IsForNode self.old.node.filter.expr) pending.items }
+        ensures run { OnOk result ((earlier before : List Sent) (w : SmallWorld) → before ≡ earlier ++ map sent_of pending.items
+            → IsRunOf self.old before w
+            → IsRunOf self.new before (run_from w (map Deliver (range_with_len (length earlier) (length pending.items))))) }
+        ensures kept { self.new.node.filter.expr ≡ self.old.node.filter.expr }
     {
-        let end = self
-            .cursor
-            .saturating_add(1)
-            .saturating_mul(self.timing.width);
-        let first = self.milled.min(self.log.len());
-        let upto = count_below(self.log, first, end).min(self.taken).max(first);
-        let inputs = tagged(self.alloc, &self.log[first..upto])?;
-        let Ok(output) = self
-            .filter
-            .bucket(self.alloc, inputs.as_slice(), self.cursor)
-        else {
-            return Err(NoMemory);
-        };
-        self.cursor += 1;
-        self.milled = upto;
-        for tuple in output.into_vec() {
-            items.push(Item::Stable(self.outputs, tuple))?;
-            self.outputs = self.outputs.saturating_add(1);
+        for batch in pending {
+            self.deliver(batch)?;
         }
         Ok(())
     }
 
     /// A batch comes to its reader.
-    fn deliver(&mut self, batch: Batch) -> Result<(), NoMemory> {
-        match batch {
-            Batch::Logged { upto, bound } => self.take_logged(upto, bound),
-            Batch::Output(items) => self.take_output(items),
-        }
-    }
-
-    /// The node takes the log below a number. The first tuple of a bucket stamps it.
-    fn take_logged(&mut self, upto: usize, bound: u64) -> Result<(), NoMemory> {
-        let first = self.taken;
-        let upto = upto.min(self.log.len());
-        if upto <= first {
-            self.bound = bound;
-            return Ok(());
-        }
-        for tuple in &self.log[first..upto] {
-            let bucket = tuple.stime / self.timing.width;
-            let is_stamped = self.stamps.last().is_some_and(|stamp| stamp.0 == bucket);
-            if bucket >= self.cursor && !is_stamped {
-                self.stamps.push((bucket, self.clock))?;
-            }
-        }
-        self.taken = upto;
-        self.bound = bound;
-        Ok(())
-    }
-
-    /// The client takes output.
-    fn take_output(&mut self, items: Vec<Item>) -> Result<(), NoMemory> {
-        for item in items {
-            match &item {
-                Item::Stable(_, _) => self.received.stable = self.received.stable.saturating_add(1),
-                Item::Boundary(bound, _) => self.received.bound = *bound,
-                _ => {}
-            }
-            self.received.items.push(item)?;
+    fn deliver(&mut self, batch: Batch) -> Result<(), NoMemory>
+        requires { IsForNode self.old.node.filter.expr batch }
+        ensures run { OnOk result ((before : List Sent) (w : SmallWorld) (k : ℕ) → slice_get w.sent k ≡ Some (sent_of batch)
+            → IsRunOf self.old before w → IsRunOf self.new before (happens w (Deliver k))) }
+        ensures kept { self.new.node.filter.expr ≡ self.old.node.filter.expr }
+    {
+        if batch.to_client {
+            self.client.take(batch)?;
+        } else {
+            self.node.take(batch)?;
         }
         Ok(())
     }
 
-    /// The node's tick: buckets that waited for the delay are milled at once.
-    fn tick(&mut self, now: u64) -> Result<(), NoMemory> {
-        self.clock = now;
-        let delay = self.timing.delay;
-        let mut next = self.cursor;
-        for (bucket, clock) in self.stamps.as_slice() {
-            if clock.saturating_add(delay) <= now {
-                next = next.max(bucket.saturating_add(1));
-            }
-        }
-        if self.cursor < next {
-            self.mill_upto(next)?;
+    /// The ticks of a phase. Only the node's does anything.
+    fn tick(&mut self, now: u64) -> Result<(), NoMemory>
+        ensures run { OnOk result ((before : List Sent) (w : SmallWorld) → IsRunOf self.old before w
+            → IsRunOf self.new before (run_from w (Tick 0 now ∷ Tick 1 now ∷ Tick 2 now ∷ []))) }
+        ensures kept { self.new.node.filter.expr ≡ self.old.node.filter.expr }
+    {
+        if let Some(batch) = self.node.tick(self.alloc, now)? {
+            self.sent.push(batch)?;
         }
         Ok(())
     }

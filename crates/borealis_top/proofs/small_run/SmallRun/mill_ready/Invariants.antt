@@ -1,5 +1,18 @@
-use Rattle.std.proofs.Common.{◌-◌}
+use Rattle.std.proofs.Common.{◌≡◌, ◌+◌, ◌<◌, ◌≤◌, List}
+use Rattle.world_core.specs.Schedules.{mill_events}
+use Rattle.borealis_top.specs.SmallWorlds.{Sent, SmallWorld, run_from, ready}
+use Rattle.borealis_top.specs.SmallRuns.{IsRunOf}
 use Rattle.borealis_top.proofs.small_run.SmallRun.mill_ready.Given as goal
 
-abbrev pub decreases-loop-self : goal.decreases-loop-self
-decreases-loop-self l = l.complete - l.self.cursor
+-- the run stands for a world in which what is left is ready, and from which the rounds that are left lead to the world after all
+abbrev pub invariant-loop-left : goal.invariant-loop-left
+invariant-loop-left l =
+    record {
+      fits : l.self.node.cursor + l.left < 18446744073709551616;
+      kept : l.self.node.filter.expr ≡ l.fn.self.node.filter.expr;
+      runs : (before : List Sent) (w : SmallWorld) → IsRunOf l.fn.self before w →
+          (v : SmallWorld) × IsRunOf l.self before v × (l.left ≤ ready v) × (run_from w (mill_events 1 (ready w)) ≡ run_from v (mill_events 1 l.left));
+    }
+
+abbrev pub decreases-loop-left : goal.decreases-loop-left
+decreases-loop-left l = l.left
