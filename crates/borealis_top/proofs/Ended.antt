@@ -2,7 +2,7 @@
 use Rattle.std.proofs.Common.{◌≡◌, ℕ, ◌+◌, ◌<◌, ◌⊎◌, inl, inr, List, length, Option, None, Some, Err, refl, sym, ◌∙◌, ap, arith}
 use Rattle.std.proofs.lemmas.List.{length-append, append-nil}
 use Rattle.std.specs.Io.KnownBytes.{Consumes, Keeps, IsAtEnd}
-use Rattle.dpc_edge.specs.Faults.{greatest, Rises}
+use Rattle.dpc_edge.specs.Faults.{Rises}
 use Rattle.dpc_model.specs.ScriptText.{script_text}
 use Rattle.dpc_model.specs.declared.scripts.Script.{Script}
 use Rattle.diagram_reader.specs.FirstForm.{IsFirstForm}
@@ -12,11 +12,6 @@ use Rattle.borealis_top.specs.declared.status.Status.{Status}
 use Rattle.borealis_top.specs.declared.status.Status.TheVariants.{Done, Refused, NoMemory}
 use Rattle.borealis_top.specs.SmallSchedules.{run_report}
 use Rattle.borealis_top.specs.Ends.{Side, Stays, Took, IsTold, most_input, IsNoScript, Reports, IsRefused, RunEnds, refusal_line}
-
--- a count below its end that stays did not rise
-pub steady : (a b : ℕ) → Rises a b → b ≡ a → a < greatest → ⊥
-steady a b (inl h) e low = omega (arith, h, e)
-steady a b (inr h) e low = omega (arith, h.0, low)
 
 -- what was consumed to the end of known bytes is all of them
 pub consumed-all : (new : Option (List ℕ)) (known bytes : List ℕ) → Consumes (Some known) new bytes → IsAtEnd new → bytes ≡ known
@@ -56,6 +51,6 @@ Keeps-same (Some bytes) = refl
 
 -- where the sink did not fail, the text was told
 pub told-Took : (sink : Side) (text : List ℕ) (status result : Status) → IsTold sink text status result →
-    sink.new_faults ≡ sink.old_faults → sink.old_faults < greatest → (result ≡ status) × Took sink text
-told-Took sink text status result (inl h) e low = h
-told-Took sink text status result (inr h) e low = absurd (steady sink.old_faults sink.new_faults h.1.faults e low)
+    (Rises sink.old_faults sink.new_faults → ⊥) → (result ≡ status) × Took sink text
+told-Took sink text status result (inl h) quiet = h
+told-Took sink text status result (inr h) quiet = absurd (quiet h.1.faults)

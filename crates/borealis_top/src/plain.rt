@@ -1,7 +1,7 @@
 //! The commands that wait for nobody.
-ghost use Rattle.std.specs.Prelude.{◌≡◌, ◌<◌, ◌⊎◌, ℕ, List, [], All, IfOk, Some, None, map, string_bytes};
+ghost use Rattle.std.specs.Prelude.{◌≡◌, ◌⊎◌, ℕ, List, [], All, IfOk, Some, None, map, string_bytes};
 ghost use Rattle.std.specs.Io.KnownBytes.{Appends};
-ghost use Rattle.dpc_edge.specs.Faults.{greatest};
+ghost use Rattle.dpc_edge.specs.Faults.{Rises};
 ghost use Rattle.dpc_model.specs.declared.scripts.Script.{Script};
 ghost use Rattle.borealis_top.specs.Commands.{command_of};
 ghost use Rattle.borealis_top.specs.Ends.{side, Stays, Took, IsTold, IsTextOf, RunEnds, refusal_line};
@@ -70,8 +70,7 @@ pub fn plain<S: Source, K: Sink>(
         (side (K.taken err.old) (K.taken err.new) (K.faults err.old) (K.faults err.new)) result }
     ensures complete { command_of (map string_bytes words.now) ≡ Some Command.Run
         → (s : Script) → (text : List ℕ) → IsTextOf text s → S.left input.old ≡ Some text
-        → S.faults input.new ≡ S.faults input.old → S.faults input.old < greatest
-        → K.faults out.new ≡ K.faults out.old → K.faults out.old < greatest
+        → (Rises (S.faults input.old) (S.faults input.new) → ⊥) → (Rises (K.faults out.old) (K.faults out.new) → ⊥)
         → ((result ≡ Status.Done) × Appends (K.taken out.old) (K.taken out.new) (run_report s)) ⊎ (result ≡ Status.NoMemory) }
 {
     match command_in(words) {
@@ -98,8 +97,7 @@ fn run<S: Source, K: Sink>(alloc: Global, input: &mut S, out: &mut K, err: &mut 
         (side (K.taken out.old) (K.taken out.new) (K.faults out.old) (K.faults out.new))
         (side (K.taken err.old) (K.taken err.new) (K.faults err.old) (K.faults err.new)) result }
     ensures complete { (s : Script) → (text : List ℕ) → IsTextOf text s → S.left input.old ≡ Some text
-        → S.faults input.new ≡ S.faults input.old → S.faults input.old < greatest
-        → K.faults out.new ≡ K.faults out.old → K.faults out.old < greatest
+        → (Rises (S.faults input.old) (S.faults input.new) → ⊥) → (Rises (K.faults out.old) (K.faults out.new) → ⊥)
         → ((result ≡ Status.Done) × Appends (K.taken out.old) (K.taken out.new) (run_report s)) ⊎ (result ≡ Status.NoMemory) }
 {
     let text = match read_whole(alloc, input) {

@@ -2,13 +2,12 @@ use Rattle.std.proofs.Common.{◌≡◌, ◌∙◌, inl, Err, sym, refl, ap, ari
 use Rattle.borealis_top.specs.declared.status.Status.TheVariants.{Done}
 use Rattle.borealis_top.specs.SmallSchedules.{journal, run_report}
 use Rattle.borealis_top.specs.Ends.{side}
-use Rattle.borealis_top.proofs.Ended.{steady, consumed-all, long-IsNoScript, refused-IsNoScript, told-RunEnds, refused-RunEnds, Keeps-same, told-Took}
+use Rattle.borealis_top.proofs.Ended.{consumed-all, long-IsNoScript, refused-IsNoScript, told-RunEnds, refused-RunEnds, Keeps-same, told-Took}
 use Rattle.borealis_top.proofs.SmallSafety.{run-IsSafeSmall}
 use Rattle.borealis_top.proofs.plain.run.Goals as goal
 
 pub returns-in-Err-Failed-clause-complete : goal.returns-in-Err-Failed-clause-complete
-returns-in-Err-Failed-clause-complete g c =
-    λ s text h left kept low. absurd (steady (g.S.Source.faults c.args.input.now) (g.S.Source.faults c.read_whole.new.input) (c.in-Err-Failed.ensures.failed (ap Err c.in-Err-Failed.field-0-is)) kept low)
+returns-in-Err-Failed-clause-complete g c = λ s text h left quiet quiet_out. absurd (quiet (c.in-Err-Failed.ensures.failed (ap Err c.in-Err-Failed.field-0-is)))
 
 pub returns-in-Err-TooLong-clause-ends : goal.returns-in-Err-TooLong-clause-ends
 returns-in-Err-TooLong-clause-ends g c =
@@ -57,14 +56,14 @@ returns-in-Ok-report_of-clause-ends g c =
 
 pub returns-in-Ok-report_of-clause-complete : goal.returns-in-Ok-report_of-clause-complete
 returns-in-Ok-report_of-clause-complete g c =
-    λ s text h left kept low kept_out low_out.
+    λ s text h left quiet quiet_out.
     let sink = side (g.K.Sink.taken c.args.out.now) (g.K.Sink.taken c.told.new.sink) (g.K.Sink.faults c.args.out.now) (g.K.Sink.faults c.told.new.sink) in
     let whole = consumed-all (g.S.Source.left c.read_whole.new.input) text c.in-Ok.text.items (rw left at c.in-Ok.ensures.bytes) c.in-Ok.ensures.end in
     let given = c.in-Ok-read_script.ensures.only s h.first (c.as_slice.ensures.value ∙ whole ∙ h.canonical) in
     let same : c.in-Ok-read_script.script ≡ s = cc in
     let written : c.as_slice-in-Ok-report_of.result.now ≡ run_report s =
     c.as_slice-in-Ok-report_of.ensures.value ∙ c.in-Ok-report_of.ensures ∙ ap run_report same in
-    let took = told-Took sink (run_report s) Done c.told.result (rw written at c.told.ensures) kept_out low_out in
+    let took = told-Took sink (run_report s) Done c.told.result (rw written at c.told.ensures) quiet_out in
     inl (took.0, took.1.bytes)
 
 pub returns-clause-ends : goal.returns-clause-ends
