@@ -38,7 +38,7 @@ told-RunEnds input out err s result r (inl h) = rw h.0 (s, r, h.1)
 told-RunEnds input out err s result r (inr h) = rw h.0 (inl (s, r, h.1))
 
 -- so was the line on a refusal, unless memory ran out
-pub refused-RunEnds : (input out err : Side) (line reason : ℕ) (result : Status) → IsRefused input out →
+pub refused-RunEnds : (input out err : Side) (line reason : ℕ) (result : Status) → IsRefused input out line reason →
     IsTold err (refusal_line line reason) Refused result ⊎ ((result ≡ NoMemory) × Stays err) → RunEnds input out err result
 refused-RunEnds input out err line reason result r (inl (inl h)) = rw h.0 (line, reason, r, h.1)
 refused-RunEnds input out err line reason result r (inl (inr h)) = rw h.0 (inr (line, reason, r, h.1))

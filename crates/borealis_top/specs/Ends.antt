@@ -1,5 +1,5 @@
 -- How a command ends: what each side of it took or gave, by status.
-use Rattle.std.specs.Prelude.{◌≡◌, ⊤, ℕ, ◌<◌, ◌≤◌, ◌⊎◌, List, [], ◌∷◌, ◌++◌, length, take, Option, None, Some, codes, decimal}
+use Rattle.std.specs.Prelude.{◌≡◌, ⊤, ℕ, ◌+◌, ◌<◌, ◌≤◌, ◌⊎◌, List, [], ◌∷◌, ◌++◌, length, take, Option, None, Some, codes, decimal}
 use Rattle.std.specs.Io.KnownBytes.{Consumes, Appends, Keeps, IsAtEnd}
 use Rattle.dpc_edge.specs.Faults.{Rises}
 use Rattle.dpc_model.specs.ScriptText.{script_text}
@@ -67,9 +67,13 @@ pub record IsRead (input : Side) (s : Script) : Type 0 where
   pub end : IsAtEnd input.new
   pub faults : input.new_faults ≡ input.old_faults
 
--- an input was read without a fault, and is no script
-pub record IsNotRead (input : Side) : Type 0 where
+-- an input was read without a fault, and is refused with this line and reason: all of it is no script, or it is longer than the longest
+pub record IsNotRead (input : Side) (line reason : ℕ) : Type 0 where
   pub none : IsNoScript input.old
+  pub text : List ℕ
+  pub bytes : Consumes input.old input.new text
+  pub no_line : line ≡ 0
+  pub cause : (IsAtEnd input.new × (reason ≡ 0)) ⊎ ((length text ≡ most_input + 1) × (reason ≡ 14))
   pub faults : input.new_faults ≡ input.old_faults
 
 -- the line on a refusal: the first faulty line, and the reason
@@ -83,19 +87,19 @@ pub record Reports (input err : Side) (s : Script) : Type 0 where
   pub silent : Stays err
 
 -- the line on a refusal was to be written
-pub record IsRefused (input out : Side) : Type 0 where
-  pub read : IsNotRead input
+pub record IsRefused (input out : Side) (line reason : ℕ) : Type 0 where
+  pub read : IsNotRead input line reason
   pub silent : Stays out
 
 -- how a run ends, by its status
 abbrev pub RunEnds : Side → Side → Side → Status → Type 0
 RunEnds input out err Done = (s : Script) × Reports input err s × Took out (run_report s)
-RunEnds input out err Refused = (line : ℕ) × (reason : ℕ) × IsRefused input out × Took err (refusal_line line reason)
+RunEnds input out err Refused = (line : ℕ) × (reason : ℕ) × IsRefused input out line reason × Took err (refusal_line line reason)
 RunEnds input out err NoMemory = Stays out × Stays err × (input.new_faults ≡ input.old_faults)
 RunEnds input out err ReadFault = Stays out × Stays err × Rises input.old_faults input.new_faults
 RunEnds input out err WriteFault =
     ((s : Script) × Reports input err s × TookPart out (run_report s))
-    ⊎ ((line : ℕ) × (reason : ℕ) × IsRefused input out × TookPart err (refusal_line line reason))
+    ⊎ ((line : ℕ) × (reason : ℕ) × IsRefused input out line reason × TookPart err (refusal_line line reason))
 RunEnds input out err Words = ⊥
 RunEnds input out err NotSettled = ⊥
 RunEnds input out err TooLong = ⊥

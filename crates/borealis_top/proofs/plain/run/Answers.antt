@@ -1,4 +1,4 @@
-use Rattle.std.proofs.Common.{◌≡◌, ◌∙◌, inl, Err, sym, refl, ap, arith}
+use Rattle.std.proofs.Common.{◌≡◌, ◌∙◌, inl, inr, Err, sym, refl, ap, arith}
 use Rattle.borealis_top.specs.declared.status.Status.TheVariants.{Done}
 use Rattle.borealis_top.specs.SmallSchedules.{journal, run_report}
 use Rattle.borealis_top.specs.Ends.{side}
@@ -20,6 +20,10 @@ returns-in-Err-TooLong-clause-ends g c =
     (record {
       read = record {
         none = long-IsNoScript (g.S.Source.left c.args.input.now) (g.S.Source.left c.read_whole.new.input) long.0 long.1 (omega (arith, long.2));
+        text = long.0;
+        bytes = long.1;
+        no_line = refl;
+        cause = inr (omega (arith, long.2), refl);
         faults = c.in-Err-TooLong.ensures.others (λ e. absurd (cc));
       };
       silent = record { bytes = Keeps-same (g.K.Sink.taken c.args.out.now); faults = refl };
@@ -68,6 +72,7 @@ returns-in-Ok-report_of-clause-complete g c =
 
 pub returns-clause-ends : goal.returns-clause-ends
 returns-clause-ends g c =
+    let told = rw c.in-Err-Refused.field-0-is at c.in-Err-Refused.ensures.refused in
     refused-RunEnds
     (side (g.S.Source.left c.args.input.now) (g.S.Source.left c.read_whole.new.input) (g.S.Source.faults c.args.input.now) (g.S.Source.faults c.read_whole.new.input))
     (side (g.K.Sink.taken c.args.out.now) (g.K.Sink.taken c.args.out.now) (g.K.Sink.faults c.args.out.now) (g.K.Sink.faults c.args.out.now))
@@ -78,6 +83,10 @@ returns-clause-ends g c =
         none = refused-IsNoScript (g.S.Source.left c.args.input.now) (g.S.Source.left c.read_whole.new.input) c.in-Ok.text.items
             c.in-Err-Refused.line c.in-Err-Refused.reason c.in-Ok.ensures.bytes c.in-Ok.ensures.end
             (λ s first text. rw c.in-Err-Refused.field-0-is at (c.in-Err-Refused.ensures.only s first (c.as_slice.ensures.value ∙ text)));
+        text = c.in-Ok.text.items;
+        bytes = c.in-Ok.ensures.bytes;
+        no_line = told.0;
+        cause = inl (c.in-Ok.ensures.end, told.1);
         faults = c.in-Ok.ensures.others (λ e. absurd (cc));
       };
       silent = record { bytes = Keeps-same (g.K.Sink.taken c.args.out.now); faults = refl };
