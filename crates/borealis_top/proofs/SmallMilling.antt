@@ -3,11 +3,10 @@ use Rattle.std.proofs.Common.{◌≡◌, ℕ, ◌+◌, ◌-◌, ◌*◌, ◌/◌
 use Rattle.std.specs.List.{filter}
 use Rattle.std.proofs.Math.Seq.{take-append_seam, drop-append_seam}
 use Rattle.std.proofs.Math.Nat.{le-div_iff_mul-le}
-use Rattle.std.proofs.lemmas.Grind.{common_steps}
 use Rattle.std.proofs.lemmas.List.{take-append-drop, take-take, drop-take}
 use Rattle.std.proofs.lemmas.List.Elements.{filter-append}
-use Rattle.dpc_model.specs.Lists.{insert_by, sort_by}
-use Rattle.dpc_model.specs.Streams.{NoneBelow, IsOrdered, time_of, InOrder, is_below, cut, count_below}
+use Rattle.dpc_model.specs.Lists.{sort_by}
+use Rattle.dpc_model.specs.Streams.{NoneBelow, time_of, InOrder, is_below, cut, count_below}
 use Rattle.dpc_model.specs.Fragments.{tag, serial, at_port, fragment_value}
 use Rattle.dpc_model.specs.Formula.{Formula}
 use Rattle.dpc_model.specs.Operators.{filtered}
@@ -17,6 +16,7 @@ use Rattle.dpc_model.specs.declared.tuples.Tagged.{Tagged}
 use Rattle.dpc_model.specs.declared.operators.OpSpec.{OpSpec}
 use Rattle.dpc_model.specs.declared.operators.OpKind.TheVariants.{Filter}
 use Rattle.dpc_model.specs.declared.operators.Wire.TheVariants.{Port}
+use Rattle.dpc_model.proofs.Causality.{sort_by-ordered}
 use Rattle.dpc_model.proofs.Prefixes.{cut-beginning, length-filter_le, length-cut_le}
 use Rattle.dpc_model.proofs.Order.{IsOrdered-filter, IsOrdered-map}
 use Rattle.dpc_model.specs.Sessions.{given_items}
@@ -44,15 +44,6 @@ pub drop-take_part : {X : Type 0} (m n : ℕ) (xs : List X) → m ≤ n → take
 drop-take_part m n xs h = let whole : n ≡ m + (n - m) = omega (arith, h) in sym (ap (λ (k : ℕ). drop m (take k xs)) whole ∙ drop-take m (n - m) xs)
 
 -- ---- what a filter gives
-
--- ordered elements stay as they stand
-sort_by-ordered : {X : Type 0} (key : X → ℕ) (xs : List X) → IsOrdered key xs → sort_by key xs ≡ xs
-sort_by-ordered key [] o = refl
-sort_by-ordered {X = X} key (x ∷ xs) o = rw (sort_by-ordered key xs o.1) (first xs o.0)
-  where
-    first : (ys : List X) → NoneBelow key (key x) ys → insert_by key x ys ≡ x ∷ ys
-    first [] s = refl
-    first (y ∷ ys) s = grind (arith, common_steps, s.0)
 
 -- the tuples of a port, tagged and untagged
 pub at_port-tagged : (ts : List Tuple) → at_port 0 (map (tag 0) ts) ≡ ts

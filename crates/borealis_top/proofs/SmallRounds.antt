@@ -1,7 +1,6 @@
 -- What the loops of a run rest on: a round of milling, the batches of a phase in turn, and its releases in turn.
-use Rattle.std.proofs.Common.{◌≡◌, ℕ, ◌+◌, ◌-◌, ◌/◌, ◌%◌, ◌≤◌, ◌<◌, ◌==◌, Bool, true, false, cond, min, nat_le, nat_lt, List, [], ◌∷◌, ◌++◌, length, map, replicate, All, Option, Some, None, slice_get, refl, ap, subst, ◌∙◌, arith, add-one, append_assoc, length-append}
+use Rattle.std.proofs.Common.{◌≡◌, ℕ, ◌+◌, ◌-◌, ◌/◌, ◌%◌, ◌≤◌, ◌<◌, ◌==◌, Bool, true, false, cond, min, nat_le, nat_lt, List, [], ◌∷◌, ◌++◌, length, map, replicate, Option, Some, None, slice_get, refl, ap, ◌∙◌, arith, add-one, append_assoc, length-append}
 use Rattle.std.specs.List.{filter}
-use Rattle.std.proofs.Math.Seq.{get_or-append_seam}
 use Rattle.std.proofs.lemmas.Bool.{le-leb, ltb-true, ltb-false}
 use Rattle.std.proofs.lemmas.List.{map-append, length-map}
 use Rattle.std.proofs.lemmas.List.FromFn.{map-range_with_len_more}
@@ -122,10 +121,6 @@ pending-next earlier later came b rest =
     let apart : (earlier ++ map sent_of (came ++ b ∷ rest)) ++ later ≡ (earlier ++ map sent_of came) ++ sent_of b ∷ (map sent_of rest ++ later) =
     rw map-append (simp append_assoc) in
     rw (apart, ← place) (slice_get-seam (earlier ++ map sent_of came) (sent_of b) (map sent_of rest ++ later))
-
--- what holds of all holds of the element behind a list
-pub All-seam : {X : Type 0} (P : X → Type 0) (xs : List X) (y : X) (ys : List X) → All P (xs ++ y ∷ ys) → P y
-All-seam P xs y ys h = subst P (get_or-append_seam xs y ys y) (h (length xs) y (omega (arith, length-append xs (y ∷ ys))))
 
 -- ---- the releases of a phase in turn
 

@@ -7,7 +7,6 @@ ghost use Rattle.dpc_model.specs.Due.{stamp_of, stamped};
 ghost use Rattle.dpc_model.specs.Fragments.{tag};
 ghost use Rattle.dpc_model.specs.Streams.{InOrder, count_below};
 ghost use Rattle.dpc_model.specs.Operators.{filtered};
-ghost use Rattle.borealis_top.specs.Inputs.{IsReadable};
 
 use crate::batch::Batch;
 use dpc_model::engines::Engine;
@@ -41,7 +40,6 @@ pub struct SmallNode {
     pub stamps: Vec<(u64, u64)>,
     pub filter: Filter,
     ghost in_step: { filter.next ≡ cursor },
-    ghost readable: { All (IsReadable filter.expr) held.items },
     ghost within: { milled ≤ length held.items },
     ghost fewer: { outputs ≤ milled },
     ghost distinct: { IsDistinct nat_eq (keys_of stamps.items) } by { Prim.hlevel props },
@@ -68,7 +66,6 @@ fn passing(
 ) -> Result<Vec<Tuple>, NoMemory>
     requires next { filter.old.next ≡ bucket }
     requires range { bucket + 1 < 2 ^ 64 }
-    requires readable { All (IsReadable filter.old.expr) tuples.now }
     ensures passing { IfOk result (λ passed. passed.items ≡ filtered filter.old.expr tuples.now) }
     ensures fewer { IfOk result (λ passed. length passed.items ≤ length tuples.now) }
     ensures next { OnOk result (filter.new.next ≡ bucket + 1) }
@@ -232,7 +229,6 @@ impl SmallNode {
 
     /// Takes a batch, where none before it is missing. The first tuple of a bucket stamps it.
     pub fn take(&mut self, batch: Batch) -> Result<(), NoMemory>
-        requires { All (IsReadable self.old.filter.expr) batch.tuples.items }
         ensures stands { OnOk result ((w : SmallWorld) (k : ℕ) → IsSmall w → IsNodeOf self.old w → batch.to_client ≡ false
             → slice_get w.sent k ≡ Some (sent_of batch) → IsNodeOf self.new (happens w (Deliver k))) }
         ensures kept { self.new.filter.expr ≡ self.old.filter.expr }

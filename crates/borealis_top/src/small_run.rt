@@ -1,7 +1,6 @@
 //! The run of a script of the first form on one thread: a source, a node and a client, and the batches
 //! between them. Links lose nothing, and a batch comes in the phase after the one that it was sent in.
 ghost use Rattle.std.specs.Prelude.{◌≡◌, ℕ, ◌+◌, ◌^◌, ◌<◌, ◌≤◌, ◌∷◌, [], ◌++◌, List, length, map, All, OnOk, Some, slice_get};
-ghost use Rattle.borealis_top.specs.Inputs.{IsReadable, IsForNode};
 
 use crate::batch::Batch;
 use crate::small_client::SmallClient;
@@ -25,8 +24,6 @@ pub struct SmallRun<'a> {
     pub client: SmallClient,
     /// The batches that were sent in this phase.
     pub sent: Vec<Batch>,
-    ghost readable: { All (IsReadable node.filter.expr) source.log.now },
-    ghost for_node: { All (IsForNode node.filter.expr) sent.items },
 }
 
 impl<'a> SmallRun<'a> {
@@ -117,7 +114,6 @@ impl<'a> SmallRun<'a> {
 
     /// The batches of the last phase come, in order.
     fn deliver_all(&mut self, pending: Vec<Batch>) -> Result<(), NoMemory>
-        requires { All (IsForNode self.old.node.filter.expr) pending.items }
         ensures run { OnOk result ((earlier before : List Sent) (w : SmallWorld) → before ≡ earlier ++ map sent_of pending.items
             → IsRunOf self.old before w
             → IsRunOf self.new before (run_from w (map Deliver (range_with_len (length earlier) (length pending.items))))) }
@@ -131,7 +127,6 @@ impl<'a> SmallRun<'a> {
 
     /// A batch comes to its reader.
     fn deliver(&mut self, batch: Batch) -> Result<(), NoMemory>
-        requires { IsForNode self.old.node.filter.expr batch }
         ensures run { OnOk result ((before : List Sent) (w : SmallWorld) (k : ℕ) → slice_get w.sent k ≡ Some (sent_of batch)
             → IsRunOf self.old before w → IsRunOf self.new before (happens w (Deliver k))) }
         ensures kept { self.new.node.filter.expr ≡ self.old.node.filter.expr }

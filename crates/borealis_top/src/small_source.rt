@@ -46,8 +46,6 @@ pub fn number_below(tuples: &[Tuple], known: usize, time: u64) -> usize
 }
 
 impl<'a> SmallSource<'a> {
-    ghost use Rattle.dpc_model.specs.Formula.{Formula};
-    ghost use Rattle.borealis_top.specs.Inputs.{IsReadable};
     ghost use Rattle.borealis_top.specs.SmallWorlds.{SmallWorld, released_at};
     ghost use Rattle.borealis_top.specs.SmallSides.{IsSourceOf, sent_in};
 
@@ -71,8 +69,7 @@ impl<'a> SmallSource<'a> {
         ensures stands { IfOk result (λ sent. (w : SmallWorld) → IsSourceOf self.old w
             → IsSourceOf self.new (released_at time w) × ((released_at time w).sent ≡ w.sent ++ sent_in sent)) }
         ensures kept { self.new.log ≡ self.old.log }
-        ensures batch { IfOk result (λ sent. IfSome sent (λ batch. (batch.to_client ≡ false)
-            × ((e : Formula) → All (IsReadable e) self.old.log.now → All (IsReadable e) batch.tuples.items))) }
+        ensures to_node { IfOk result (λ sent. IfSome sent (λ batch. batch.to_client ≡ false)) }
     {
         if time <= self.released {
             return Ok(None);

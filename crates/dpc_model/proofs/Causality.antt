@@ -1,7 +1,7 @@
 -- The output of an operator, cut at a time, is its output of the inputs cut at that time.
 use Rattle.std.proofs.Common.{◌≡◌, ℕ, ◌≤◌, Bool, true, false, cond, List, [], ◌∷◌, ◌++◌, map, refl, sym, ◌∙◌, ap, arith, nat_lt}
 use Rattle.std.proofs.lemmas.Grind.{common_steps}
-use Rattle.std.proofs.lemmas.Bool.{ltb-true, lt-ltb}
+use Rattle.std.proofs.lemmas.Bool.{ltb-true}
 use Rattle.std.specs.List.{filter}
 use Rattle.std.proofs.lemmas.List.Elements.{filter-append}
 use Rattle.dpc_model.specs.Lists.{insert_by, sort_by}
@@ -60,49 +60,52 @@ module _ {X : Type 0} (key : X → ℕ) where
   IsOrdered-sort [] = tt
   IsOrdered-sort (x ∷ xs) = IsOrdered-insert x (sort_by key xs) (IsOrdered-sort xs)
 
-  -- whether an element lies below a number
-  abbrev below : ℕ → X → Bool
-  below b x = nat_lt (key x) b
-
   -- an element that is not smaller than x stands behind it
-  insert_by-first : (x : X) (xs : List X) → NoneBelow key (key x) xs → insert_by key x xs ≡ x ∷ xs
+  pub insert_by-first : (x : X) (xs : List X) → NoneBelow key (key x) xs → insert_by key x xs ≡ x ∷ xs
   insert_by-first x [] s = refl
   insert_by-first x (y ∷ ys) s = grind (arith, common_steps, s.0)
 
-  NoneBelow-filter : (n b : ℕ) (xs : List X) → NoneBelow key n xs → NoneBelow key n (filter (below b) xs)
-  NoneBelow-filter n b [] s = tt
-  NoneBelow-filter n b (x ∷ xs) s =
-      elim (below b x) as (λ c. NoneBelow key n (cond c (x ∷ filter (below b) xs) (filter (below b) xs))) [
-        | true ↦ (s.0, NoneBelow-filter n b xs s.1)
-        | false ↦ NoneBelow-filter n b xs s.1
+  pub NoneBelow-filter : (p : X → Bool) (n : ℕ) (xs : List X) → NoneBelow key n xs → NoneBelow key n (filter p xs)
+  NoneBelow-filter p n [] s = tt
+  NoneBelow-filter p n (x ∷ xs) s =
+      elim (p x) as (λ c. NoneBelow key n (cond c (x ∷ filter p xs) (filter p xs))) [
+        | true ↦ (s.0, NoneBelow-filter p n xs s.1)
+        | false ↦ NoneBelow-filter p n xs s.1
       ]
 
   -- an element that is kept goes among those that are kept
-  filter-insert : (b : ℕ) (x : X) (xs : List X) → below b x ≡ true → IsOrdered key xs → filter (below b) (insert_by key x xs) ≡ insert_by key x (filter (below b) xs)
-  filter-insert b x [] h s = rw h refl
-  filter-insert b x (y ∷ ys) h s =
-      (elim (nat_lt (key y) (key x)) as (λ c. nat_lt (key y) (key x) ≡ c → filter (below b) (cond c (y ∷ insert_by key x ys) (x ∷ y ∷ ys)) ≡ insert_by key x (filter (below b) (y ∷ ys))) [
+  filter-insert : (p : X → Bool) (x : X) (xs : List X) → p x ≡ true → IsOrdered key xs → filter p (insert_by key x xs) ≡ insert_by key x (filter p xs)
+  filter-insert p x [] h s = rw h refl
+  filter-insert p x (y ∷ ys) h s =
+      (elim (nat_lt (key y) (key x)) as (λ c. nat_lt (key y) (key x) ≡ c → filter p (cond c (y ∷ insert_by key x ys) (x ∷ y ∷ ys)) ≡ insert_by key x (filter p (y ∷ ys))) [
         | true ↦ λ e.
-            let k : below b y ≡ true = lt-ltb (key y) b (omega (arith, ltb-true (key y) (key x) e, ltb-true (key x) b h)) in
-            rw (k, e) (ap (λ zs. y ∷ zs) (filter-insert b x ys h s.1))
+            (elim (p y) as (λ c. p y ≡ c → cond c (y ∷ filter p (insert_by key x ys)) (filter p (insert_by key x ys)) ≡ insert_by key x (cond c (y ∷ filter p ys) (filter p ys))) [
+              | true ↦ λ k. rw e (ap (λ zs. y ∷ zs) (filter-insert p x ys h s.1))
+              | false ↦ λ k. filter-insert p x ys h s.1
+            ]) refl
         | false ↦ λ e.
             let g : key x ≤ key y = not_below (key y) (key x) e in
-            rw h (sym (insert_by-first x (filter (below b) (y ∷ ys)) (NoneBelow-filter (key x) b (y ∷ ys) (g, NoneBelow-le (key x) (key y) ys g s.0))))
+            rw h (sym (insert_by-first x (filter p (y ∷ ys)) (NoneBelow-filter p (key x) (y ∷ ys) (g, NoneBelow-le (key x) (key y) ys g s.0))))
       ]) refl
 
   -- one that is not kept changes nothing
-  filter-insert_out : (b : ℕ) (x : X) (xs : List X) → below b x ≡ false → filter (below b) (insert_by key x xs) ≡ filter (below b) xs
-  filter-insert_out b x [] h = rw h refl
-  filter-insert_out b x (y ∷ ys) h = grind (arith, common_steps, filter-insert_out b x ys h)
+  filter-insert_out : (p : X → Bool) (x : X) (xs : List X) → p x ≡ false → filter p (insert_by key x xs) ≡ filter p xs
+  filter-insert_out p x [] h = rw h refl
+  filter-insert_out p x (y ∷ ys) h = grind (arith, common_steps, filter-insert_out p x ys h)
 
-  -- what is left of a sorted list is what is left, sorted
-  pub filter-sort : (b : ℕ) (xs : List X) → filter (below b) (sort_by key xs) ≡ sort_by key (filter (below b) xs)
-  filter-sort b [] = refl
-  filter-sort b (x ∷ xs) =
-      (elim (below b x) as (λ c. below b x ≡ c → filter (below b) (insert_by key x (sort_by key xs)) ≡ sort_by key (cond c (x ∷ filter (below b) xs) (filter (below b) xs))) [
-        | true ↦ λ e. filter-insert b x (sort_by key xs) e (IsOrdered-sort xs) ∙ ap (λ ys. insert_by key x ys) (filter-sort b xs)
-        | false ↦ λ e. filter-insert_out b x (sort_by key xs) e ∙ filter-sort b xs
+  -- what is kept of a sorted list is what is kept, sorted
+  pub filter-sort : (p : X → Bool) (xs : List X) → filter p (sort_by key xs) ≡ sort_by key (filter p xs)
+  filter-sort p [] = refl
+  filter-sort p (x ∷ xs) =
+      (elim (p x) as (λ c. p x ≡ c → filter p (insert_by key x (sort_by key xs)) ≡ sort_by key (cond c (x ∷ filter p xs) (filter p xs))) [
+        | true ↦ λ e. filter-insert p x (sort_by key xs) e (IsOrdered-sort xs) ∙ ap (λ ys. insert_by key x ys) (filter-sort p xs)
+        | false ↦ λ e. filter-insert_out p x (sort_by key xs) e ∙ filter-sort p xs
       ]) refl
+
+  -- ordered elements stay as they stand
+  pub sort_by-ordered : (xs : List X) → IsOrdered key xs → sort_by key xs ≡ xs
+  sort_by-ordered [] o = refl
+  sort_by-ordered (x ∷ xs) o = rw (sort_by-ordered xs o.1) (insert_by-first x xs o.0)
 
 -- the lists cut one by one
 pub filter-all_of : {X : Type 0} (p : X → Bool) (xss : List (List X)) → filter p (all_of xss) ≡ all_of (map (λ xs. filter p xs) xss)
@@ -112,4 +115,4 @@ filter-all_of p (xs ∷ xss) = filter-append p xs (all_of xss) ∙ ap (λ ys. fi
 -- union
 pub cut-united : (inputs : List (List Tuple)) (b : ℕ) → cut (united inputs) b ≡ united (map (λ ts. cut ts b) inputs)
 cut-united inputs b =
-    filter-sort (λ (t : Tuple). t.stime) b (all_of inputs) ∙ ap (λ (ts : List Tuple). sort_by (λ (t : Tuple). t.stime) ts) (filter-all_of (is_below b) inputs)
+    filter-sort (λ (t : Tuple). t.stime) (is_below b) (all_of inputs) ∙ ap (λ (ts : List Tuple). sort_by (λ (t : Tuple). t.stime) ts) (filter-all_of (is_below b) inputs)

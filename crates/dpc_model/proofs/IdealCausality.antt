@@ -25,7 +25,7 @@ use Rattle.dpc_model.proofs.WindowCausality.{cut-aggregated, filter-implied}
 
 -- ---- what an operator reads
 
-at_port-cut : (p b : ℕ) (xs : List Tagged) → cut (at_port p xs) b ≡ at_port p (cut_tagged b xs)
+pub at_port-cut : (p b : ℕ) (xs : List Tagged) → cut (at_port p xs) b ≡ at_port p (cut_tagged b xs)
 at_port-cut p b xs =
     filter-map (is_below b) (λ (x : Tagged). nat_lt x.tuple.stime b) (λ (x : Tagged). x.tuple) (λ x. refl) (filter (λ (x : Tagged). x.port == p) xs)
     ∙ ap (λ (ys : List Tagged). map (λ (x : Tagged). x.tuple) ys) (filter-filter (λ (x : Tagged). nat_lt x.tuple.stime b) (λ (x : Tagged). x.port == p) xs)
@@ -93,7 +93,7 @@ tagged_from-cut b p (ts ∷ ports) =
 
 pub serial-cut : (b : ℕ) (ports : List (List Tuple)) → cut_tagged b (serial ports) ≡ serial (cut_each b ports)
 serial-cut b ports =
-    filter-sort (λ (x : Tagged). x.tuple.stime) b (tagged_from 0 ports)
+    filter-sort (λ (x : Tagged). x.tuple.stime) (λ (x : Tagged). is_below b x.tuple) (tagged_from 0 ports)
     ∙ ap (λ (xs : List Tagged). sort_by (λ (x : Tagged). x.tuple.stime) xs) (tagged_from-cut b 0 ports)
 
 -- ---- the failure-free output

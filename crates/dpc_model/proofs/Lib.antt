@@ -7,3 +7,6 @@ pub mod Order
 pub mod Prefixes
 pub mod FragmentValues
 pub mod Choice
+pub mod Sorting
+pub mod Buckets
+pub mod Serial

@@ -19,25 +19,17 @@ use Rattle.dpc_model.specs.declared.plans.FragSpec.{FragSpec}
 use Rattle.dpc_model.specs.declared.plans.Plan.{Plan}
 use Rattle.dpc_model.specs.declared.plans.StreamRef.{StreamRef}
 use Rattle.dpc_model.specs.declared.plans.StreamRef.TheVariants.{Source, Frag}
-use Rattle.dpc_model.proofs.Causality.{IsOrdered-sort}
+use Rattle.dpc_model.proofs.Causality.{IsOrdered-sort, NoneBelow-filter}
 
 abbrev tagged_time : Tagged → ℕ
 tagged_time x = x.tuple.stime
 
 module _ {X : Type 0} (key : X → ℕ) where
-  NoneBelow-filter : (p : X → Bool) (n : ℕ) (xs : List X) → NoneBelow key n xs → NoneBelow key n (filter p xs)
-  NoneBelow-filter p n [] s = tt
-  NoneBelow-filter p n (x ∷ xs) s =
-      elim (p x) as (λ c. NoneBelow key n (cond c (x ∷ filter p xs) (filter p xs))) [
-        | true ↦ (s.0, NoneBelow-filter p n xs s.1)
-        | false ↦ NoneBelow-filter p n xs s.1
-      ]
-
   pub IsOrdered-filter : (p : X → Bool) (xs : List X) → IsOrdered key xs → IsOrdered key (filter p xs)
   IsOrdered-filter p [] s = tt
   IsOrdered-filter p (x ∷ xs) s =
       elim (p x) as (λ c. IsOrdered key (cond c (x ∷ filter p xs) (filter p xs))) [
-        | true ↦ (NoneBelow-filter p (key x) xs s.0, IsOrdered-filter p xs s.1)
+        | true ↦ (NoneBelow-filter key p (key x) xs s.0, IsOrdered-filter p xs s.1)
         | false ↦ IsOrdered-filter p xs s.1
       ]
 
@@ -90,7 +82,7 @@ abbrev pub AllInOrder : List (List Tuple) → Type 0
 AllInOrder [] = ⊤
 AllInOrder (ts ∷ rest) = InOrder ts × AllInOrder rest
 
-nth-InOrder : (xss : List (List Tuple)) (i : ℕ) → AllInOrder xss → InOrder (nth [] xss i)
+pub nth-InOrder : (xss : List (List Tuple)) (i : ℕ) → AllInOrder xss → InOrder (nth [] xss i)
 nth-InOrder [] i h = tt
 nth-InOrder (ts ∷ xss) zero h = h.0
 nth-InOrder (ts ∷ xss) (suc i) h = nth-InOrder xss i h.1
@@ -109,7 +101,7 @@ read_wire-InOrder xs outs (Port p) o h =
     IsOrdered-map tagged_time time_of (λ (x : Tagged). x.tuple) (λ x. refl) (filter (λ (x : Tagged). x.port == p) xs) (IsOrdered-filter tagged_time (λ (x : Tagged). x.port == p) xs o)
 read_wire-InOrder xs outs (Op i) o h = nth-InOrder outs i h
 
-reads-InOrder : (xs : List Tagged) (outs : List (List Tuple)) (ws : List Wire) → IsOrdered tagged_time xs → AllInOrder outs → AllInOrder (map (read_wire xs outs) ws)
+pub reads-InOrder : (xs : List Tagged) (outs : List (List Tuple)) (ws : List Wire) → IsOrdered tagged_time xs → AllInOrder outs → AllInOrder (map (read_wire xs outs) ws)
 reads-InOrder xs outs [] o h = tt
 reads-InOrder xs outs (w ∷ ws) o h = (read_wire-InOrder xs outs w o h, reads-InOrder xs outs ws o h)
 
@@ -117,7 +109,7 @@ push-AllInOrder : (outs : List (List Tuple)) (ts : List Tuple) → AllInOrder ou
 push-AllInOrder [] ts h o = (o, tt)
 push-AllInOrder (us ∷ outs) ts h o = (h.0, push-AllInOrder outs ts h.1 o)
 
-outputs-InOrder : (outs : List (List Tuple)) (ops : List OpSpec) (xs : List Tagged) (b : ℕ) → IsOrdered tagged_time xs → AllInOrder outs → AllInOrder (outputs_after outs ops xs b)
+pub outputs-InOrder : (outs : List (List Tuple)) (ops : List OpSpec) (xs : List Tagged) (b : ℕ) → IsOrdered tagged_time xs → AllInOrder outs → AllInOrder (outputs_after outs ops xs b)
 outputs-InOrder outs [] xs b o h = h
 outputs-InOrder outs (op ∷ ops) xs b o h =
     let ins = map (read_wire xs outs) op.reads in
@@ -128,7 +120,7 @@ last-InOrder : (ts : List Tuple) (outs : List (List Tuple)) → InOrder ts → A
 last-InOrder ts [] o h = o
 last-InOrder ts (us ∷ outs) o h = last-InOrder us outs h.0 h.1
 
-value-InOrder : (outs : List (List Tuple)) → AllInOrder outs → InOrder (unwrap_or (last_or None outs) [])
+pub value-InOrder : (outs : List (List Tuple)) → AllInOrder outs → InOrder (unwrap_or (last_or None outs) [])
 value-InOrder [] h = tt
 value-InOrder (ts ∷ outs) h = last-InOrder ts outs h.0 h.1
 
@@ -137,14 +129,14 @@ fragment_value-InOrder ops ports b = value-InOrder (outputs_after [] ops (serial
 
 -- ---- the failure-free output
 
-fragments-InOrder : (plan : Plan) (b : ℕ) (values : List (List Tuple)) (frags : List FragSpec) → AllInOrder values → AllInOrder (fragments_upto plan b values frags)
+pub fragments-InOrder : (plan : Plan) (b : ℕ) (values : List (List Tuple)) (frags : List FragSpec) → AllInOrder values → AllInOrder (fragments_upto plan b values frags)
 fragments-InOrder plan b values [] h = h
 fragments-InOrder plan b values (f ∷ rest) h =
     let ins = map (stream_upto plan b values) f.inputs in
     let out = fragment_value f.ops (serial ins) b in
     fragments-InOrder plan b (push values out) rest (push-AllInOrder values out h (fragment_value-InOrder f.ops ins b))
 
-stream-InOrder : (plan : Plan) (b : ℕ) (values : List (List Tuple)) (s : StreamRef) → LogsInOrder plan → AllInOrder values → InOrder (stream_upto plan b values s)
+pub stream-InOrder : (plan : Plan) (b : ℕ) (values : List (List Tuple)) (s : StreamRef) → LogsInOrder plan → AllInOrder values → InOrder (stream_upto plan b values s)
 stream-InOrder plan b values (Source s) l h = IsOrdered-filter time_of (is_below b) (log_of plan s) (l s)
 stream-InOrder plan b values (Frag f) l h = nth-InOrder values f h
 

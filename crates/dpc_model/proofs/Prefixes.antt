@@ -10,7 +10,7 @@ use Rattle.dpc_model.specs.declared.tuples.Tuple.{Tuple}
 use Rattle.dpc_model.proofs.IdealCausality.{cut-cut}
 
 -- behind tuples that are not below b nothing is
-none_cut : (b n : ℕ) (ts : List Tuple) → b ≤ n → NoneBelow time_of n ts → cut ts b ≡ []
+pub none_cut : (b n : ℕ) (ts : List Tuple) → b ≤ n → NoneBelow time_of n ts → cut ts b ≡ []
 none_cut b n [] h s = refl
 none_cut b n (t ∷ ts) h s = grind (arith, common_steps, s.0, none_cut b n ts h s.1)
 

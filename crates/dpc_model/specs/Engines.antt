@@ -1,8 +1,12 @@
 -- Engines that take one bucket after another: what they take, and what they answer.
-use Rattle.std.specs.Prelude.{◌≡◌, ℕ, ◌+◌, ◌*◌, ◌<◌, ◌≤◌, Bool, IsTrue, ◌&&◌, ◌||◌, ◌==◌, nat_lt, nat_le, List, ◌++◌, length, drop, All, ◌↔◌}
+use Rattle.std.specs.Prelude.{◌≡◌, ℕ, ◌+◌, ◌*◌, ◌^◌, ◌<◌, ◌≤◌, Bool, IsTrue, ◌&&◌, ◌||◌, ◌==◌, nat_lt, nat_le, List, ◌++◌, map, filter, length, drop, All, ◌↔◌}
 use Rattle.std.specs.List.{AllAdjacentBelow}
+use Rattle.dpc_model.specs.Lists.{range_with_len}
+use Rattle.dpc_model.specs.Fragments.{at_port}
+use Rattle.dpc_model.specs.Operators.{output_of}
 use Rattle.dpc_model.specs.declared.tuples.Tuple.{Tuple}
 use Rattle.dpc_model.specs.declared.tuples.Tagged.{Tagged}
+use Rattle.dpc_model.specs.declared.operators.OpKind.{OpKind}
 
 -- what an engine makes of its whole inputs, known up to a time
 abbrev pub Value : Type 0
@@ -20,6 +24,27 @@ precedes x y = nat_lt x.tuple.stime y.tuple.stime || (x.tuple.stime == y.tuple.s
 pub record IsBucket (width k : ℕ) (xs : List Tagged) : Type 0 where
   pub inside : All (LiesIn width k) xs
   pub ordered : AllAdjacentBelow (λ x y. IsTrue (precedes x y)) xs (length xs)
+
+-- the inputs of bucket k, whose end is below 2^64
+pub record FitsBucket (width k : ℕ) (xs : List Tagged) : Type 0 where
+  pub bucket : IsBucket width k xs
+  pub end : (k + 1) * width < 2 ^ 64
+
+-- a tagged tuple lies below a time
+abbrev pub LiesBelow : ℕ → Tagged → Type 0
+LiesBelow b x = x.tuple.stime < b
+
+-- the tuples from a time on, in order
+abbrev pub from_time : ℕ → List Tuple → List Tuple
+from_time b ts = filter (λ t. nat_le b t.stime) ts
+
+-- the tuples that came by each of the first n ports
+abbrev pub ports_of : ℕ → List Tagged → List (List Tuple)
+ports_of n xs = map (λ p. at_port p xs) (range_with_len 0 n)
+
+-- what an operator makes of n inputs
+abbrev pub operator_value : OpKind → ℕ → Value
+operator_value kind n xs b = output_of kind (ports_of n xs) b
 
 -- the output that bucket k adds, where the inputs before it are known
 abbrev pub added_output : Value → ℕ → List Tagged → List Tagged → ℕ → List Tuple

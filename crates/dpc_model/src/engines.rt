@@ -1,11 +1,47 @@
 //! Engines that take one bucket of inputs after another.
-ghost use Rattle.std.specs.Prelude.{◌≡◌, ◌+◌, ◌^◌, ◌<◌, ◌++◌, ◌↔◌, ℕ, List, [], Bool, true, false, IfOk, OnOk, OnErr, is_err, IsTrue};
-ghost use Rattle.dpc_model.specs.Engines.{Value, added_output, SameMake};
+ghost use Rattle.std.specs.Prelude.{◌≡◌, ◌+◌, ◌*◌, ◌^◌, ◌<◌, ◌≤◌, ◌++◌, ◌↔◌, ℕ, List, [], Bool, true, false, length, All, IfOk, OnOk, OnErr, is_err, IsTrue};
+ghost use Rattle.std.specs.List.{AllAdjacentBelow};
+ghost use Rattle.dpc_model.specs.Engines.{Value, added_output, SameMake, FitsBucket, precedes};
 ghost use Rattle.dpc_model.specs.declared.tuples.Tagged.{Tagged};
 
 use crate::faults::StepFault;
 use crate::tuples::{Tagged, Tuples};
 use std::alloc::Global;
+
+/// Whether each input has a time from `begin` on and below `end`.
+fn lie_between(inputs: &[Tagged], begin: u64, end: u64) -> bool
+    ensures { IsTrue result ↔ All (λ (x : Tagged). (begin ≤ x.tuple.stime) × (x.tuple.stime < end)) inputs.now }
+{
+    inputs
+        .iter()
+        .all(|x| begin <= x.tuple.stime && x.tuple.stime < end)
+}
+
+/// Whether each input may stand before the next: by time, then by port.
+fn are_in_order(inputs: &[Tagged]) -> bool
+    ensures { IsTrue result ↔ AllAdjacentBelow (λ x y. IsTrue (precedes x y)) inputs.now (length inputs.now) }
+{
+    for i in 1..inputs.len() {
+        let (x, y) = (&inputs[i - 1], &inputs[i]);
+        let precedes = x.tuple.stime < y.tuple.stime
+            || (x.tuple.stime == y.tuple.stime && x.port <= y.port);
+        if !precedes {
+            return false;
+        }
+    }
+    true
+}
+
+/// Whether these are inputs of bucket k, in order of time and port, and the bucket ends below 2^64.
+pub fn fits_bucket(inputs: &[Tagged], width: u64, k: u64) -> bool
+    ensures { IsTrue result ↔ FitsBucket width k inputs.now }
+{
+    let end = (u128::from(k) + 1) * u128::from(width);
+    match u64::try_from(end) {
+        Ok(end) => lie_between(inputs, end - width, end) && are_in_order(inputs),
+        Err(_) => false,
+    }
+}
 
 /// The operators of a fragment, or one operator, over buckets.
 pub trait Engine: Sized {

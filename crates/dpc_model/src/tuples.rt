@@ -43,6 +43,19 @@ pub struct Tagged {
     pub tuple: Tuple,
 }
 
+impl Tuple {
+    ghost use Rattle.std.specs.Prelude.{◌≡◌};
+    ghost use Rattle.dpc_model.specs.Values.{column};
+
+    /// The value of a column, and 0 where the tuple has no such column.
+    pub fn column(&self, number: u64) -> i64
+        ensures { result ≡ column self.now number }
+    {
+        let vals = self.vals.as_slice();
+        vals.get(number as usize).copied().unwrap_or(0)
+    }
+}
+
 impl Exact for Tuple {
     fn copy(&self, alloc: Global) -> Result<Tuple, AllocError> {
         let vals = self.vals.copy(alloc)?;

@@ -1,19 +1,13 @@
 -- A filter as an engine over buckets.
-use Rattle.std.specs.Prelude.{◌≡◌, ℕ, Bool, true, false, length}
+use Rattle.std.specs.Prelude.{ℕ, Bool, false}
 use Rattle.dpc_model.specs.Formula.{Formula}
-use Rattle.dpc_model.specs.Values.{reads_below}
 use Rattle.dpc_model.specs.Operators.{filtered}
 use Rattle.dpc_model.specs.Fragments.{at_port}
 use Rattle.dpc_model.specs.Engines.{Value}
-use Rattle.dpc_model.specs.declared.tuples.Tagged.{Tagged}
 
 -- a filter keeps the tuples of port 0 whose value counts as true
 abbrev pub filter_value : Formula → Value
 filter_value e xs b = filtered e (at_port 0 xs)
-
--- each tuple of port 0 has the columns that the expression reads
-abbrev pub HasColumns : Formula → Tagged → Type 0
-HasColumns e x = x.port ≡ 0 → reads_below (length x.tuple.vals) e ≡ true
 
 -- what contracts see of a filter: its expression, the next bucket, and whether it wanted memory
 pub record FilterState : Type 0 where

@@ -1,10 +1,10 @@
 //! The filter.
-ghost use Rattle.std.specs.Prelude.{◌≡◌, ◌+◌, ◌^◌, ◌<◌, ◌↔◌, true, List, All, IfOk, OnOk, OnErr, IsTrue, is_err, refl};
+ghost use Rattle.std.specs.Prelude.{◌≡◌, ◌+◌, ◌^◌, ◌<◌, ◌↔◌, true, List, ⊤, IfOk, OnOk, OnErr, IsTrue, is_err, refl};
 ghost use Rattle.dpc_model.specs.Operators.{filtered};
 ghost use Rattle.dpc_model.specs.Fragments.{at_port};
 ghost use Rattle.dpc_model.specs.Engines.{added_output, SameMake};
 ghost use Rattle.dpc_model.specs.declared.tuples.Tagged.{Tagged};
-ghost use Rattle.ops_stateless.specs.FilterOp.{filter_value, HasColumns, new_filter};
+ghost use Rattle.ops_stateless.specs.FilterOp.{filter_value, new_filter};
 
 use crate::eval;
 use dpc_model::engines::Engine;
@@ -51,7 +51,6 @@ impl Filter {
 
 /// The tuples of port 0 that pass, in order.
 fn passing(alloc: Global, expr: &Expr, inputs: &[Tagged]) -> Result<Tuples, AllocError>
-    requires { All (HasColumns expr.now) inputs.now }
     ensures { IfOk result (λ out. out ≡ filtered expr.now (at_port 0 inputs.now)) }
 {
     let mut out = Vec::new(alloc);
@@ -68,7 +67,7 @@ impl Engine for Filter {
 
     ghost value = { λ f. filter_value f.expr };
 
-    ghost accepts = { λ f k xs. All (HasColumns f.expr) xs };
+    ghost accepts = { λ f k xs. ⊤ };
 
     ghost next = { λ f. f.next };
 
@@ -91,7 +90,6 @@ impl Engine for Filter {
     fn bucket(&mut self, alloc: Global, inputs: &[Tagged], k: u64) -> Result<Tuples, StepFault>
         requires next { k ≡ self.old.next }
         requires range { k + 1 < 2 ^ 64 }
-        requires accepts { All (HasColumns self.old.expr) inputs.now }
         ensures answer { IfOk result (λ out. (before : List Tagged) → self.old.next ≡ k
             → out ≡ added_output (filter_value self.old.expr) 0 before inputs.now k) }
         ensures after { OnOk result ((before : List Tagged) → self.old.next ≡ k → self.new.next ≡ k + 1) }
@@ -100,7 +98,7 @@ impl Engine for Filter {
         ensures spent { result ≡ Err StepFault.Spent ↔ self.old.spent ≡ true }
         ensures stays { IsTrue self.new.spent ↔ IsTrue (is_err result) }
         ensures made { SameMake 0 0 (filter_value self.old.expr) (filter_value self.new.expr)
-            (λ k xs. All (HasColumns self.old.expr) xs) (λ k xs. All (HasColumns self.new.expr) xs) }
+            (λ k xs. ⊤) (λ k xs. ⊤) }
 
         // It keeps nothing of its inputs.
         ensures passing { IfOk result (λ out. out ≡ filtered self.old.expr (at_port 0 inputs.now)) }

@@ -1,10 +1,12 @@
 //! Operators that keep no tuple, and the value of an expression.
 #![tactic(auto)]
 
-ghost use Rattle.std.specs.Prelude.{◌≡◌, length, IsTrue};
-ghost use Rattle.dpc_model.specs.Values.{value_of, reads_below, combine, truth as truth_of};
+ghost use Rattle.std.specs.Prelude.{◌≡◌};
+ghost use Rattle.dpc_model.specs.Values.{value_of, combine, truth as truth_of};
 
 pub mod filter;
+pub mod map;
+pub mod union;
 
 use dpc_model::expressions::{BinOp, Expr, ExprNode};
 use dpc_model::tuples::Tuple;
@@ -37,17 +39,13 @@ fn combined(op: BinOp, x: i64, y: i64) -> i64
     }
 }
 
-/// The value of an expression on a tuple that has every column which the expression names. Each
-/// operator's exact result becomes the nearest value of i64.
+/// The value of an expression on a tuple. Each operator's exact result becomes the nearest value of
+/// i64. A column that the tuple lacks counts as 0.
 pub fn eval(expr: &Expr, t: &Tuple) -> i64
-    requires { IsTrue (reads_below (length t.now.vals) expr.now) }
     ensures { result ≡ value_of expr.now t.now }
 {
     match &expr.node {
-        ExprNode::Col(c) => {
-            let vals = t.vals.as_slice();
-            vals.get(*c as usize).copied().unwrap_or(0)
-        }
+        ExprNode::Col(c) => t.column(*c),
         ExprNode::Num(z) => *z,
         ExprNode::Time => i64::try_from(t.stime).unwrap_or(i64::MAX),
         ExprNode::Neg(e) => 0i64.saturating_sub(eval(e, t)),

@@ -1,37 +1,27 @@
 //! What no clause says: values counted by a person, and that calls succeed where there is memory.
-ghost use Rattle.std.specs.Prelude.{◌≡◌, true, length, IfOk};
-ghost use Rattle.dpc_model.specs.Values.{reads_below};
-ghost use Rattle.dpc_model.specs.Expressions.{formula_of};
-ghost use Rattle.dpc_model.specs.Formula as formula;
-
 use crate::eval;
 use crate::filter::Filter;
-use dpc_model::engines::Engine;
+use crate::map::MapOp;
+use crate::union::Union;
+use dpc_model::engines::{Engine, fits_bucket};
 use dpc_model::expressions::{BinOp, Expr, ExprNode};
-use dpc_model::faults::StepFault;
 use dpc_model::lists::Listed;
 use dpc_model::tuples::{Tagged, Tuple};
 use std::alloc::{AllocError, Global};
 use std::test::Fail;
 
-fn leaf(node: ExprNode) -> Expr
-    ensures { result ≡ formula_of node }
-{
+fn leaf(node: ExprNode) -> Expr {
     Expr { node }
 }
 
-fn binary(alloc: Global, op: BinOp, left: Expr, right: Expr) -> Result<Expr, AllocError>
-    ensures { IfOk result (λ e. e ≡ formula.Bin op left right) }
-{
+fn binary(alloc: Global, op: BinOp, left: Expr, right: Expr) -> Result<Expr, AllocError> {
     let left = Box::new(alloc, left)?;
     let right = Box::new(alloc, right)?;
     Ok(leaf(ExprNode::Bin(op, left, right)))
 }
 
 /// `mul c0 c0`
-fn square(alloc: Global) -> Result<Expr, AllocError>
-    ensures { IfOk result (λ e. reads_below 1 e ≡ true) }
-{
+fn square(alloc: Global) -> Result<Expr, AllocError> {
     binary(
         alloc,
         BinOp::Mul,
@@ -41,9 +31,7 @@ fn square(alloc: Global) -> Result<Expr, AllocError>
 }
 
 /// `if lt c0 0 neg c0 time`
-fn size_or_time(alloc: Global) -> Result<Expr, AllocError>
-    ensures { IfOk result (λ e. reads_below 1 e ≡ true) }
-{
+fn size_or_time(alloc: Global) -> Result<Expr, AllocError> {
     let zero = leaf(ExprNode::Num(0));
     let test = binary(alloc, BinOp::Lt, leaf(ExprNode::Col(0)), zero)?;
     let test = Box::new(alloc, test)?;
@@ -53,47 +41,117 @@ fn size_or_time(alloc: Global) -> Result<Expr, AllocError>
     Ok(leaf(ExprNode::If(test, yes, no)))
 }
 
-fn tuple(alloc: Global, stime: u64, value: i64) -> Result<Tuple, AllocError>
-    ensures { IfOk result (λ t. length t.vals ≡ 1) }
-{
+/// The negative of 32 times column 0, in 64 words.
+fn longest(alloc: Global) -> Result<Expr, AllocError> {
+    let mut sum = leaf(ExprNode::Col(0));
+    for _ in 1..32 {
+        sum = binary(alloc, BinOp::Add, leaf(ExprNode::Col(0)), sum)?;
+    }
+    let sum = Box::new(alloc, sum)?;
+    Ok(leaf(ExprNode::Neg(sum)))
+}
+
+fn tuple(alloc: Global, stime: u64, value: i64) -> Result<Tuple, AllocError> {
     let vals = Listed::from_vec(vec![in alloc; value]?);
     Ok(Tuple { stime, vals })
 }
 
+/// Inputs of these ports, times and values.
+fn tagged(alloc: Global, rows: &[(u64, u64, i64)]) -> Result<Vec<Tagged>, AllocError> {
+    let mut inputs = Vec::new(alloc);
+    for (port, stime, value) in rows {
+        let tuple = tuple(alloc, *stime, *value)?;
+        inputs.push(Tagged { port: *port, tuple })?;
+    }
+    Ok(inputs)
+}
+
+/// Whether there is a tuple of this time and these values at a place.
+fn is_row(rows: &[Tuple], place: usize, stime: u64, vals: &[i64]) -> bool {
+    match rows.get(place) {
+        Some(row) => row.stime == stime && row.vals.as_slice() == vals,
+        None => false,
+    }
+}
+
 #[test]
-fn values_stay_within_their_range(rt: HostRuntime) -> Result<(), Fail> {
+fn expressions_of_64_words_have_a_value(rt: HostRuntime) -> Result<(), Fail> {
+    let alloc = rt.alloc();
+    let longest = longest(alloc)?;
+    for (value, wanted) in [(3, -96), (i64::MAX, -i64::MAX), (i64::MIN, i64::MAX)] {
+        assert_eq!(rt; eval(&longest, &tuple(alloc, 0, value)?), wanted);
+    }
+    Ok(())
+}
+
+#[test]
+fn map_stays_within_the_range(rt: HostRuntime) -> Result<(), Fail> {
     let alloc = rt.alloc();
     let rows = [
-        (3, 4_000_000_000, i64::MAX, 3),
-        (7, -5, 25, 5),
-        (8, i64::MIN, i64::MAX, i64::MAX),
+        (0, 3, 4_000_000_000),
+        (0, 7, -5),
+        (1, 7, 1),
+        (0, 8, i64::MIN),
     ];
-    for (stime, value, squared, chosen) in rows {
-        let read = tuple(alloc, stime, value)?;
-        assert_eq!(rt; read.vals.len(), 1);
-        let square = square(alloc)?;
-        let choice = size_or_time(alloc)?;
-        assert_eq!(rt; eval(&square, &read), squared);
-        assert_eq!(rt; eval(&choice, &read), chosen);
+    let inputs = tagged(alloc, &rows)?;
+    let mut exprs = Vec::new(alloc);
+    exprs.push(square(alloc)?)?;
+    exprs.push(size_or_time(alloc)?)?;
+    let mut map = MapOp::new(Listed::from_vec(exprs));
+    let Ok(out) = map.bucket(alloc, inputs.as_slice(), 0) else {
+        return Ok(assert!(rt; false));
+    };
+    let out = out.as_slice();
+    assert_eq!(rt; out.len(), 3);
+    assert!(rt; is_row(out, 0, 3, &[i64::MAX, 3]));
+    assert!(rt; is_row(out, 1, 7, &[25, 5]));
+    assert!(rt; is_row(out, 2, 8, &[i64::MAX, i64::MAX]));
+    let Ok(copy) = map.copy(alloc) else {
+        return Ok(assert!(rt; false));
+    };
+    assert!(rt; copy.same(&map));
+    map.reset();
+    assert!(rt; !copy.same(&map));
+    Ok(())
+}
+
+#[test]
+fn union_orders_equal_times_by_port(rt: HostRuntime) -> Result<(), Fail> {
+    let alloc = rt.alloc();
+    let mut rows = Vec::new(alloc);
+    for port in 0..8 {
+        rows.push((port, 5, 7))?;
+        rows.push((port, 5, i64::MIN))?;
     }
+    let inputs = tagged(alloc, rows.as_slice())?;
+    assert!(rt; fits_bucket(inputs.as_slice(), 10, 0));
+    let mut union = Union::new(8, 10);
+    let Ok(out) = union.bucket(alloc, inputs.as_slice(), 0) else {
+        return Ok(assert!(rt; false));
+    };
+    let out = out.as_slice();
+    assert_eq!(rt; out.len(), 16);
+    assert!(rt; is_row(out, 14, 5, &[7]) && is_row(out, 15, 5, &[i64::MIN]));
+    let Ok(copy) = union.copy(alloc) else {
+        return Ok(assert!(rt; false));
+    };
+    assert!(rt; copy.same(&union));
+    union.reset();
+    assert!(rt; !copy.same(&union));
     Ok(())
 }
 
 #[test]
 fn filter_takes_a_bucket(rt: HostRuntime) -> Result<(), Fail> {
     let alloc = rt.alloc();
-    let mut inputs = Vec::new(alloc);
-    for value in [5, 0, -1] {
-        let tuple = tuple(alloc, 3, value)?;
-        inputs.push(Tagged { port: 0, tuple })?;
-    }
-    let mut filter = Filter::new(leaf(ExprNode::Time));
+    let inputs = tagged(alloc, &[(0, 3, 5), (0, 3, 0), (0, 3, -1)])?;
+    let mut filter = Filter::new(leaf(ExprNode::Col(0)));
     let Ok(copy) = filter.copy(alloc) else {
         return Ok(assert!(rt; false));
     };
     assert!(rt; copy.same(&filter));
     let output = filter.bucket(alloc, inputs.as_slice(), 0);
-    assert_eq!(rt; output.map_or(0, |tuples| tuples.len()), 3);
+    assert_eq!(rt; output.map_or(0, |tuples| tuples.len()), 2);
     assert!(rt; !copy.same(&filter));
     Ok(())
 }

@@ -1,24 +1,10 @@
-use Rattle.std.proofs.Common.{refl, ap, ◌∙◌, arith}
+use Rattle.std.proofs.Common.{refl, ap, ◌∙◌}
 use Rattle.diagram_reader.specs.FirstForm.{first_script}
 use Rattle.dpc_model.specs.declared.scripts.Script.{Script}
 use Rattle.borealis_top.specs.declared.small_node.Timing.{Timing}
-use Rattle.borealis_top.proofs.Readable.{readable_log}
 use Rattle.borealis_top.proofs.SmallFrames.{opening-IsReached}
 use Rattle.borealis_top.proofs.SmallReports.{IsNew, opening-IsSourceOf, opening-IsNodeOf, opening-IsClientOf}
 use Rattle.borealis_top.proofs.plain.opening.Goals as goal
-
--- the logged tuples have the columns that the test reads, and nothing was sent
-pub invariant_of-result : goal.invariant_of-result
-invariant_of-result c =
-    let p = c.requires.0 in
-    let source = rw (c.as_slice.ensures, c.requires.2) at c.source-item.is in
-    let frag = rw (c.as_slice-2.ensures, c.requires.2) at c.frag-item.is in
-    let test = c.new-2.ensures.filter ∙ c.in_ok-test.ensures ∙ c.test_of.ensures p frag in
-    let logged = c.new.ensures.log ∙ c.as_slice-3.ensures in
-    record {
-      readable = rw (test, logged, source) (readable_log p c.requires.1);
-      for_node = rw c.new-4.ensures.items (λ k d low. absurd (omega (arith, low)));
-    }
 
 -- each side took nothing, as in the opening world
 pub returns : goal.returns

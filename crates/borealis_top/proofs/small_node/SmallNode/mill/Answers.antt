@@ -22,7 +22,6 @@ invariant_of-self c =
     let kept = filter_same _ test _ (λ x b f called. search (rules, tests)) _ _ c.retain.ensures.filtered in
     record {
       in_step = node.in_step;
-      readable = node.readable;
       within = node.within;
       fewer = node.fewer;
       distinct = rw kept (IsDistinct-keys_filter nat_eq test node.stamps.items node.distinct);

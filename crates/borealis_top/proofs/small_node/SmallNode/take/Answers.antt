@@ -1,15 +1,12 @@
-use Rattle.std.proofs.Common.{◌≡◌, ℕ, ◌-◌, ◌<◌, Bool, true, false, cond, [], ◌∷◌, ◌++◌, is_ok, max, sym, ap, ◌∙◌, map-id, Global, List, All, length, drop, get_or, arith, append_assoc}
-use Rattle.std.proofs.lemmas.List.Elements.{All-push, All-drop}
+use Rattle.std.proofs.Common.{◌≡◌, ℕ, ◌-◌, [], ◌∷◌, ◌++◌, max, sym, ap, ◌∙◌, map-id, Global, List, length, drop, arith, append_assoc}
 use Rattle.std.specs.declared.iter.Skip.{Skip}
 use Rattle.std.specs.declared.vec.IntoIter.{IntoIter}
 use Rattle.std.specs.Vec.Iter.{into_iter_items, into_iter_len, into_iter_steps}
 use Rattle.std.specs.Iterator.Adapters.{skip_steps}
 use Rattle.std.proofs.lemmas.Iterator.{YieldsList}
 use Rattle.std.proofs.lemmas.Iterator.Adapters.{YieldsList-from_vec, YieldsList-from_skip}
-use Rattle.std.proofs.lemmas.Iterator.Consumers.{YieldsList-turn, YieldsList-end}
-use Rattle.dpc_model.specs.Formula.{Formula}
+use Rattle.std.proofs.lemmas.Iterator.Consumers.{YieldsList-end}
 use Rattle.dpc_model.specs.declared.tuples.Tuple.{Tuple}
-use Rattle.borealis_top.specs.Inputs.{IsReadable}
 use Rattle.dpc_model.specs.Due.{stamped_all}
 use Rattle.borealis_top.proofs.SmallStamps.{stamped_all-push}
 use Rattle.borealis_top.proofs.SmallTaking.{Took-none, missed-stands, took-stands}
@@ -22,30 +19,11 @@ skip_yields s u v ts n e i c r l =
     let source : YieldsList (into_iter_steps {X = Tuple} {Z = Global}) (λ (y : Tuple). y) u.iter ts = rw i (YieldsList-from_vec {s = v} ts r l) in
     rw e (YieldsList-from_skip {s = u} n source c)
 
--- a tuple of a part of a batch is readable as the batch is
-readable_turn : (e : Formula) (ts : List Tuple) (n i : ℕ) (t : Tuple) → All (IsReadable e) ts → (i < length (drop n ts)) × (t ≡ get_or (drop n ts) i t) → IsReadable e t
-readable_turn e ts n i t h turn = let part = All-drop (IsReadable e) n ts h in rw turn.1 (part i t turn.0)
-
 pub returns-then-first-held-clause-stands : goal.returns-then-first-held-clause-stands
 returns-then-first-held-clause-stands c w k s h e f = missed-stands c.args.self.now c.args.batch w k (omega arith) h e f
 
 pub loop-tuple-init : goal.loop-tuple-init
 loop-tuple-init c = Took-none c.args.self.now
-
--- what is held is readable, whether the tuple found room or not
-push_readable : (e : Formula) (ts us : List Tuple) (t : Tuple) (b : Bool) → us ≡ cond b (ts ++ t ∷ []) ts → All (IsReadable e) ts → IsReadable e t → All (IsReadable e) us
-push_readable e ts us t true same h r = rw same (All-push (IsReadable e) ts t h r)
-push_readable e ts us t false same h r = rw same h
-
-pub invariant_of-self-in-loop-tuple-clause-readable : goal.invariant_of-self-in-loop-tuple-clause-readable
-invariant_of-self-in-loop-tuple-clause-readable c =
-    let loop = c.loop-tuple in
-    let place = c.len-held.result - c.args.batch.first in
-    let road = skip_yields c.into_iter-tuple-iterator.result c.skip-tuple-items.result c.into_iter.result c.args.batch.tuples.items place c.into_iter-tuple-iterator.ensures.into_iter_gives c.skip-tuple-items.ensures.source c.skip-tuple-items.ensures.count c.into_iter.ensures.rest (c.into_iter.ensures.len ∙ c.args.batch.tuples.ok.0) in
-    let turn = YieldsList-turn road loop.yielded _ loop.yielded_by _ c.next.new.self c.in-Some.tuple c.in-Some.is c.next.ensures.steps in
-    let readable : IsReadable loop.self.filter.expr c.in-Some.tuple =
-    rw loop.invariant.filter (readable_turn c.args.self.now.filter.expr c.args.batch.tuples.items place (length loop.yielded) c.in-Some.tuple c.requires turn) in
-    push_readable loop.self.filter.expr loop.self.held.items c.push.new.self.items c.in-Some.tuple (is_ok c.push.result) c.push.ensures.items loop.self.readable readable
 
 pub invariant_of-self-in-loop-tuple-clause-distinct : goal.invariant_of-self-in-loop-tuple-clause-distinct
 invariant_of-self-in-loop-tuple-clause-distinct c = c.stamp.ensures.distinct

@@ -2,21 +2,14 @@ use Rattle.std.proofs.Common.{◌≡◌, ◌+◌, ◌∷◌, [], ◌++◌, ◌�
 use Rattle.std.proofs.lemmas.List.{append-nil, length_push, nil_from_length}
 use Rattle.dpc_model.specs.Lists.{range_with_len}
 use Rattle.dpc_model.specs.declared.messages.Event.TheVariants.{Deliver}
-use Rattle.borealis_top.specs.Inputs.{IsForNode}
 use Rattle.borealis_top.specs.SmallWorlds.{SmallWorld, run_from}
 use Rattle.borealis_top.specs.SmallSides.{sent_of}
 use Rattle.borealis_top.specs.declared.batch.Batch.{Batch}
-use Rattle.borealis_top.proofs.SmallRounds.{delivered-sent, delivered-more, pending-next, All-seam}
+use Rattle.borealis_top.proofs.SmallRounds.{delivered-sent, delivered-more, pending-next}
 use Rattle.borealis_top.proofs.small_run.SmallRun.deliver_all.Goals as goal
 
 pub loop-batch-init : goal.loop-batch-init
 loop-batch-init c = record { whole = sym c.into_iter-batch-iterator.ensures.into_iter_gives.0; kept = refl; runs = λ earlier before w e r. r }
-
-pub deliver-requires : goal.deliver-requires
-deliver-requires c =
-    let whole = c.loop-batch.invariant.whole ∙ ap (λ (bs : List Batch). c.loop-batch.yielded ++ bs) (c.in-Some.ensures {u = tt}).steps.0 in
-    rw c.loop-batch.invariant.kept
-    (All-seam (IsForNode c.args.self.now.node.filter.expr) c.loop-batch.yielded c.in-Some.batch c.next.new.self.rest.items (rw whole at c.requires))
 
 pub loop-batch-preserved : goal.loop-batch-preserved
 loop-batch-preserved c =

@@ -1,0 +1,7 @@
+pub mod Serial
+pub mod Outputs
+pub mod Operators
+pub mod Gathering
+pub mod Stepping
+pub mod Running
+pub mod Starts

@@ -1,0 +1,2 @@
+pub mod Mills
+pub mod Milling

@@ -1,0 +1,8 @@
+//! The operators of a fragment as one engine.
+#![tactic(auto)]
+
+pub mod mill;
+pub mod operator;
+mod stage;
+#[cfg(test)]
+mod tests;

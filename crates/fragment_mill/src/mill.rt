@@ -1,0 +1,230 @@
+//! The mill of a fragment.
+ghost use Rattle.std.specs.Prelude.{◌≡◌, ◌+◌, ◌^◌, ◌<◌, ◌++◌, ◌↔◌, List, [], map, length, slice_get, unwrap_or, true, false, Some, None, IfOk, OnOk, OnErr, IsTrue, is_err, All, refl};
+ghost use Rattle.std.specs.List.{AllZip};
+ghost use Rattle.dpc_model.specs.Lists.{last_or};
+ghost use Rattle.dpc_model.specs.Engines.{FitsBucket, SameMake, SameValue, added_output};
+ghost use Rattle.dpc_model.specs.Fragments.{fragment_value, AreSoundFrags, AreSoundOps};
+ghost use Rattle.dpc_model.specs.declared.plans.FragSpec.{FragSpec};
+ghost use Rattle.dpc_model.specs.declared.tuples.Tagged.{Tagged};
+ghost use Rattle.fragment_mill.specs.Mills.{OperatorAfter, MillAfter, mill_value, new_mill, new_stage};
+ghost use Rattle.fragment_mill.specs.Milling.{Alike};
+
+use crate::operator::Operator;
+use dpc_model::engines::Engine;
+use dpc_model::exact::Exact;
+use dpc_model::faults::{NoMemory, StepFault};
+use dpc_model::lists::Listed;
+use dpc_model::operators::{OpSpec, Wire};
+use dpc_model::plans::Plan;
+use dpc_model::tuples::{Tagged, Tuples};
+use std::alloc::Global;
+use std::marker::Model;
+
+/// An operator, and what it reads.
+#[derive(Drop)]
+pub struct Stage {
+    pub reads: Listed<Wire>,
+    pub operator: Operator,
+}
+
+/// The operators of a fragment in order, of which each reads ports and operators before it; the last
+/// one's output is the fragment's. Contracts see a `MillState`.
+#[derive(Drop)]
+pub struct FragMill {
+    width: u64,
+    stages: Vec<Stage>,
+    next: u64,
+    spent: bool,
+}
+
+impl Model for FragMill {
+    ghost use Rattle.std.specs.Coded.{codes};
+    ghost use Rattle.dpc_model.specs.FormulaCode.{coded_formula};
+    ghost use Rattle.fragment_mill.specs.Mills.{MillState};
+    ghost use Rattle.fragment_mill.specs.Milling.{IsMill};
+
+    ghost Value = { MillState };
+
+    ghost coded = { Prim.hlevel (codes, coded_formula) };
+
+    ghost view = { λ m. record { width = m.width; stages = m.stages.items; next = m.next; spent = m.spent } };
+
+    ghost invariant = { λ m. IsMill (record { width = m.width; stages = m.stages.items; next = m.next; spent = m.spent }) };
+}
+
+/// The operators of a fragment as stages, before bucket 0.
+fn new_stages(alloc: Global, ops: &[OpSpec], width: u64) -> Result<Vec<Stage>, NoMemory>
+    requires { AreSoundOps ops.now }
+    ensures { IfOk result (λ stages. stages.items ≡ map (new_stage width) ops.now) }
+{
+    let mut stages = Vec::with_capacity(alloc, ops.len())?;
+    for op in ops {
+        stages.push(Stage::new(alloc, op, width)?)?;
+    }
+    Ok(stages)
+}
+
+/// The same stages in the same states.
+fn copied(alloc: Global, stages: &[Stage]) -> Result<Vec<Stage>, StepFault>
+    ensures { IfOk result (λ others. others.items ≡ stages.now) }
+{
+    let mut copies = Vec::with_capacity(alloc, stages.len())?;
+    for stage in stages {
+        copies.push(stage.copy(alloc)?)?;
+    }
+    Ok(copies)
+}
+
+/// Whether the two have the same stages in the same states.
+fn are_same(stages: &[Stage], others: &[Stage]) -> bool
+    ensures { IsTrue result ↔ (stages.now ≡ others.now) }
+{
+    if stages.len() != others.len() {
+        return false;
+    }
+    for (i, stage) in stages.iter().enumerate() {
+        if !stage.same(&others[i]) {
+            return false;
+        }
+    }
+    true
+}
+
+/// Brings each stage to its state before bucket 0.
+fn reset_all(stages: &mut [Stage])
+    ensures made { AllZip Alike stages.old stages.new }
+    ensures after { All (λ s. OperatorAfter s.operator [] 0) stages.new }
+{
+    for stage in stages.iter_mut() {
+        stage.operator.reset();
+    }
+}
+
+/// The last output, and no tuple where there is none.
+fn last_output(alloc: Global, mut outputs: Vec<Tuples>) -> Tuples
+    ensures { result ≡ unwrap_or (last_or None outputs.items) [] }
+{
+    match outputs.pop() {
+        Some(output) => output,
+        None => Listed::from_vec(Vec::new(alloc)),
+    }
+}
+
+impl FragMill {
+    /// The operators of fragment `frag` of a plan, before bucket 0.
+    pub fn new(alloc: Global, plan: &Plan, frag: u64) -> Result<FragMill, NoMemory>
+        requires known { frag < length plan.now.frags }
+        requires sound { AreSoundFrags plan.now.frags }
+        ensures made { IfOk result (λ m. (f : FragSpec) → slice_get plan.now.frags frag ≡ Some f → m ≡ new_mill plan.now.width f.ops) }
+        ensures value { IfOk result (λ m. (f : FragSpec) → slice_get plan.now.frags frag ≡ Some f → SameValue (mill_value m) (fragment_value f.ops)) }
+        ensures width { IfOk result (λ m. m.width ≡ plan.now.width) }
+        ensures fresh { IfOk result (λ m. m.spent ≡ false) }
+        ensures after { IfOk result (λ m. MillAfter m [] 0) }
+    {
+        let spec = &plan.frags.as_slice()[frag as usize];
+        let stages = new_stages(alloc, spec.ops.as_slice(), plan.width)?;
+        Ok(FragMill {
+            width: plan.width,
+            stages,
+            next: 0,
+            spent: false,
+        })
+    }
+
+    /// Lets each stage in turn take bucket k, and answers their outputs. Until all are done the mill
+    /// counts as spent.
+    fn outputs(
+        &mut self,
+        alloc: Global,
+        inputs: &[Tagged],
+        k: u64,
+    ) -> Result<Vec<Tuples>, StepFault>
+        requires ready { self.old.spent ≡ false }
+        requires next { k ≡ self.old.next }
+        requires range { k + 1 < 2 ^ 64 }
+        requires accepts { FitsBucket self.old.width k inputs.now }
+        ensures answer { IfOk result (λ outs. (before : List Tagged) → MillAfter self.old before k
+            → unwrap_or (last_or None outs.items) [] ≡ added_output (mill_value self.old) self.old.width before inputs.now k) }
+        ensures after { OnOk result ((before : List Tagged) → MillAfter self.old before k
+            → MillAfter self.new (before ++ inputs.now) (k + 1)) }
+        ensures next { OnOk result (self.new.next ≡ k + 1) }
+        ensures kept { OnErr result (self.new.next ≡ self.old.next) }
+        ensures stays { IsTrue self.new.spent ↔ IsTrue (is_err result) }
+        ensures width { self.new.width ≡ self.old.width }
+        ensures made { SameValue (mill_value self.old) (mill_value self.new) }
+    {
+        self.spent = true;
+        let mut outputs = Vec::new(alloc);
+        for i in 0..self.stages.len() {
+            let output = self.stages[i].bucket(alloc, inputs, outputs.as_slice(), k)?;
+            outputs.push(output)?;
+        }
+        self.next = k + 1;
+        self.spent = false;
+        Ok(outputs)
+    }
+}
+
+impl Engine for FragMill {
+    ghost width = { λ m. m.width };
+
+    ghost value = { λ m. mill_value m };
+
+    ghost accepts = { λ m k xs. FitsBucket m.width k xs };
+
+    ghost next = { λ m. m.next };
+
+    ghost is_spent = { λ m. m.spent };
+
+    ghost after = { λ m xs k. MillAfter m xs k };
+
+    ghost alike = { λ m n. m ≡ n };
+
+    ghost alike_make = { λ x y e. Prim.rw e (record {
+      width = refl;
+      value = λ xs b. refl;
+      accepts = λ k xs. (λ h. h, λ h. h);
+    }) };
+
+    ghost alike_after = { λ x y xs k e h. Prim.rw (← e) h };
+
+    ghost alike_next = { λ x y e. Prim.rw e refl };
+
+    fn bucket(&mut self, alloc: Global, inputs: &[Tagged], k: u64) -> Result<Tuples, StepFault> {
+        if self.spent {
+            return Err(StepFault::Spent);
+        }
+        match self.outputs(alloc, inputs, k) {
+            Ok(outputs) => Ok(last_output(alloc, outputs)),
+            Err(_) => Err(StepFault::NoMemory),
+        }
+    }
+
+    fn copy(&self, alloc: Global) -> Result<Self, StepFault> {
+        if self.spent {
+            return Err(StepFault::Spent);
+        }
+        match copied(alloc, self.stages.as_slice()) {
+            Ok(stages) => Ok(FragMill {
+                width: self.width,
+                stages,
+                next: self.next,
+                spent: false,
+            }),
+            Err(_) => Err(StepFault::NoMemory),
+        }
+    }
+
+    fn same(&self, other: &Self) -> bool {
+        self.width == other.width
+            && are_same(self.stages.as_slice(), other.stages.as_slice())
+            && self.next == other.next
+            && self.spent == other.spent
+    }
+
+    fn reset(&mut self) {
+        reset_all(self.stages.as_mut_slice());
+        self.next = 0;
+        self.spent = false;
+    }
+}

@@ -1,0 +1,139 @@
+//! A stage of a mill: an operator with what it reads.
+ghost use Rattle.std.specs.Prelude.{◌≡◌, ◌+◌, ◌^◌, ◌<◌, ◌++◌, ◌↔◌, ℕ, List, [], map, IfOk, OnOk, IsTrue};
+ghost use Rattle.dpc_model.specs.Engines.{added_output};
+ghost use Rattle.dpc_model.specs.Fragments.{serial, tag, read_wire, at_port, IsSoundKind};
+ghost use Rattle.dpc_model.specs.declared.tuples.Tagged.{Tagged};
+ghost use Rattle.fragment_mill.specs.Mills.{OperatorAfter, inputs_of, new_stage};
+ghost use Rattle.fragment_mill.specs.Milling.{own_value, next_of, HasWidth, CanTake, MadeAlike};
+
+use crate::mill::Stage;
+use crate::operator::Operator;
+use dpc_model::exact::Exact;
+use dpc_model::faults::{NoMemory, StepFault};
+use dpc_model::operators::{OpSpec, Wire};
+use dpc_model::tuples::{Tagged, Tuple, Tuples};
+use std::alloc::{AllocError, Global};
+
+/// Appends the tuples, tagged with a port.
+fn append_tuples(
+    alloc: Global,
+    gathered: &mut Vec<Tagged>,
+    port: u64,
+    tuples: &[Tuple],
+) -> Result<(), AllocError>
+    ensures { OnOk result (gathered.new.items ≡ gathered.old.items ++ map (tag port) tuples.now) }
+{
+    for tuple in tuples {
+        let tuple = tuple.copy(alloc)?;
+        gathered.push(Tagged { port, tuple })?;
+    }
+    Ok(())
+}
+
+/// Appends the tuples that came by port `from`, tagged with another port.
+fn append_port(
+    alloc: Global,
+    gathered: &mut Vec<Tagged>,
+    port: u64,
+    inputs: &[Tagged],
+    from: u64,
+) -> Result<(), AllocError>
+    ensures { OnOk result (gathered.new.items ≡ gathered.old.items ++ map (tag port) (at_port from inputs.now)) }
+{
+    for input in inputs {
+        if input.port == from {
+            let tuple = input.tuple.copy(alloc)?;
+            gathered.push(Tagged { port, tuple })?;
+        }
+    }
+    Ok(())
+}
+
+/// Appends what a wire reads of the inputs and of the outputs of the operators before, tagged with a port.
+fn append_wire(
+    alloc: Global,
+    gathered: &mut Vec<Tagged>,
+    port: u64,
+    inputs: &[Tagged],
+    outputs: &[Tuples],
+    wire: Wire,
+) -> Result<(), AllocError>
+    ensures { OnOk result (gathered.new.items ≡ gathered.old.items ++ map (tag port) (read_wire inputs.now outputs.now wire)) }
+{
+    match wire {
+        Wire::Port(from) => append_port(alloc, gathered, port, inputs, from),
+        Wire::Op(operator) => match outputs.get(operator as usize) {
+            Some(output) => append_tuples(alloc, gathered, port, output.as_slice()),
+            None => Ok(()),
+        },
+    }
+}
+
+/// What the wires read, each tagged with its number, in order of time, wire and place.
+fn gather(
+    alloc: Global,
+    reads: &[Wire],
+    inputs: &[Tagged],
+    outputs: &[Tuples],
+) -> Result<Vec<Tagged>, AllocError>
+    ensures { IfOk result (λ xs. xs.items ≡ serial (map (read_wire inputs.now outputs.now) reads.now)) }
+{
+    let mut gathered = Vec::new(alloc);
+    for (port, wire) in reads.iter().enumerate() {
+        append_wire(alloc, &mut gathered, port as u64, inputs, outputs, *wire)?;
+    }
+    gathered.sort_by_key(|input| input.tuple.stime)?;
+    Ok(gathered)
+}
+
+impl Stage {
+    /// An operator of a plan over buckets of this width, before bucket 0.
+    pub(crate) fn new(alloc: Global, op: &OpSpec, width: u64) -> Result<Stage, NoMemory>
+        requires { IsSoundKind op.now.kind }
+        ensures { IfOk result (λ s. s ≡ new_stage width op.now) }
+    {
+        let reads = op.reads.copy(alloc)?;
+        let operator = Operator::new(alloc, &op.kind, op.reads.len() as u64, width)?;
+        Ok(Stage { reads, operator })
+    }
+
+    /// Takes what it reads of bucket k, which is its operator's next one, where the operators before
+    /// it gave these outputs in this bucket. Answers the output that this adds.
+    pub(crate) fn bucket(
+        &mut self,
+        alloc: Global,
+        inputs: &[Tagged],
+        outputs: &[Tuples],
+        k: u64,
+    ) -> Result<Tuples, StepFault>
+        requires next { k ≡ next_of self.old.operator }
+        requires range { k + 1 < 2 ^ 64 }
+        requires accepts { CanTake self.old.operator k (inputs_of inputs.now outputs.now self.old) }
+        ensures answer { IfOk result (λ out. (width : ℕ) (before : List Tagged) → HasWidth width self.old.operator
+            → OperatorAfter self.old.operator before k
+            → out ≡ added_output (own_value self.old.operator) width before (inputs_of inputs.now outputs.now self.old) k) }
+        ensures after { OnOk result ((before : List Tagged) → OperatorAfter self.old.operator before k
+            → OperatorAfter self.new.operator (before ++ inputs_of inputs.now outputs.now self.old) (k + 1)) }
+        ensures reads { self.new.reads ≡ self.old.reads }
+        ensures made { MadeAlike self.old.operator self.new.operator }
+    {
+        let gathered = gather(alloc, self.reads.as_slice(), inputs, outputs)?;
+        self.operator.bucket(alloc, gathered.as_slice(), k)
+    }
+
+    /// The same stage in the same state.
+    pub(crate) fn copy(&self, alloc: Global) -> Result<Stage, StepFault>
+        ensures { IfOk result (λ other. other ≡ self.now) }
+    {
+        let reads = self.reads.copy(alloc)?;
+        let operator = self.operator.copy(alloc)?;
+        Ok(Stage { reads, operator })
+    }
+
+    /// Whether the two are the same stage in the same state.
+    pub(crate) fn same(&self, other: &Stage) -> bool
+        ensures { IsTrue result ↔ (self.now ≡ other.now) }
+    {
+        self.reads.same(&other.reads) && self.operator.same(&other.operator)
+    }
+}

@@ -1,0 +1,4 @@
+pub mod Columns
+pub mod Folds
+pub mod Ordered
+pub mod SoundPlans

@@ -1,0 +1,18 @@
+use Rattle.std.proofs.Common.{ℕ, ◌||◌, List, ◌∙◌, ap, rules}
+use Rattle.std.specs.Ordering.{nat_cmp}
+use Rattle.std.specs.BTreeSet.{contains}
+use Rattle.ops_join.specs.Sides.{is_partner, places_from, has_place}
+use Rattle.ops_join.proofs.Places.{take-all, filter-whole}
+use Rattle.ops_join.proofs.Steps.{has_place-push}
+use Rattle.ops_join.proofs.rows.add_partners.Goals as goal
+
+pub loop-place-preserved : goal.loop-place-preserved
+loop-place-preserved c = λ p.
+    has_place-push _ _ _ p c.deref-place-items.result.now c.loop-place.place-index (search rules) (c.loop-place.invariant p) (c.in_ok-insert.ensures.updates.0 p)
+
+pub returns : goal.returns
+returns c = λ p.
+    c.loop-place.invariant p
+    ∙ ap (λ (ps : List ℕ). contains nat_cmp c.args.places.now p || has_place p ps)
+    (take-all c.deref-place-items.result.now c.loop-place.place-index c.loop-place-test.false ∙ c.deref-place-items.ensures.value ∙ c.in_ok-partners.ensures.places
+    ∙ filter-whole (places_from (is_partner c.args.left.now.end c.args.within c.args.keys.now c.args.right.now) 0 c.args.left.now.tuples.items))

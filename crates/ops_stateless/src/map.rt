@@ -1,0 +1,140 @@
+//! The map.
+ghost use Rattle.std.specs.Prelude.{◌≡◌, List, ⊤, IfOk, refl, map};
+ghost use Rattle.dpc_model.specs.Operators.{mapped, mapped_tuple};
+ghost use Rattle.dpc_model.specs.Fragments.{at_port};
+ghost use Rattle.dpc_model.specs.Engines.{SameMake};
+ghost use Rattle.ops_stateless.specs.MapOps.{map_value, new_map};
+
+use crate::eval;
+use dpc_model::engines::Engine;
+use dpc_model::exact::Exact;
+use dpc_model::expressions::Expr;
+use dpc_model::faults::StepFault;
+use dpc_model::lists::Listed;
+use dpc_model::tuples::{Tagged, Tuple, Tuples};
+use std::alloc::{AllocError, Global};
+use std::marker::Model;
+
+/// Gives the values of its expressions on each tuple of port 0, at the tuple's time. Contracts see a
+/// `MapState`.
+#[derive(Drop)]
+pub struct MapOp {
+    exprs: Listed<Expr>,
+    next: u64,
+    spent: bool,
+}
+
+impl Model for MapOp {
+    ghost use Rattle.std.specs.Coded.{codes};
+    ghost use Rattle.dpc_model.specs.FormulaCode.{coded_formula};
+    ghost use Rattle.ops_stateless.specs.MapOps.{MapState};
+
+    ghost Value = { MapState };
+
+    ghost coded = { Prim.hlevel (codes, coded_formula) };
+
+    ghost view = { λ m. record { exprs = m.exprs; next = m.next; spent = m.spent } };
+}
+
+impl MapOp {
+    /// The map by these expressions, before bucket 0. It takes no memory.
+    pub fn new(exprs: Listed<Expr>) -> MapOp
+        ensures { result ≡ new_map exprs }
+    {
+        MapOp {
+            exprs,
+            next: 0,
+            spent: false,
+        }
+    }
+}
+
+/// The values of the expressions, at the tuple's time.
+fn mapped_one(alloc: Global, exprs: &[Expr], tuple: &Tuple) -> Result<Tuple, AllocError>
+    ensures { IfOk result (λ out. out ≡ mapped_tuple exprs.now tuple.now) }
+{
+    let mut vals = Vec::with_capacity(alloc, exprs.len())?;
+    for expr in exprs {
+        vals.push(eval(expr, tuple))?;
+    }
+    Ok(Tuple {
+        stime: tuple.stime,
+        vals: Listed::from_vec(vals),
+    })
+}
+
+/// What the tuples of port 0 become, in order.
+fn mapped_all(alloc: Global, exprs: &[Expr], inputs: &[Tagged]) -> Result<Tuples, AllocError>
+    ensures { IfOk result (λ out. out ≡ mapped exprs.now (at_port 0 inputs.now)) }
+{
+    let mut out = Vec::new(alloc);
+    for x in inputs {
+        if x.port == 0 {
+            out.push(mapped_one(alloc, exprs, &x.tuple)?)?;
+        }
+    }
+    Ok(Listed::from_vec(out))
+}
+
+impl Engine for MapOp {
+    ghost width = { λ m. 0 };
+
+    ghost value = { λ m. map_value m.exprs };
+
+    ghost accepts = { λ m k xs. ⊤ };
+
+    ghost next = { λ m. m.next };
+
+    ghost is_spent = { λ m. m.spent };
+
+    ghost after = { λ m xs k. m.next ≡ k };
+
+    ghost alike = { λ m n. m ≡ n };
+
+    ghost alike_make = { λ x y e. Prim.rw e (record {
+      width = refl;
+      value = λ xs b. refl;
+      accepts = λ k xs. (λ h. h, λ h. h);
+    }) };
+
+    ghost alike_after = { λ x y xs k e h. Prim.rw (← e) h };
+
+    ghost alike_next = { λ x y e. Prim.rw e refl };
+
+    fn bucket(&mut self, alloc: Global, inputs: &[Tagged], k: u64) -> Result<Tuples, StepFault> {
+        if self.spent {
+            return Err(StepFault::Spent);
+        }
+        match mapped_all(alloc, self.exprs.as_slice(), inputs) {
+            Ok(out) => {
+                self.next = k + 1;
+                Ok(out)
+            }
+            Err(_) => {
+                self.spent = true;
+                Err(StepFault::NoMemory)
+            }
+        }
+    }
+
+    fn copy(&self, alloc: Global) -> Result<Self, StepFault> {
+        if self.spent {
+            return Err(StepFault::Spent);
+        }
+        let exprs = self.exprs.copy(alloc)?;
+        Ok(MapOp {
+            exprs,
+            next: self.next,
+            spent: false,
+        })
+    }
+
+    fn same(&self, other: &Self) -> bool {
+        self.exprs.same(&other.exprs) && self.next == other.next && self.spent == other.spent
+    }
+
+    fn reset(&mut self) {
+        self.next = 0;
+        self.spent = false;
+    }
+}

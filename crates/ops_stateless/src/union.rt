@@ -1,0 +1,124 @@
+//! The union.
+ghost use Rattle.std.specs.Prelude.{◌≡◌, nat_lt, filter, map, IfOk, refl};
+ghost use Rattle.dpc_model.specs.Engines.{FitsBucket, SameMake};
+ghost use Rattle.dpc_model.specs.declared.tuples.Tagged.{Tagged};
+ghost use Rattle.ops_stateless.specs.Unions.{union_value, new_union, UnionAfter};
+
+use dpc_model::engines::Engine;
+use dpc_model::exact::Exact;
+use dpc_model::faults::StepFault;
+use dpc_model::lists::Listed;
+use dpc_model::tuples::{Tagged, Tuples};
+use std::alloc::{AllocError, Global};
+use std::marker::Model;
+
+/// Gives the tuples of its ports, which are numbered from 0, in order of time, port and place.
+/// Contracts see a `UnionState`.
+#[derive(Drop)]
+pub struct Union {
+    ports: u64,
+    width: u64,
+    next: u64,
+    spent: bool,
+}
+
+impl Model for Union {
+    ghost use Rattle.ops_stateless.specs.Unions.{UnionState};
+
+    ghost Value = { UnionState };
+
+    ghost view = { λ u. record { ports = u.ports; width = u.width; next = u.next; spent = u.spent } };
+}
+
+impl Union {
+    /// The union of so many ports over buckets of this width, before bucket 0. It takes no memory.
+    pub fn new(ports: u64, width: u64) -> Union
+        ensures { result ≡ new_union ports width }
+    {
+        Union {
+            ports,
+            width,
+            next: 0,
+            spent: false,
+        }
+    }
+}
+
+/// The tuples of the first ports, as they stand.
+fn passing(alloc: Global, ports: u64, inputs: &[Tagged]) -> Result<Tuples, AllocError>
+    ensures { IfOk result (λ out. out ≡ map (λ (x : Tagged). x.tuple) (filter (λ (x : Tagged). nat_lt x.port ports) inputs.now)) }
+{
+    let mut out = Vec::with_capacity(alloc, inputs.len())?;
+    for x in inputs {
+        if x.port < ports {
+            out.push(x.tuple.copy(alloc)?)?;
+        }
+    }
+    Ok(Listed::from_vec(out))
+}
+
+impl Engine for Union {
+    ghost width = { λ u. u.width };
+
+    ghost value = { λ u. union_value u.ports };
+
+    ghost accepts = { λ u k xs. FitsBucket u.width k xs };
+
+    ghost next = { λ u. u.next };
+
+    ghost is_spent = { λ u. u.spent };
+
+    ghost after = { λ u xs k. UnionAfter u xs k };
+
+    ghost alike = { λ u v. u ≡ v };
+
+    ghost alike_make = { λ x y e. Prim.rw e (record {
+      width = refl;
+      value = λ xs b. refl;
+      accepts = λ k xs. (λ h. h, λ h. h);
+    }) };
+
+    ghost alike_after = { λ x y xs k e h. Prim.rw (← e) h };
+
+    ghost alike_next = { λ x y e. Prim.rw e refl };
+
+    fn bucket(&mut self, alloc: Global, inputs: &[Tagged], k: u64) -> Result<Tuples, StepFault> {
+        if self.spent {
+            return Err(StepFault::Spent);
+        }
+        match passing(alloc, self.ports, inputs) {
+            Ok(out) => {
+                self.next = k + 1;
+                Ok(out)
+            }
+            Err(_) => {
+                self.spent = true;
+                Err(StepFault::NoMemory)
+            }
+        }
+    }
+
+    fn copy(&self, _alloc: Global) -> Result<Self, StepFault> {
+        if self.spent {
+            return Err(StepFault::Spent);
+        }
+        Ok(Union {
+            ports: self.ports,
+            width: self.width,
+            next: self.next,
+            spent: false,
+        })
+    }
+
+    fn same(&self, other: &Self) -> bool {
+        self.ports == other.ports
+            && self.width == other.width
+            && self.next == other.next
+            && self.spent == other.spent
+    }
+
+    fn reset(&mut self) {
+        self.next = 0;
+        self.spent = false;
+    }
+}

@@ -1,0 +1,9 @@
+pub mod Steps
+pub mod ExactTotals
+pub mod Lookups
+pub mod WindowCells
+pub mod CellOrder
+pub mod Feeds
+pub mod Held
+pub mod Ends
+pub mod Step

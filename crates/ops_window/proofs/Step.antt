@@ -1,0 +1,174 @@
+-- The step of a bucket: the rows that it adds, and the cells that it keeps.
+use Rattle.std.proofs.Common.{◌≡◌, ℕ, ◌+◌, ◌-◌, ◌*◌, ◌/◌, ◌<◌, ◌≤◌, ◌==◌, true, false, cond, List, [], ◌∷◌, ◌++◌, map, length, drop, refl, sym, ◌∙◌, ap, arith, Option, All}
+use Rattle.std.proofs.lemmas.Grind.{common_steps}
+use Rattle.std.proofs.lemmas.Bool.{eqb-false}
+use Rattle.std.proofs.lemmas.List.{append-nil}
+use Rattle.std.proofs.lemmas.List.Elements.{recursion_from_All}
+use Rattle.std.proofs.Math.Seq.{drop-append_seam}
+use Rattle.std.specs.List.{AllByRecursion, filter}
+use Rattle.dpc_model.specs.Operators.{aggregated, between, window_count, window_rows, group_rows}
+use Rattle.dpc_model.specs.Fragments.{at_port}
+use Rattle.dpc_model.specs.Engines.{LiesIn, LiesBelow, IsBucket, added_output}
+use Rattle.dpc_model.specs.declared.tuples.Tuple.{Tuple}
+use Rattle.dpc_model.specs.declared.tuples.Tagged.{Tagged}
+use Rattle.dpc_model.specs.declared.operators.Agg.{Agg}
+use Rattle.dpc_model.proofs.WindowCausality.{window_before, window_after}
+use Rattle.dpc_model.proofs.Buckets.{at_port-append, LiesBelow-next}
+use Rattle.ops_window.specs.Windows.{Cell, window_cells, begun_count, open_cells, aggregate_value, AggregateState, AggregateAfter}
+use Rattle.ops_window.specs.Feeding.{take_tuples, ended_cells, kept_cells, cell_row}
+use Rattle.ops_window.proofs.WindowCells.{cells_of}
+use Rattle.ops_window.proofs.CellOrder.{cells_of-each}
+use Rattle.ops_window.proofs.Held.{window_count-mono, begun-below, begun-of, count-le-begun, held-first, held-all, held-more}
+use Rattle.ops_window.proofs.Ends.{ended_cells-split, kept_cells-split, cells_of-rows, flat_map-split, flat_map-same, flat_map-none, between-early, between-late}
+
+-- what holds of all inputs holds of those of port 0
+port-each : (P : Tuple → Type 0) (xs : List Tagged) → AllByRecursion (λ (x : Tagged). P x.tuple) xs → AllByRecursion P (at_port 0 xs)
+port-each P [] h = tt
+port-each P (x ∷ xs) h = elim (x.port == 0) as (λ b. AllByRecursion P (map (λ (y : Tagged). y.tuple) (cond b (x ∷ filter (λ (y : Tagged). y.port == 0) xs) (filter (λ (y : Tagged). y.port == 0) xs)))) [
+  | true ↦ (h.0, port-each P xs h.1)
+  | false ↦ port-each P xs h.1
+]
+
+each-weaker : (P Q : Tuple → Type 0) → ((t : Tuple) → P t → Q t) → (ts : List Tuple) → AllByRecursion P ts → AllByRecursion Q ts
+each-weaker P Q w [] h = tt
+each-weaker P Q w (t ∷ ts) h = (w t h.0, each-weaker P Q w ts h.1)
+
+module _ (size step : ℕ) (group : Option ℕ) (aggs : List Agg) (some : 0 < size) (positive : 0 < step) (b b' : ℕ) (le : b ≤ b')
+    (ts us : List Tuple) (early : AllByRecursion (λ (t : Tuple). t.stime < b) ts) (inside : AllByRecursion (λ (t : Tuple). (b ≤ t.stime) × (t.stime < b')) us) where
+  -- the numbers: windows ended before, ended after, and begun
+  abbrev before : ℕ
+  before = window_count size step b
+
+  abbrev after : ℕ
+  after = window_count size step b'
+
+  abbrev begun : ℕ
+  begun = begun_count step b'
+
+  before-after : before ≤ after
+  before-after = window_count-mono size step b b' positive le
+
+  after-begun : after ≤ begun
+  after-begun = count-le-begun size step b' some positive
+
+  begun-more : begun_count step b ≤ begun
+  begun-more =
+      (elim (b == 0) as (λ x. (b == 0) ≡ x → cond x 0 ((b - 1) / step + 1) ≤ begun) [
+        | true ↦ λ e. omega arith
+        | false ↦ λ e. let some = eqb-false b 0 e in begun-of step b' (b - 1) positive (omega (arith, some, le))
+      ]) refl
+
+  -- no tuple was seen in a window that begins at b or later
+  no_cells : (j : ℕ) → begun_count step b ≤ j → window_cells group aggs (j * step) (between (j * step) (j * step + size) ts) ≡ []
+  no_cells j low = rw (between-early (j * step) (j * step + size) b ts (begun-below step b j positive low) early) refl
+
+  opened : open_cells size step group aggs ts b ≡ cells_of size step group aggs ts before (begun - before)
+  opened =
+      let first = count-le-begun size step b some positive in
+      let more = begun-more in
+      sym (flat_map-split (λ j. window_cells group aggs (j * step) (between (j * step) (j * step + size) ts)) before (begun_count step b - before) (begun - begun_count step b) (begun - before) (begun_count step b)
+      (omega (arith, first, more)) (omega (arith, first))
+      ∙ ap (λ (cs : List Cell). open_cells size step group aggs ts b ++ cs)
+      (flat_map-none (λ j. window_cells group aggs (j * step) (between (j * step) (j * step + size) ts)) (begun_count step b) (begun - begun_count step b) no_cells)
+      ∙ append-nil (open_cells size step group aggs ts b))
+
+  in_windows : AllByRecursion (λ (t : Tuple). (before ≤ window_count size step t.stime) × (t.stime / step + 1 ≤ before + (begun - before))) us
+  in_windows =
+      let one = before-after in
+      let two = after-begun in
+      each-weaker (λ (t : Tuple). (b ≤ t.stime) × (t.stime < b')) (λ (t : Tuple). (before ≤ window_count size step t.stime) × (t.stime / step + 1 ≤ before + (begun - before)))
+      (λ t h. let high = begun-of step b' t.stime positive h.1 in (window_count-mono size step b t.stime positive h.0, omega (arith, one, two, high))) us inside
+
+  abbrev fed : List Cell
+  fed = take_tuples size step group aggs (open_cells size step group aggs ts b) us
+
+  abbrev ended : List Cell
+  ended = cells_of size step group aggs (ts ++ us) before (after - before)
+
+  fed-is : fed ≡ cells_of size step group aggs (ts ++ us) before (begun - before)
+  fed-is =
+      ap (λ (cs : List Cell). take_tuples size step group aggs cs us) opened
+      ∙ held-all size step group aggs before (begun - before) positive _ (ts ++ us)
+      (held-more size step group aggs before (begun - before) positive _ ts us (held-first size step group aggs before (begun - before) positive ts) in_windows)
+
+  parts : fed ≡ ended ++ open_cells size step group aggs (ts ++ us) b'
+  parts =
+      let one = before-after in
+      let two = after-begun in
+      fed-is ∙ flat_map-split (λ j. window_cells group aggs (j * step) (between (j * step) (j * step + size) (ts ++ us))) before (after - before) (begun - after) (begun - before) after
+      (omega (arith, one, two)) (omega (arith, one))
+
+  ended-all : AllByRecursion (λ (c : Cell). c.0.0 + size ≤ b') ended
+  ended-all =
+      let one = before-after in
+      cells_of-each size step group aggs (ts ++ us) (λ s. s + size ≤ b') before (after - before)
+      (λ j low high. window_before size step b' j positive (omega (arith, one, low, high)))
+
+  open-all : AllByRecursion (λ (c : Cell). b' < c.0.0 + size) (open_cells size step group aggs (ts ++ us) b')
+  open-all = cells_of-each size step group aggs (ts ++ us) (λ s. b' < s + size) after (begun - after) (λ j low high. window_after size step b' j positive low)
+
+  pub kept-is : kept_cells size b' fed ≡ open_cells size step group aggs (ts ++ us) b'
+  kept-is =
+      ap (λ (cs : List Cell). kept_cells size b' cs) parts
+      ∙ kept_cells-split size b' ended (open_cells size step group aggs (ts ++ us) b') ended-all open-all
+
+  -- the rows of windows that ended before stay the same
+  old-rows : (j : ℕ) → 0 ≤ j → j < 0 + before → window_rows size group aggs (ts ++ us) (j * step) ≡ window_rows size group aggs ts (j * step)
+  old-rows j low high =
+      let ends = window_before size step b j positive (omega (arith, high)) in
+      ap (λ (vs : List Tuple). group_rows group aggs (j * step + size - 1) vs)
+      (between-late (j * step) (j * step + size) b ts us ends (each-weaker (λ (t : Tuple). (b ≤ t.stime) × (t.stime < b')) (λ (t : Tuple). b ≤ t.stime) (λ t h. h.0) us inside))
+
+  rows-split : aggregated size step group aggs (ts ++ us) b' ≡ aggregated size step group aggs ts b ++ map (cell_row size group aggs) ended
+  rows-split =
+      let one = before-after in
+      flat_map-split (λ j. window_rows size group aggs (ts ++ us) (j * step)) 0 before (after - before) after before (omega (arith, one)) (omega arith)
+      ∙ rw (flat_map-same (λ j. window_rows size group aggs (ts ++ us) (j * step)) (λ j. window_rows size group aggs ts (j * step)) 0 before old-rows, cells_of-rows size step group aggs (ts ++ us) before (after - before)) refl
+
+  pub rows-are : map (cell_row size group aggs) (ended_cells size b' fed) ≡ drop (length (aggregated size step group aggs ts b)) (aggregated size step group aggs (ts ++ us) b')
+  rows-are =
+      ap (λ (cs : List Cell). map (cell_row size group aggs) cs)
+      (ap (λ (cs : List Cell). ended_cells size b' cs) parts ∙ ended_cells-split size b' ended (open_cells size step group aggs (ts ++ us) b') ended-all open-all)
+      ∙ sym (ap (λ (rows : List Tuple). drop (length (aggregated size step group aggs ts b)) rows) rows-split
+      ∙ drop-append_seam (aggregated size step group aggs ts b) (map (cell_row size group aggs) ended))
+
+-- ---- the step of an aggregate
+
+module _ (a : AggregateState) (k : ℕ) (before bucket : List Tagged) (some : 0 < a.size) (positive : 0 < a.step) (held : AggregateAfter a before k) (fits : IsBucket a.width k bucket) where
+  abbrev begin : ℕ
+  begin = k * a.width
+
+  abbrev end : ℕ
+  end = (k + 1) * a.width
+
+  abbrev cells-fed : List Cell
+  cells-fed = take_tuples a.size a.step a.group a.aggs a.cells (at_port 0 bucket)
+
+  later : begin ≤ end
+  later = grind (arith, common_steps)
+
+  early : AllByRecursion (λ (t : Tuple). t.stime < begin) (at_port 0 before)
+  early = port-each (λ (t : Tuple). t.stime < begin) before (recursion_from_All (LiesBelow begin) before held.below)
+
+  inputs : AllByRecursion (λ (t : Tuple). (begin ≤ t.stime) × (t.stime < end)) (at_port 0 bucket)
+  inputs = port-each (λ (t : Tuple). (begin ≤ t.stime) × (t.stime < end)) bucket (recursion_from_All (LiesIn a.width k) bucket fits.inside)
+
+  from_open : cells-fed ≡ take_tuples a.size a.step a.group a.aggs (open_cells a.size a.step a.group a.aggs (at_port 0 before) begin) (at_port 0 bucket)
+  from_open = ap (λ (cs : List Cell). take_tuples a.size a.step a.group a.aggs cs (at_port 0 bucket)) held.cells
+
+  -- the rows are what the bucket adds
+  pub step-answer : map (cell_row a.size a.group a.aggs) (ended_cells a.size end cells-fed) ≡ added_output (aggregate_value a.size a.step a.group a.aggs) a.width before bucket k
+  step-answer =
+      ap (λ (cs : List Cell). map (cell_row a.size a.group a.aggs) (ended_cells a.size end cs)) from_open
+      ∙ rows-are a.size a.step a.group a.aggs some positive begin end later (at_port 0 before) (at_port 0 bucket) early inputs
+      ∙ ap (λ (ts : List Tuple). drop (length (aggregated a.size a.step a.group a.aggs (at_port 0 before) begin)) (aggregated a.size a.step a.group a.aggs ts end)) (sym (at_port-append 0 before bucket))
+
+  -- the cells that stay are those of the open windows
+  pub step-cells : kept_cells a.size end cells-fed ≡ open_cells a.size a.step a.group a.aggs (at_port 0 (before ++ bucket)) end
+  step-cells =
+      ap (λ (cs : List Cell). kept_cells a.size end cs) from_open
+      ∙ kept-is a.size a.step a.group a.aggs some positive begin end later (at_port 0 before) (at_port 0 bucket) early inputs
+      ∙ ap (λ (ts : List Tuple). open_cells a.size a.step a.group a.aggs ts end) (sym (at_port-append 0 before bucket))
+
+  pub step-below : All (LiesBelow end) (before ++ bucket)
+  step-below = LiesBelow-next a.width k before bucket held.below fits.inside

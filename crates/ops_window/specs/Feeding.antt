@@ -1,0 +1,121 @@
+-- The steps of an aggregate: a tuple is taken into the cells of its windows, and the cells of windows that ended become rows.
+use Rattle.std.specs.Prelude.{◌≡◌, ⊤, false, ℕ, ◌+◌, ◌-◌, ◌*◌, ◌/◌, nat_le, ℤ, pos, ◌+ℤ◌, Bool, List, [], ◌∷◌, ◌++◌, map, Option, Some, None, if◌then◌else◌}
+use Rattle.std.specs.Int.{int_min, int_max}
+use Rattle.std.specs.List.{fold, range_with_len}
+use Rattle.std.specs.Map.{lookup, set_value}
+use Rattle.std.specs.BTreeMap.{insert_entry, is_at}
+use Rattle.std.specs.declared.cmp.Ordering.{Ordering}
+use Rattle.std.specs.Ordering.{nat_cmp, int_cmp, ordering_then}
+use Rattle.dpc_model.specs.Values.{column, clamp}
+use Rattle.dpc_model.specs.Operators.{tuple_of, window_count}
+use Rattle.dpc_model.specs.declared.tuples.Tuple.{Tuple}
+use Rattle.dpc_model.specs.declared.operators.Agg.{Agg}
+use Rattle.dpc_model.specs.declared.operators.Agg.TheVariants.{Count, Sum, Min, Max}
+use Rattle.dpc_model.specs.Fragments.{at_port}
+use Rattle.dpc_model.specs.declared.tuples.Tagged.{Tagged}
+use Rattle.ops_window.specs.Windows.{Cell, group_of}
+use Rattle.ops_window.specs.declared.cells.Shape.{Shape}
+
+-- ---- totals
+
+-- a total over one tuple
+abbrev pub first_total : Tuple → Agg → ℤ
+first_total t Count = pos 1
+first_total t (Sum c) = column t c
+first_total t (Min c) = column t c
+first_total t (Max c) = column t c
+
+-- a total over one tuple more
+abbrev pub next_total : Tuple → Agg → ℤ → ℤ
+next_total t Count z = z +ℤ pos 1
+next_total t (Sum c) z = z +ℤ column t c
+next_total t (Min c) z = int_min z (column t c)
+next_total t (Max c) z = int_max z (column t c)
+
+-- each total over one tuple more
+abbrev pub next_totals : Tuple → List Agg → List ℤ → List ℤ
+next_totals t [] zs = zs
+next_totals t (a ∷ aggs) [] = []
+next_totals t (a ∷ aggs) (z ∷ zs) = next_total t a z ∷ next_totals t aggs zs
+
+-- ---- the cells
+
+-- the order of cells: by begin and then by group
+abbrev pub cell_cmp : ℕ × ℤ → ℕ × ℤ → Ordering
+cell_cmp x y = ordering_then (nat_cmp x.0 y.0) (int_cmp x.1 y.1)
+
+-- the totals of a cell, where it stands
+abbrev pub totals_at : ℕ × ℤ → List Cell → Option (List ℤ)
+totals_at key cells = lookup (is_at (cell_cmp key)) cells
+
+-- the cells with a tuple taken into one of them
+abbrev pub take_cell : List Agg → Tuple → List Cell → ℕ × ℤ → List Cell
+take_cell aggs t cells key = elim (totals_at key cells) [
+  | None ↦ insert_entry cell_cmp cells key (map (first_total t) aggs)
+  | Some totals ↦ set_value (is_at (cell_cmp key)) cells (next_totals t aggs totals)
+]
+
+-- the numbers of the windows in which a time lies
+abbrev pub window_numbers : ℕ → ℕ → ℕ → List ℕ
+window_numbers size step time = range_with_len (window_count size step time) (time / step + 1 - window_count size step time)
+
+-- the cells with a tuple taken into each of its windows
+abbrev pub take_tuple : ℕ → ℕ → Option ℕ → List Agg → List Cell → Tuple → List Cell
+take_tuple size step group aggs cells t =
+    fold (λ cs j. take_cell aggs t cs (j * step, group_of group t)) cells (window_numbers size step t.stime)
+
+-- the cells with these tuples taken in, one after the other
+abbrev pub take_tuples : ℕ → ℕ → Option ℕ → List Agg → List Cell → List Tuple → List Cell
+take_tuples size step group aggs cells ts = fold (take_tuple size step group aggs) cells ts
+
+-- ---- rows
+
+-- whether a cell's window ends at or below b
+abbrev pub has_ended : ℕ → ℕ → Cell → Bool
+has_ended size b cell = nat_le (cell.0.0 + size) b
+
+-- the first cells, as far as their windows end at or below b
+abbrev pub ended_cells : ℕ → ℕ → List Cell → List Cell
+ended_cells size b [] = []
+ended_cells size b (c ∷ cells) = if has_ended size b c then c ∷ ended_cells size b cells else []
+
+-- the cells behind those
+abbrev pub kept_cells : ℕ → ℕ → List Cell → List Cell
+kept_cells size b [] = []
+kept_cells size b (c ∷ cells) = if has_ended size b c then kept_cells size b cells else c ∷ cells
+
+-- a total as its row has it: a sum becomes the nearest value of i64
+abbrev pub finished : Agg → ℤ → ℤ
+finished Count z = z
+finished (Sum c) z = clamp z
+finished (Min c) z = z
+finished (Max c) z = z
+
+abbrev pub finished_totals : List Agg → List ℤ → List ℤ
+finished_totals [] zs = []
+finished_totals (a ∷ aggs) [] = []
+finished_totals (a ∷ aggs) (z ∷ zs) = finished a z ∷ finished_totals aggs zs
+
+-- what a row has before its totals: the group, where there is a group column
+abbrev pub group_values : Option ℕ → ℤ → List ℤ
+group_values None z = []
+group_values (Some c) z = z ∷ []
+
+-- a cell's row. Its time is the window's end minus 1
+abbrev pub cell_row : ℕ → Option ℕ → List Agg → Cell → Tuple
+cell_row size group aggs cell =
+    tuple_of (cell.0.0 + size - 1) (group_values group cell.0.1 ++ finished_totals aggs cell.1)
+
+-- there is no first cell whose window ends at or below b
+abbrev pub StaysAt : ℕ → ℕ → List Cell → Type 0
+StaysAt size b [] = ⊤
+StaysAt size b (c ∷ cells) = has_ended size b c ≡ false
+
+-- ---- of a shape
+
+-- the cells with the tuples of port 0 taken in
+abbrev pub fed_cells : Shape → List Cell → List Tagged → List Cell
+fed_cells shape cells xs = take_tuples shape.size shape.step shape.group shape.aggs cells (at_port 0 xs)
+
+abbrev pub row_of : Shape → Cell → Tuple
+row_of shape cell = cell_row shape.size shape.group shape.aggs cell

@@ -1,0 +1,76 @@
+-- An aggregate over windows as an engine over buckets, and the cells that it keeps.
+use Rattle.std.specs.Prelude.{◌≡◌, ℕ, ◌+◌, ◌-◌, ◌*◌, ◌/◌, ◌==◌, ℤ, pos, Bool, false, List, [], map, length, filter, flat_map, Option, Some, None, All, if◌then◌else◌}
+use Rattle.std.specs.Ordering.{int_eq}
+use Rattle.dpc_model.specs.Lists.{range_with_len}
+use Rattle.dpc_model.specs.Values.{column}
+use Rattle.dpc_model.specs.Operators.{aggregated, between, window_count, distinct_values, sum_of, least_value, greatest_value}
+use Rattle.dpc_model.specs.Fragments.{at_port}
+use Rattle.dpc_model.specs.Engines.{Value, LiesBelow}
+use Rattle.dpc_model.specs.declared.tuples.Tuple.{Tuple}
+use Rattle.dpc_model.specs.declared.tuples.Tagged.{Tagged}
+use Rattle.dpc_model.specs.declared.operators.Agg.{Agg}
+use Rattle.dpc_model.specs.declared.operators.Agg.TheVariants.{Count, Sum, Min, Max}
+
+-- an aggregate gives the rows of the windows over the tuples of port 0
+abbrev pub aggregate_value : ℕ → ℕ → Option ℕ → List Agg → Value
+aggregate_value size step group aggs xs b = aggregated size step group aggs (at_port 0 xs) b
+
+-- a cell: the begin of its window and its group, and a total for each aggregate
+abbrev pub Cell : Type 0
+Cell = (ℕ × ℤ) × List ℤ
+
+-- a tuple's group, 0 where there is no group column
+abbrev pub group_of : Option ℕ → Tuple → ℤ
+group_of None t = pos 0
+group_of (Some c) t = column t c
+
+-- an aggregate's total over tuples, before a sum is clamped
+abbrev pub exact_total : List Tuple → Agg → ℤ
+exact_total ts Count = pos (length ts)
+exact_total ts (Sum c) = sum_of (map (λ t. column t c) ts)
+exact_total ts (Min c) = least_value (map (λ t. column t c) ts)
+exact_total ts (Max c) = greatest_value (map (λ t. column t c) ts)
+
+-- the tuples of a group
+abbrev pub in_group : Option ℕ → ℤ → List Tuple → List Tuple
+in_group group z ts = filter (λ t. int_eq (group_of group t) z) ts
+
+-- the cells of a window's tuples: one for each group that occurs, in order
+abbrev pub window_cells : Option ℕ → List Agg → ℕ → List Tuple → List Cell
+window_cells group aggs start ts =
+    map (λ z. ((start, z), map (exact_total (in_group group z ts)) aggs)) (distinct_values (map (group_of group) ts))
+
+-- how many windows, one every step, begin below b
+abbrev pub begun_count : ℕ → ℕ → ℕ
+begun_count step b = if b == 0 then 0 else (b - 1) / step + 1
+
+-- the cells of the windows that begin below b and end above it, in order of begin and group
+abbrev pub open_cells : ℕ → ℕ → Option ℕ → List Agg → List Tuple → ℕ → List Cell
+open_cells size step group aggs ts b =
+    flat_map (λ j. window_cells group aggs (j * step) (between (j * step) (j * step + size) ts))
+    (range_with_len (window_count size step b) (begun_count step b - window_count size step b))
+
+-- what contracts see of an aggregate: the size of the windows, the step from one to the next, the
+-- group's column, the aggregates, the width of a bucket, the cells of the open windows, the next
+-- bucket, and whether it wanted memory
+pub record AggregateState : Type 0 where
+  pub size : ℕ
+  pub step : ℕ
+  pub group : Option ℕ
+  pub aggs : List Agg
+  pub width : ℕ
+  pub cells : List Cell
+  pub next : ℕ
+  pub spent : Bool
+
+-- an aggregate before bucket 0
+abbrev pub new_aggregate : ℕ → ℕ → Option ℕ → List Agg → ℕ → AggregateState
+new_aggregate size step group aggs width =
+    record { size = size; step = step; group = group; aggs = aggs; width = width; cells = []; next = 0; spent = false }
+
+-- it took these inputs, those below bucket k, and keeps exactly the totals of each open window and
+-- group in which a tuple was seen
+pub record AggregateAfter (a : AggregateState) (xs : List Tagged) (k : ℕ) : Type 0 where
+  pub next : a.next ≡ k
+  pub below : All (LiesBelow (k * a.width)) xs
+  pub cells : a.cells ≡ open_cells a.size a.step a.group a.aggs (at_port 0 xs) (k * a.width)
