@@ -36,7 +36,8 @@ enum Case {
     Windows,
     /// Groups with negative values, and the ends of i64.
     Groups,
-    /// A window that ends within a bucket, and one that ends after the last.
+    /// A window that begins before the first bucket with a tuple and ends within one, and windows that
+    /// end after the last.
     LateWindow,
     /// Windows with time between them.
     ApartWindows,
@@ -198,9 +199,9 @@ impl Case {
                 single(alloc, 20, &log, &[], kind, &[PORT])
             }
             Case::LateWindow => {
-                let kind = aggregate(alloc, 15, 15, None, &[Agg::Count])?;
-                let log: [Row; 3] = [(3, &[1]), (14, &[1]), (15, &[1])];
-                single(alloc, 20, &log, &[], kind, &[PORT])
+                let kind = aggregate(alloc, 35, 15, None, &[Agg::Count, Agg::Min(0)])?;
+                let log: [Row; 3] = [(13, &[7]), (34, &[8]), (35, &[9])];
+                single(alloc, 40, &log, &[], kind, &[PORT])
             }
             Case::ApartWindows => {
                 let kind = aggregate(alloc, 5, 20, None, &[Agg::Sum(0)])?;
@@ -250,7 +251,7 @@ impl Case {
                 (9, &[2, -7, -7, -7]),
                 (19, &[2, i64::MAX, i64::MAX, i64::MAX]),
             ],
-            Case::LateWindow => &[(14, &[2])],
+            Case::LateWindow => &[(34, &[2, 7])],
             Case::ApartWindows => &[(4, &[1]), (24, &[3])],
             Case::ReadTwice => &[
                 (4, &[i64::MIN, i64::MAX]),
