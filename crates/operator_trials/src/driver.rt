@@ -68,8 +68,22 @@ fn count_below(inputs: &[Tagged], time: u64) -> usize
     count
 }
 
+/// Who takes the next bucket.
+#[derive(Clone, Copy, PartialEq, Eq)]
+pub enum Miller {
+    /// The mill that took those before.
+    Itself,
+    /// A copy of it.
+    Copy,
+}
+
 /// The output of the first fragment over the first buckets. Its ports are the sources in order.
-pub fn milled(alloc: Global, plan: &Plan, buckets: u64) -> Result<Vec<Tuple>, Trouble> {
+pub fn milled(
+    alloc: Global,
+    plan: &Plan,
+    buckets: u64,
+    miller: Miller,
+) -> Result<Vec<Tuple>, Trouble> {
     if !is_sound(plan) || plan.frags.is_empty() {
         return Err(Trouble::BadPlan);
     }
@@ -83,6 +97,9 @@ pub fn milled(alloc: Global, plan: &Plan, buckets: u64) -> Result<Vec<Tuple>, Tr
         rest = later;
         if !fits_bucket(bucket, plan.width, k) {
             return Err(Trouble::BadPlan);
+        }
+        if miller == Miller::Copy {
+            mill = mill.copy(alloc)?;
         }
         for row in mill.bucket(alloc, bucket, k)?.into_vec() {
             rows.push(row)?;

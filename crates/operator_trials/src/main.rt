@@ -8,7 +8,7 @@ mod driver;
 mod tests;
 
 use crate::diagrams::Diagram;
-use crate::driver::{Trouble, milled};
+use crate::driver::{Miller, Trouble, milled};
 use dpc_model::faults::NoMemory;
 use dpc_model::tuples::Tuple;
 use std::alloc::Global;
@@ -51,7 +51,7 @@ fn checksum(rows: &[Tuple]) -> u64 {
 /// The rows of a diagram over generated streams.
 fn rows(alloc: Global, request: &Request) -> Result<Vec<Tuple>, Trouble> {
     let plan = diagrams::generated(alloc, request.diagram, request.tuples, request.buckets)?;
-    milled(alloc, &plan, request.buckets)
+    milled(alloc, &plan, request.buckets, Miller::Itself)
 }
 
 fn main(rt: HostRuntime) -> ExitCode {

@@ -1,7 +1,8 @@
 //! A table of small diagrams: their rows, counted by a person, and that they are bucket by bucket those
 //! of the plain program over whole lists.
 use crate::diagrams::{Diagram, binary, generated, leaf, operator, plan};
-use crate::driver::{Trouble, milled};
+use crate::driver::{Miller, Trouble, milled};
+use dpc_model::engines::{Engine, fits_bucket};
 use dpc_model::exact::Exact;
 use dpc_model::expressions::{BinOp, ExprNode};
 use dpc_model::faults::NoMemory;
@@ -9,6 +10,7 @@ use dpc_model::lists::Listed;
 use dpc_model::operators::{Agg, OpKind, OpSpec, Wire};
 use dpc_model::plans::{Plan, StreamRef};
 use dpc_model::tuples::{Tuple, Tuples};
+use fragment_mill::mill::FragMill;
 use ideal_eval::ideal;
 use ideal_eval::sound::is_sound;
 use std::alloc::Global;
@@ -273,11 +275,11 @@ fn are_rows(tuples: &[Tuple], rows: &[Row]) -> bool {
 }
 
 /// Whether a mill gives over so many buckets what the plain program gives up to their end.
-fn agrees(alloc: Global, plan: &Plan, buckets: u64) -> Result<bool, Trouble> {
+fn agrees(alloc: Global, plan: &Plan, buckets: u64, miller: Miller) -> Result<bool, Trouble> {
     if !is_sound(plan) {
         return Err(Trouble::BadPlan);
     }
-    let milled = Listed::from_vec(milled(alloc, plan, buckets)?);
+    let milled = Listed::from_vec(milled(alloc, plan, buckets, miller)?);
     let end = buckets.saturating_mul(plan.width);
     let wanted = ideal(alloc, plan, StreamRef::Frag(0), end)?;
     Ok(milled.same(&wanted))
@@ -292,14 +294,37 @@ fn mills_agree_with_whole_lists(rt: HostRuntime) -> Result<(), Fail> {
         };
         let buckets = plan.end.checked_div(plan.width).unwrap_or(0);
         for k in 0..=buckets {
-            assert_eq!(rt; agrees(alloc, &plan, k), Ok(true));
+            assert_eq!(rt; agrees(alloc, &plan, k, Miller::Itself), Ok(true));
         }
         if case != Case::Chain {
-            let Ok(rows) = milled(alloc, &plan, buckets) else {
+            let Ok(rows) = milled(alloc, &plan, buckets, Miller::Itself) else {
                 return Ok(assert!(rt; false));
             };
             assert!(rt; are_rows(rows.as_slice(), case.rows()));
         }
     }
+    Ok(())
+}
+
+#[test]
+fn copies_go_on_alike(rt: HostRuntime) -> Result<(), Fail> {
+    let alloc = rt.alloc();
+    let Ok(plan) = Case::Chain.plan(alloc) else {
+        return Ok(assert!(rt; false));
+    };
+    assert_eq!(rt; agrees(alloc, &plan, 12, Miller::Copy), Ok(true));
+    assert!(rt; is_sound(&plan) && !plan.frags.is_empty());
+    let (Ok(mut mill), Ok(other)) = (
+        FragMill::new(alloc, &plan, 0),
+        FragMill::new(alloc, &plan, 0),
+    ) else {
+        return Ok(assert!(rt; false));
+    };
+    assert!(rt; mill.same(&other));
+    assert!(rt; fits_bucket(&[], plan.width, 0));
+    assert!(rt; mill.bucket(alloc, &[], 0).is_ok());
+    assert!(rt; !mill.same(&other));
+    mill.reset();
+    assert!(rt; mill.same(&other));
     Ok(())
 }
