@@ -1,5 +1,5 @@
 //! The node of a small run: one filter.
-ghost use Rattle.std.specs.Prelude.{◌≡◌, ℕ, ◌+◌, ◌-◌, ◌*◌, ◌/◌, ◌^◌, ◌<◌, ◌≤◌, true, false, Some, All, IfOk, IfSome, OnOk, OnErr, slice_get, ◌∷◌, [], ◌++◌, map, take, drop, length, is_some, nat_le, nat_eq};
+ghost use Rattle.std.specs.Prelude.{◌≡◌, ℕ, ◌+◌, ◌-◌, ◌*◌, ◌/◌, ◌^◌, ◌<◌, ◌≤◌, true, false, Some, IfOk, IfSome, OnOk, OnErr, slice_get, ◌∷◌, [], ◌++◌, map, take, drop, length, is_some, nat_le, nat_eq};
 ghost use Rattle.std.specs.Map.{keys_of};
 ghost use Rattle.std.specs.List.{IsDistinct};
 ghost use Rattle.std.proofs.Props.{props};

@@ -1,6 +1,6 @@
 //! The run of a script of the first form on one thread: a source, a node and a client, and the batches
 //! between them. Links lose nothing, and a batch comes in the phase after the one that it was sent in.
-ghost use Rattle.std.specs.Prelude.{◌≡◌, ℕ, ◌+◌, ◌^◌, ◌<◌, ◌≤◌, ◌∷◌, [], ◌++◌, List, length, map, All, OnOk, Some, slice_get};
+ghost use Rattle.std.specs.Prelude.{◌≡◌, ℕ, ◌+◌, ◌^◌, ◌<◌, ◌≤◌, ◌∷◌, [], ◌++◌, List, length, map, OnOk, Some, slice_get};
 
 use crate::batch::Batch;
 use crate::small_client::SmallClient;

@@ -1,5 +1,5 @@
 //! The source of a small run.
-ghost use Rattle.std.specs.Prelude.{◌≡◌, ◌≤◌, ◌++◌, false, length, All, IfOk, IfSome};
+ghost use Rattle.std.specs.Prelude.{◌≡◌, ◌≤◌, ◌++◌, false, length, IfOk, IfSome};
 ghost use Rattle.dpc_model.specs.Streams.{InOrder, count_below};
 ghost use Rattle.borealis_top.specs.OrderProps.{InOrder-prop};
 

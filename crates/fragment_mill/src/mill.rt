@@ -2,7 +2,7 @@
 ghost use Rattle.std.specs.Prelude.{◌≡◌, ◌+◌, ◌^◌, ◌<◌, ◌++◌, ◌↔◌, List, [], map, length, slice_get, unwrap_or, true, false, Some, None, IfOk, OnOk, OnErr, IsTrue, is_err, All, refl};
 ghost use Rattle.std.specs.List.{AllZip};
 ghost use Rattle.dpc_model.specs.Lists.{last_or};
-ghost use Rattle.dpc_model.specs.Engines.{FitsBucket, SameMake, SameValue, added_output};
+ghost use Rattle.dpc_model.specs.Engines.{FitsBucket, SameValue, added_output};
 ghost use Rattle.dpc_model.specs.Fragments.{fragment_value, AreSoundFrags, AreSoundOps};
 ghost use Rattle.dpc_model.specs.declared.plans.FragSpec.{FragSpec};
 ghost use Rattle.dpc_model.specs.declared.tuples.Tagged.{Tagged};

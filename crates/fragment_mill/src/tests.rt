@@ -1,6 +1,6 @@
 //! What no clause says: the answers of a small fragment, counted by a person, and that calls succeed
 //! where there is memory.
-ghost use Rattle.std.specs.Prelude.{◌≡◌, ◌+◌, ◌*◌, ◌<◌, ◌≤◌, ℕ, [], ◌∷◌, IfOk, OnOk};
+ghost use Rattle.std.specs.Prelude.{◌≡◌, ◌+◌, ◌*◌, ◌<◌, ◌≤◌, ℕ, [], ◌∷◌, IfOk};
 ghost use Rattle.dpc_model.specs.Engines.{IsBucket};
 ghost use Rattle.dpc_model.specs.Fragments.{AreSoundFrags, AreSoundOps};
 ghost use Rattle.dpc_model.specs.declared.plans.FragSpec.{FragSpec};

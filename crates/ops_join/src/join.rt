@@ -2,7 +2,7 @@
 ghost use Rattle.std.specs.Prelude.{◌≡◌, ◌++◌, IfOk, OnOk, refl};
 ghost use Rattle.dpc_model.specs.Streams.{InOrder};
 ghost use Rattle.dpc_model.specs.Fragments.{at_port};
-ghost use Rattle.dpc_model.specs.Engines.{FitsBucket, SameMake};
+ghost use Rattle.dpc_model.specs.Engines.{FitsBucket};
 ghost use Rattle.ops_join.specs.Joins.{join_value, new_join, kept_from, JoinAfter};
 ghost use Rattle.ops_join.specs.Sides.{bucket_rows};
 ghost use Rattle.ops_join.specs.Keeping.{IsIndexed};
@@ -13,7 +13,7 @@ use crate::rows::{add_new_rows, late_rows, sorted};
 use crate::side::Side;
 use dpc_model::engines::Engine;
 use dpc_model::exact::Exact;
-use dpc_model::faults::StepFault;
+use dpc_model::faults::{NoMemory, StepFault};
 use dpc_model::lists::Listed;
 use dpc_model::tuples::{Tagged, Tuple, Tuples};
 use std::alloc::Global;
@@ -87,7 +87,7 @@ fn added_rows(
     left: &mut Side,
     right: &mut Side,
     inputs: &[Tagged],
-) -> Result<Vec<Tuple>, StepFault>
+) -> Result<Vec<Tuple>, NoMemory>
     requires left_end { left.old.end ≡ Left }
     requires right_end { right.old.end ≡ Right }
     requires left_indexed { IsIndexed keys.now left.old }
@@ -120,7 +120,7 @@ fn advanced(
     right: &mut Side,
     inputs: &[Tagged],
     end: u64,
-) -> Result<Vec<Tuple>, StepFault>
+) -> Result<Vec<Tuple>, NoMemory>
     requires left_end { left.old.end ≡ Left }
     requires right_end { right.old.end ≡ Right }
     requires left_indexed { IsIndexed keys.now left.old }
@@ -187,7 +187,7 @@ impl Engine for Join {
                 self.next = k + 1;
                 Ok(Listed::from_vec(rows))
             }
-            Err(_) => {
+            Err(NoMemory) => {
                 self.left.clear();
                 self.right.clear();
                 self.spent = true;
@@ -201,8 +201,11 @@ impl Engine for Join {
             return Err(StepFault::Spent);
         }
         let keys = self.keys.copy(alloc)?;
-        let left = self.left.copy(alloc, keys.as_slice())?;
-        let right = self.right.copy(alloc, keys.as_slice())?;
+        let left = self.left.copy(alloc, keys.as_slice());
+        let right = self.right.copy(alloc, keys.as_slice());
+        let (Ok(left), Ok(right)) = (left, right) else {
+            return Err(StepFault::NoMemory);
+        };
         Ok(Join {
             within: self.within,
             keys,

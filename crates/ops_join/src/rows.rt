@@ -11,7 +11,7 @@ ghost use Rattle.ops_join.specs.Keeping.{IsIndexed};
 ghost use Rattle.ops_join.specs.declared.ends.End.TheVariants.{Left, Right};
 
 use crate::side::Side;
-use dpc_model::faults::StepFault;
+use dpc_model::faults::NoMemory;
 use dpc_model::lists::Listed;
 use dpc_model::tuples::Tuple;
 use std::alloc::{AllocError, Global};
@@ -38,7 +38,7 @@ pub fn add_rows(
     right: &Side,
     from: usize,
     rows: &mut Vec<Tuple>,
-) -> Result<(), StepFault>
+) -> Result<(), NoMemory>
     requires end { right.now.end ≡ Right }
     requires indexed { IsIndexed keys.now right.now }
     requires from { from ≤ length right.now.tuples.items }
@@ -59,7 +59,7 @@ fn add_partners(
     left: &Side,
     right: &Tuple,
     places: &mut BTreeSet<usize>,
-) -> Result<(), StepFault>
+) -> Result<(), NoMemory>
     requires indexed { IsIndexed keys.now left.now }
     ensures { OnOk result ((p : ℕ) → contains nat_cmp places.new p
         ≡ (contains nat_cmp places.old p || has_place p (places_from (is_partner left.now.end within keys.now right.now) 0 left.now.tuples.items))) }
@@ -79,7 +79,7 @@ fn with_partners(
     left: &Side,
     right: &Side,
     from: usize,
-) -> Result<BTreeSet<usize>, StepFault>
+) -> Result<BTreeSet<usize>, NoMemory>
     requires end { left.now.end ≡ Left }
     requires indexed { IsIndexed keys.now left.now }
     requires from { from ≤ length right.now.tuples.items }
@@ -101,7 +101,7 @@ pub fn late_rows(
     left: &Side,
     right: &Side,
     from: usize,
-) -> Result<Vec<Tuple>, StepFault>
+) -> Result<Vec<Tuple>, NoMemory>
     requires left_end { left.now.end ≡ Left }
     requires right_end { right.now.end ≡ Right }
     requires left_indexed { IsIndexed keys.now left.now }
@@ -134,7 +134,7 @@ pub fn add_new_rows(
     right: &Side,
     from: usize,
     rows: &mut Vec<Tuple>,
-) -> Result<(), StepFault>
+) -> Result<(), NoMemory>
     requires end { right.now.end ≡ Right }
     requires indexed { IsIndexed keys.now right.now }
     requires from { from ≤ length left.now.tuples.items }

@@ -1,16 +1,15 @@
 //! One side of a join.
-ghost use Rattle.std.specs.Prelude.{◌≡◌, ◌+◌, ◌*◌, ◌^◌, ◌<◌, ◌≤◌, ◌↔◌, ℕ, List, [], ◌∷◌, ◌++◌, map, filter, length, drop, nat_le, IfOk, IfErr, OnOk, IsTrue, true, All};
+ghost use Rattle.std.specs.Prelude.{◌≡◌, ◌+◌, ◌*◌, ◌<◌, ◌≤◌, ◌↔◌, ℕ, List, [], ◌∷◌, ◌++◌, filter, length, drop, nat_le, IfOk, OnOk, IsTrue, true, All};
 ghost use Rattle.dpc_model.specs.Streams.{InOrder};
 ghost use Rattle.dpc_model.specs.Operators.{is_within};
 ghost use Rattle.dpc_model.specs.Fragments.{at_port};
-ghost use Rattle.dpc_model.specs.declared.faults.StepFault.TheVariants as step;
 ghost use Rattle.ops_join.specs.Joins.{kept_from};
 ghost use Rattle.ops_join.specs.Sides.{port_of, key_of as key_at, shares_key, is_partner, places_from, is_over as is_first_over};
 ghost use Rattle.ops_join.specs.Keeping.{IsIndexed};
 
 use crate::ends::End;
 use dpc_model::exact::Exact;
-use dpc_model::faults::StepFault;
+use dpc_model::faults::NoMemory;
 use dpc_model::tuples::{Tagged, Tuple};
 use std::alloc::{AllocError, Global};
 use std::collections::{BTreeSet, VecDeque};
@@ -77,16 +76,15 @@ impl Side {
     }
 
     /// Takes one more tuple. After an error the side is to be cleared.
-    fn push(&mut self, alloc: Global, keys: &[(u64, u64)], tuple: Tuple) -> Result<(), StepFault>
+    fn push(&mut self, alloc: Global, keys: &[(u64, u64)], tuple: Tuple) -> Result<(), NoMemory>
         requires indexed { IsIndexed keys.now self.old }
         ensures end { self.new.end ≡ self.old.end }
         ensures tuples { OnOk result (self.new.tuples.items ≡ self.old.tuples.items ++ tuple ∷ []) }
-        ensures fault { IfErr result (λ fault. fault ≡ step.NoMemory) }
         ensures indexed { OnOk result (IsIndexed keys.now self.new) }
     {
         let number = self.first + self.tuples.len() as u64;
         if number == u64::MAX {
-            return Err(StepFault::NoMemory);
+            return Err(NoMemory);
         }
         let key = key_of(alloc, keys, self.end, &tuple)?;
         self.index.insert((key, number))?;
@@ -100,7 +98,7 @@ impl Side {
         alloc: Global,
         keys: &[(u64, u64)],
         inputs: &[Tagged],
-    ) -> Result<(), StepFault>
+    ) -> Result<(), NoMemory>
         requires indexed { IsIndexed keys.now self.old }
         ensures end { self.new.end ≡ self.old.end }
         ensures tuples { OnOk result (self.new.tuples.items ≡ self.old.tuples.items ++ at_port (port_of self.old.end) inputs.now) }
@@ -125,7 +123,7 @@ impl Side {
     }
 
     /// Lets the first tuple go. After an error the side is to be cleared.
-    fn drop_first(&mut self, alloc: Global, keys: &[(u64, u64)]) -> Result<(), StepFault>
+    fn drop_first(&mut self, alloc: Global, keys: &[(u64, u64)]) -> Result<(), NoMemory>
         requires indexed { IsIndexed keys.now self.old }
         requires some { 0 < length self.old.tuples.items }
         ensures end { self.new.end ≡ self.old.end }
@@ -147,7 +145,7 @@ impl Side {
         keys: &[(u64, u64)],
         within: u64,
         begin: u64,
-    ) -> Result<(), StepFault>
+    ) -> Result<(), NoMemory>
         requires indexed { IsIndexed keys.now self.old }
         requires order { InOrder self.old.tuples.items }
         ensures end { self.new.end ≡ self.old.end }
@@ -168,7 +166,7 @@ impl Side {
         keys: &[(u64, u64)],
         of: &Tuple,
         from: usize,
-    ) -> Result<Vec<usize>, StepFault>
+    ) -> Result<Vec<usize>, NoMemory>
         requires indexed { IsIndexed keys.now self.now }
         requires from { from ≤ length self.now.tuples.items }
         ensures places { IfOk result (λ places. places.items
@@ -197,7 +195,7 @@ impl Side {
         keys: &[(u64, u64)],
         of: &Tuple,
         from: usize,
-    ) -> Result<Vec<usize>, StepFault>
+    ) -> Result<Vec<usize>, NoMemory>
         requires indexed { IsIndexed keys.now self.now }
         requires from { from ≤ length self.now.tuples.items }
         ensures places { IfOk result (λ places. places.items
@@ -215,8 +213,7 @@ impl Side {
     }
 
     /// The same tuples again.
-    pub fn copy(&self, alloc: Global, keys: &[(u64, u64)]) -> Result<Side, StepFault>
-        ensures fault { IfErr result (λ fault. fault ≡ step.NoMemory) }
+    pub fn copy(&self, alloc: Global, keys: &[(u64, u64)]) -> Result<Side, NoMemory>
         ensures end { IfOk result (λ other. other.end ≡ self.now.end) }
         ensures tuples { IfOk result (λ other. other.tuples.items ≡ self.now.tuples.items) }
         ensures indexed { IfOk result (λ other. IsIndexed keys.now other) }

@@ -1,8 +1,7 @@
 //! The map.
-ghost use Rattle.std.specs.Prelude.{◌≡◌, List, ⊤, IfOk, refl, map};
+ghost use Rattle.std.specs.Prelude.{◌≡◌, ⊤, IfOk, refl, map};
 ghost use Rattle.dpc_model.specs.Operators.{mapped, mapped_tuple};
 ghost use Rattle.dpc_model.specs.Fragments.{at_port};
-ghost use Rattle.dpc_model.specs.Engines.{SameMake};
 ghost use Rattle.ops_stateless.specs.MapOps.{map_value, new_map};
 
 use crate::eval;

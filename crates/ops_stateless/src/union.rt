@@ -1,6 +1,6 @@
 //! The union.
 ghost use Rattle.std.specs.Prelude.{◌≡◌, nat_lt, filter, map, IfOk, refl};
-ghost use Rattle.dpc_model.specs.Engines.{FitsBucket, SameMake};
+ghost use Rattle.dpc_model.specs.Engines.{FitsBucket};
 ghost use Rattle.dpc_model.specs.declared.tuples.Tagged.{Tagged};
 ghost use Rattle.ops_stateless.specs.Unions.{union_value, new_union, UnionAfter};
 

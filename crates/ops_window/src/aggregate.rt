@@ -1,6 +1,6 @@
 //! The aggregate over windows.
 ghost use Rattle.std.specs.Prelude.{◌≡◌, ◌<◌, refl};
-ghost use Rattle.dpc_model.specs.Engines.{FitsBucket, SameMake};
+ghost use Rattle.dpc_model.specs.Engines.{FitsBucket};
 ghost use Rattle.ops_window.specs.Windows.{aggregate_value, new_aggregate, AggregateAfter};
 
 use crate::cells::{Cells, Shape, are_same, copied};
