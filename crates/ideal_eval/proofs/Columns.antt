@@ -1,11 +1,10 @@
 -- The values of a column, from the last tuple on.
 use Rattle.std.proofs.Common.{◌≡◌, ℕ, zero, suc, ◌+◌, ◌<◌, ℤ, List, [], ◌∷◌, length, drop, get_or, refl, arith}
 use Rattle.std.proofs.lemmas.Grind.{common_steps}
-use Rattle.std.specs.Int.{int_min, int_max}
 use Rattle.std.specs.Ordering.{int_cmp}
 use Rattle.std.specs.BTreeSet.{insert_key}
 use Rattle.dpc_model.specs.Values.{column}
-use Rattle.dpc_model.specs.Operators.{least_value, greatest_value, insert_value}
+use Rattle.dpc_model.specs.Operators.{insert_value}
 use Rattle.dpc_model.specs.declared.tuples.Tuple.{Tuple}
 use Rattle.ideal_eval.specs.Rows.{column_values}
 
@@ -16,20 +15,6 @@ column_values-drop c (t ∷ ts) zero d h = refl
 column_values-drop c (t ∷ ts) (suc i) d h =
     let e : suc i + 1 ≡ suc (i + 1) = omega arith in
     rw e (column_values-drop c ts i d (omega (arith, h)))
-
--- some tuples have some values
-pub column_values-some : (c : ℕ) (ts : List Tuple) (i : ℕ) → i < length ts → 0 < length (column_values c (drop i ts))
-column_values-some c [] i h = absurd (omega (arith, h))
-column_values-some c (t ∷ ts) zero h = omega arith
-column_values-some c (t ∷ ts) (suc i) h = column_values-some c ts i (omega (arith, h))
-
-pub least_value-more : (z : ℤ) (zs : List ℤ) → 0 < length zs → least_value (z ∷ zs) ≡ int_min z (least_value zs)
-least_value-more z [] h = absurd (omega (arith, h))
-least_value-more z (y ∷ ys) h = refl
-
-pub greatest_value-more : (z : ℤ) (zs : List ℤ) → 0 < length zs → greatest_value (z ∷ zs) ≡ int_max z (greatest_value zs)
-greatest_value-more z [] h = absurd (omega (arith, h))
-greatest_value-more z (y ∷ ys) h = refl
 
 -- a set takes a value as the definition does
 pub insert_key-value : (z : ℤ) (zs : List ℤ) → insert_key int_cmp zs z ≡ insert_value z zs

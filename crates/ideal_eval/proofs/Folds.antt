@@ -20,7 +20,7 @@ outputs_after-more outs (op ∷ ops) xs b (suc i) d h =
     let e : suc i + 1 ≡ suc (i + 1) = omega arith in
     rw e (outputs_after-more (push outs (output_of op.kind (map (read_wire xs outs) op.reads) b)) ops xs b i d (omega (arith, h)))
 
-pub fragments_upto-more : (plan : Plan) (b : ℕ) (values : List (List Tuple)) (frags : List FragSpec) (i : ℕ) (d : FragSpec) → i < length frags →
+fragments_upto-more : (plan : Plan) (b : ℕ) (values : List (List Tuple)) (frags : List FragSpec) (i : ℕ) (d : FragSpec) → i < length frags →
     let before = fragments_upto plan b values (take i frags) in
     fragments_upto plan b values (take (i + 1) frags)
     ≡ push before (fragment_value (get_or frags i d).ops (serial (map (stream_upto plan b before) (get_or frags i d).inputs)) b)
@@ -41,17 +41,13 @@ sound-frag [] i d h s = absurd (omega (arith, h))
 sound-frag (f ∷ frags) zero d h s = s.0
 sound-frag (f ∷ frags) (suc i) d h s = sound-frag frags i d (omega (arith, h)) s.1
 
--- the last output, or none
+-- the last output
 pub last-some : (outs rest : List (List Tuple)) (ts : List Tuple) → outs ≡ rest ++ ts ∷ [] → unwrap_or (last_or None outs) [] ≡ ts
 last-some outs rest ts h = rw h (behind None rest)
   where
     behind : (p : Option (List Tuple)) (tss : List (List Tuple)) → unwrap_or (last_or p (tss ++ ts ∷ [])) [] ≡ ts
     behind p [] = refl
     behind p (us ∷ tss) = behind (Some us) tss
-
-pub last-none : (outs : List (List Tuple)) → length outs ≡ 0 → unwrap_or (last_or None outs) [] ≡ []
-last-none [] h = refl
-last-none (ts ∷ outs) h = absurd (omega (arith, h))
 
 -- one group more
 pub rows-more : (f : ℤ → Tuple) (out new first : List Tuple) (all left rest : List ℤ) (z : ℤ) → out ++ map f left ≡ first ++ map f all → left ≡ z ∷ rest → new ≡ out ++ f z ∷ [] →

@@ -1,5 +1,5 @@
-//! A table of small diagrams: their rows, counted by a person, and that they are bucket by bucket those
-//! of the plain program over whole lists.
+//! A table of small diagrams: their rows, counted by hand, and that they are bucket by bucket those of
+//! the plain program over whole lists.
 use crate::diagrams::{Diagram, binary, generated, leaf, operator, plan};
 use crate::driver::{Miller, Trouble, milled};
 use dpc_model::engines::{Engine, fits_bucket};
@@ -94,6 +94,18 @@ fn single(
     plan(alloc, 10, end, logs, ops)
 }
 
+/// The rows of eight inputs.
+const EIGHT: [Row; 8] = [
+    (5, &[8]),
+    (5, &[7]),
+    (5, &[6]),
+    (5, &[5]),
+    (5, &[4]),
+    (5, &[3]),
+    (5, &[2]),
+    (5, &[1]),
+];
+
 const PORT: Wire = Wire::Port(0);
 
 const PORTS: [Wire; 2] = [Wire::Port(0), Wire::Port(1)];
@@ -155,85 +167,90 @@ fn read_twice(alloc: Global) -> Result<Vec<OpSpec>, NoMemory> {
     Ok(ops)
 }
 
+/// The plans of unions.
+fn unions(alloc: Global, case: Case) -> Result<Plan, NoMemory> {
+    match case {
+        Case::EightInputs => eight(alloc),
+        Case::EdgeTies => {
+            let first: [Row; 3] = [(9, &[1]), (10, &[2]), (10, &[3])];
+            let second: [Row; 2] = [(9, &[4]), (10, &[5])];
+            single(alloc, 20, &first, &second, OpKind::Union, &PORTS)
+        }
+        _ => single(alloc, 10, &[(5, &[1])], &[(5, &[2])], OpKind::Union, &PORTS),
+    }
+}
+
+/// The plans of joins.
+fn joins(alloc: Global, case: Case) -> Result<Plan, NoMemory> {
+    if case == Case::SelfJoin {
+        let log: [Row; 3] = [(3, &[1]), (6, &[2]), (12, &[3])];
+        return single(alloc, 20, &log, &[], join(alloc, 5, &[])?, &[PORT, PORT]);
+    }
+    let left: [Row; 2] = [(9, &[1]), (20, &[2])];
+    let right: [Row; 4] = [(10, &[1]), (14, &[1]), (25, &[2]), (26, &[2])];
+    single(alloc, 30, &left, &right, join(alloc, 5, &[(0, 0)])?, &PORTS)
+}
+
+/// The plans of aggregates.
+fn aggregates(alloc: Global, case: Case) -> Result<Plan, NoMemory> {
+    match case {
+        Case::Groups => {
+            let aggs = [Agg::Min(1), Agg::Max(1), Agg::Sum(1)];
+            let kind = aggregate(alloc, 10, 10, Some(0), &aggs)?;
+            let log: [Row; 4] = [
+                (1, &[-3, -5]),
+                (2, &[2, -7]),
+                (3, &[-3, i64::MIN]),
+                (11, &[2, i64::MAX]),
+            ];
+            single(alloc, 20, &log, &[], kind, &[PORT])
+        }
+        Case::LateWindow => {
+            let kind = aggregate(alloc, 35, 15, None, &[Agg::Count, Agg::Min(0)])?;
+            let log: [Row; 3] = [(13, &[7]), (34, &[8]), (35, &[9])];
+            single(alloc, 40, &log, &[], kind, &[PORT])
+        }
+        Case::ApartWindows => {
+            let kind = aggregate(alloc, 5, 20, None, &[Agg::Sum(0)])?;
+            let log: [Row; 4] = [(4, &[1]), (5, &[2]), (22, &[3]), (25, &[4])];
+            single(alloc, 30, &log, &[], kind, &[PORT])
+        }
+        _ => {
+            let kind = aggregate(alloc, 30, 10, None, &[Agg::Count, Agg::Sum(0)])?;
+            let log: [Row; 3] = [(5, &[i64::MAX]), (12, &[6]), (35, &[1])];
+            single(alloc, 40, &log, &[], kind, &[PORT])
+        }
+    }
+}
+
 impl Case {
     fn plan(self, alloc: Global) -> Result<Plan, NoMemory> {
         match self {
-            Case::Ties => single(alloc, 10, &[(5, &[1])], &[(5, &[2])], OpKind::Union, &PORTS),
-            Case::EdgeTies => single(
-                alloc,
-                20,
-                &[(9, &[1]), (10, &[2]), (10, &[3])],
-                &[(9, &[4]), (10, &[5])],
-                OpKind::Union,
-                &PORTS,
-            ),
-            Case::EightInputs => eight(alloc),
+            Case::Ties | Case::EdgeTies | Case::EightInputs => unions(alloc, self),
+            Case::JoinEdge | Case::SelfJoin => joins(alloc, self),
+            Case::Windows | Case::Groups | Case::LateWindow | Case::ApartWindows => {
+                aggregates(alloc, self)
+            }
             Case::Expressions => {
-                let kind = expressions(alloc)?;
                 let log: [Row; 3] = [(3, &[4_000_000_000]), (7, &[-5]), (8, &[i64::MIN])];
-                single(alloc, 10, &log, &[], kind, &[PORT])
-            }
-            Case::JoinEdge => {
-                let kind = join(alloc, 5, &[(0, 0)])?;
-                let left: [Row; 2] = [(9, &[1]), (20, &[2])];
-                let right: [Row; 4] = [(10, &[1]), (14, &[1]), (25, &[2]), (26, &[2])];
-                single(alloc, 30, &left, &right, kind, &PORTS)
-            }
-            Case::SelfJoin => {
-                let kind = join(alloc, 5, &[])?;
-                let log: [Row; 3] = [(3, &[1]), (6, &[2]), (12, &[3])];
-                single(alloc, 20, &log, &[], kind, &[PORT, PORT])
-            }
-            Case::Windows => {
-                let kind = aggregate(alloc, 30, 10, None, &[Agg::Count, Agg::Sum(0)])?;
-                let log: [Row; 3] = [(5, &[i64::MAX]), (12, &[6]), (35, &[1])];
-                single(alloc, 40, &log, &[], kind, &[PORT])
-            }
-            Case::Groups => {
-                let aggs = [Agg::Min(1), Agg::Max(1), Agg::Sum(1)];
-                let kind = aggregate(alloc, 10, 10, Some(0), &aggs)?;
-                let log: [Row; 4] = [
-                    (1, &[-3, -5]),
-                    (2, &[2, -7]),
-                    (3, &[-3, i64::MIN]),
-                    (11, &[2, i64::MAX]),
-                ];
-                single(alloc, 20, &log, &[], kind, &[PORT])
-            }
-            Case::LateWindow => {
-                let kind = aggregate(alloc, 35, 15, None, &[Agg::Count, Agg::Min(0)])?;
-                let log: [Row; 3] = [(13, &[7]), (34, &[8]), (35, &[9])];
-                single(alloc, 40, &log, &[], kind, &[PORT])
-            }
-            Case::ApartWindows => {
-                let kind = aggregate(alloc, 5, 20, None, &[Agg::Sum(0)])?;
-                let log: [Row; 4] = [(4, &[1]), (5, &[2]), (22, &[3]), (25, &[4])];
-                single(alloc, 30, &log, &[], kind, &[PORT])
+                single(alloc, 10, &log, &[], expressions(alloc)?, &[PORT])
             }
             Case::ReadTwice => {
                 let mut logs = Vec::new(alloc);
-                logs.push(log(alloc, &[(3, &[i64::MIN]), (4, &[i64::MAX]), (10, &[3])])?)?;
+                let rows: [Row; 3] = [(3, &[i64::MIN]), (4, &[i64::MAX]), (10, &[3])];
+                logs.push(log(alloc, &rows)?)?;
                 plan(alloc, 10, 20, logs, read_twice(alloc)?)
             }
             Case::Chain => generated(alloc, Diagram::Chain, 120, 12),
         }
     }
 
-    /// Its rows, where a person counted them.
+    /// Its rows, where they were counted by hand.
     fn rows(self) -> &'static [Row] {
         match self {
             Case::Ties => &[(5, &[1]), (5, &[2])],
             Case::EdgeTies => &[(9, &[1]), (9, &[4]), (10, &[2]), (10, &[3]), (10, &[5])],
-            Case::EightInputs => &[
-                (5, &[8]),
-                (5, &[7]),
-                (5, &[6]),
-                (5, &[5]),
-                (5, &[4]),
-                (5, &[3]),
-                (5, &[2]),
-                (5, &[1]),
-            ],
+            Case::EightInputs => &EIGHT,
             Case::Expressions => &[
                 (3, &[i64::MAX, 3]),
                 (7, &[25, 5]),
