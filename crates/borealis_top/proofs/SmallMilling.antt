@@ -28,7 +28,7 @@ use Rattle.borealis_top.specs.declared.small_node.Timing.{Timing}
 use Rattle.borealis_top.specs.declared.batch.Batch.{Batch}
 use Rattle.dpc_model.specs.Reading.{Reader}
 use Rattle.dpc_model.specs.declared.plans.StreamRef.TheVariants.{Source}
-use Rattle.world_core.proofs.Outputs.{ideal-InOrder}
+use Rattle.world_safety.proofs.Outputs.{ideal-InOrder}
 use Rattle.borealis_top.proofs.SmallBatches.{given-batch, sends-batch}
 
 -- ---- ordered lists

@@ -12,7 +12,7 @@ use Rattle.dpc_model.specs.declared.messages.Event.{Event}
 use Rattle.dpc_model.specs.declared.messages.Event.TheVariants.{Deliver, Mill}
 use Rattle.dpc_model.specs.declared.scripts.Directive.{Directive}
 use Rattle.dpc_model.specs.declared.scripts.Directive.TheVariants as directive
-use Rattle.world_core.specs.Schedules.{mill_events}
+use Rattle.world_model.specs.Schedules.{mill_events}
 use Rattle.borealis_top.specs.declared.batch.Batch.{Batch}
 use Rattle.borealis_top.specs.SmallWorlds.{Sent, SmallWorld, sends, ready, output_below, mill_given, milled, may_mill, node_takes, client_takes, comes, happens, run_from}
 use Rattle.borealis_top.specs.SmallSchedules.{release_events}

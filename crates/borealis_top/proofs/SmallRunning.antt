@@ -7,7 +7,7 @@ use Rattle.dpc_model.specs.declared.plans.Plan.{Plan}
 use Rattle.dpc_model.specs.declared.scripts.Phase.{Phase as PhaseSpec}
 use Rattle.dpc_model.specs.declared.messages.Event.{Event}
 use Rattle.dpc_model.specs.declared.messages.Event.TheVariants.{Release, Deliver, Tick, Mill}
-use Rattle.world_core.specs.Schedules.{mill_events}
+use Rattle.world_model.specs.Schedules.{mill_events}
 use Rattle.borealis_top.specs.declared.batch.Batch.{Batch}
 use Rattle.borealis_top.specs.declared.small_run.SmallRun.{SmallRun}
 use Rattle.borealis_top.specs.SmallWorlds.{Sent, SmallWorld, released_at, may_release, milled, may_mill, ready, happens, run_from}

@@ -11,8 +11,8 @@ use Rattle.dpc_model.specs.declared.plans.StreamRef.{StreamRef}
 use Rattle.dpc_model.specs.declared.plans.StreamRef.TheVariants.{Source, Frag}
 use Rattle.dpc_model.specs.declared.scripts.Script.{Script}
 use Rattle.dpc_model.proofs.IdealCausality.{cut-ideal_upto}
-use Rattle.world_core.specs.Safe.{HoldsOf}
-use Rattle.world_core.proofs.Outputs.{cut-held}
+use Rattle.world_model.specs.Safe.{HoldsOf}
+use Rattle.world_safety.proofs.Outputs.{cut-held}
 use Rattle.diagram_reader.specs.FirstForm.{IsFirstForm, first_script}
 use Rattle.borealis_top.specs.SmallWorlds.{SmallWorld, opening, happens, run_from, run}
 use Rattle.borealis_top.specs.SmallSafe.{IsSafeSmall}

@@ -17,11 +17,11 @@ use Rattle.dpc_model.specs.declared.messages.Event.TheVariants.{Phase, Emit, Rel
 use Rattle.dpc_model.specs.declared.plans.Plan.{Plan}
 use Rattle.dpc_model.specs.declared.plans.StreamRef.TheVariants.{Source, Frag}
 use Rattle.dpc_model.proofs.Folding.{fold_items-taken}
-use Rattle.world_core.specs.Safe.{AreTrueItems, HoldsOf}
-use Rattle.world_core.proofs.Holding.{fold_items-holds}
-use Rattle.world_core.proofs.Truth.{stable_items-true, given_items-true, get-drop}
-use Rattle.world_core.proofs.Outputs.{cut-held}
-use Rattle.world_core.proofs.Milling.{upto-items-true}
+use Rattle.world_model.specs.Safe.{AreTrueItems, HoldsOf}
+use Rattle.world_safety.proofs.Holding.{fold_items-holds}
+use Rattle.world_safety.proofs.Truth.{stable_items-true, given_items-true, get-drop}
+use Rattle.world_safety.proofs.Outputs.{cut-held}
+use Rattle.world_safety.proofs.Milling.{upto-items-true}
 use Rattle.borealis_top.specs.SmallWorlds.{Sent, SmallWorld, log, operators, sends, emitted_below, release_given, released_at, may_release, output_below, ready, mill_given, milled, may_mill, overdue_end, ticked, may_tick, node_takes, client_takes, comes, happens}
 use Rattle.borealis_top.specs.SmallSafe.{stream_of, AreTrueBatches}
 use Rattle.borealis_top.proofs.SmallPlans.{IsSmallPlan}

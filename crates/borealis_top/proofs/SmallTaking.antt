@@ -9,9 +9,9 @@ use Rattle.dpc_model.specs.Sessions.{stable_items, boundary_item}
 use Rattle.dpc_model.specs.declared.tuples.Tuple.{Tuple}
 use Rattle.dpc_model.specs.declared.messages.Event.TheVariants.{Deliver}
 use Rattle.dpc_model.specs.declared.plans.StreamRef.TheVariants.{Source}
-use Rattle.world_core.specs.Safe.{AreTrueItems, HoldsOf}
-use Rattle.world_core.proofs.Holding.{fold_items-holds}
-use Rattle.world_core.proofs.Outputs.{cut-held}
+use Rattle.world_model.specs.Safe.{AreTrueItems, HoldsOf}
+use Rattle.world_safety.proofs.Holding.{fold_items-holds}
+use Rattle.world_safety.proofs.Outputs.{cut-held}
 use Rattle.borealis_top.specs.SmallWorlds.{SmallWorld, operators, node_takes, happens}
 use Rattle.borealis_top.specs.SmallSides.{IsSmall, IsNodeOf, reader_of, items_of, sent_of}
 use Rattle.borealis_top.specs.declared.batch.Batch.{Batch}

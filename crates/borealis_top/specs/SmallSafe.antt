@@ -6,7 +6,7 @@ use Rattle.dpc_model.specs.Reading.{empty_reader, fold_items}
 use Rattle.dpc_model.specs.declared.plans.Plan.{Plan}
 use Rattle.dpc_model.specs.declared.plans.StreamRef.{StreamRef}
 use Rattle.dpc_model.specs.declared.plans.StreamRef.TheVariants.{Source, Frag}
-use Rattle.world_core.specs.Safe.{AreTrueItems, HoldsOf}
+use Rattle.world_model.specs.Safe.{AreTrueItems, HoldsOf}
 use Rattle.borealis_top.specs.SmallWorlds.{Sent, SmallWorld}
 
 -- the stream that a batch is of

@@ -10,7 +10,7 @@ use Rattle.dpc_model.specs.declared.scripts.Phase.{Phase as PhaseSpec}
 use Rattle.dpc_model.specs.declared.scripts.Script.{Script}
 use Rattle.dpc_model.specs.declared.plans.ClientSpec.{ClientSpec}
 use Rattle.dpc_model.specs.declared.plans.Plan.{Plan}
-use Rattle.world_core.specs.Schedules.{mill_events}
+use Rattle.world_model.specs.Schedules.{mill_events}
 use Rattle.report.specs.Text.{client_lines, summary_of}
 use Rattle.borealis_top.specs.SmallWorlds.{SmallWorld, opening, run_from, ready, run}
 

@@ -29,7 +29,7 @@ pub struct SmallRun<'a> {
 impl<'a> SmallRun<'a> {
     ghost use Rattle.dpc_model.specs.Lists.{range_with_len};
     ghost use Rattle.dpc_model.specs.declared.messages.Event.TheVariants.{Release, Deliver, Tick, Mill};
-    ghost use Rattle.world_core.specs.Schedules.{mill_events};
+    ghost use Rattle.world_model.specs.Schedules.{mill_events};
     ghost use Rattle.borealis_top.specs.SmallWorlds.{Sent, SmallWorld, may_release, happens, run_from, ready};
     ghost use Rattle.borealis_top.specs.SmallSchedules.{release_events, phase_events};
     ghost use Rattle.borealis_top.specs.SmallSides.{sent_of};

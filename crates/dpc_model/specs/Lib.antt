@@ -18,3 +18,5 @@ pub mod Sessions
 pub mod Columns
 pub mod Words
 pub mod ScriptText
+pub mod Parts
+pub mod PartStands

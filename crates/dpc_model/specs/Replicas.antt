@@ -1,12 +1,13 @@
 -- Watching replicas, and the choice among them.
-use Rattle.std.specs.Prelude.{ℕ, ◌+◌, Bool, false, ◌||◌, ◌==◌, nat_lt, nat_le, if◌then◌else◌, List, map, Option, Some, None, is_some, unwrap_or}
+use Rattle.std.specs.Prelude.{ℕ, ◌+◌, Bool, false, ◌||◌, ◌==◌, nat_lt, nat_le, min, if◌then◌else◌, List, map, Option, Some, None, is_some, unwrap_or}
 use Rattle.dpc_model.specs.Lists.{nth, least, place_of}
 use Rattle.dpc_model.specs.declared.messages.NodeState.{NodeState}
 use Rattle.dpc_model.specs.declared.messages.NodeState.TheVariants as state
 use Rattle.dpc_model.specs.declared.messages.Rank.{Rank}
 use Rattle.dpc_model.specs.declared.messages.Rank.TheVariants.{Stable, UpFailure, Stabilizing, Silent}
 
--- what is known of one replica: the newest incarnation, the ticks since the last beat noted, what that beat said, and the base of a truncation
+-- what is known of one replica: the newest incarnation, the lesser of 4 and the ticks since the last beat noted, what that beat said,
+-- and the base of a truncation
 pub record Watch : Type 0 where
   pub inc : ℕ
   pub ticks : ℕ
@@ -20,8 +21,9 @@ new_watch = record { inc = 0; ticks = 0; said = None; truncated = None }
 abbrev pub noted : ℕ → NodeState → Bool → Watch → Watch
 noted i s recovering w = if nat_lt i w.inc then w else record w { inc = i; ticks = 0; said = Some (s, recovering) }
 
+-- one tick is counted: the third is told from later ones, and those not from one another
 abbrev pub ticked : Watch → Watch
-ticked w = record w { ticks = w.ticks + 1 }
+ticked w = record w { ticks = min 4 (w.ticks + 1) }
 
 abbrev pub marked : ℕ → Watch → Watch
 marked base w = record w { truncated = Some base }

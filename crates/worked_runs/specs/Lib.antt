@@ -21,7 +21,7 @@ pub mod OwnDelay
 pub mod WideTimes
 pub mod EmptyLog
 pub mod Hostile
-pub mod Laws
-pub mod OrderlyRuns
+pub mod Sessions
 pub mod MeterAlarm
 pub mod WaitingBuckets
+pub mod Limits

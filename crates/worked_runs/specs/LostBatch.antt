@@ -6,7 +6,7 @@ use Rattle.dpc_model.specs.declared.plans.StreamRef.TheVariants.{Source, Frag}
 use Rattle.dpc_model.specs.declared.operators.OpKind.TheVariants.{Filter}
 use Rattle.dpc_model.specs.declared.operators.Wire.TheVariants.{Port}
 use Rattle.dpc_model.specs.Formula as formula
-use Rattle.world_core.specs.Schedules.{lockstep, lock_of, is_live}
+use Rattle.world_model.specs.Schedules.{lockstep, lock_of, is_live}
 use Rattle.report.specs.Text.{report_text}
 use Rattle.worked_runs.specs.Opened.{all_opened}
 

@@ -1,5 +1,5 @@
 use Rattle.std.proofs.Common.{◌≡◌, ◌∙◌, refl, sym, ap, arith, ℕ, min}
-use Rattle.world_core.specs.Schedules.{mill_events}
+use Rattle.world_model.specs.Schedules.{mill_events}
 use Rattle.borealis_top.specs.SmallWorlds.{run_from}
 use Rattle.borealis_top.proofs.SmallRounds.{mill_events-none, round}
 use Rattle.borealis_top.proofs.small_run.SmallRun.mill_ready.Goals as goal

@@ -1,5 +1,5 @@
 use Rattle.std.proofs.Common.{◌≡◌, ◌+◌, ◌<◌, ◌≤◌, List}
-use Rattle.world_core.specs.Schedules.{mill_events}
+use Rattle.world_model.specs.Schedules.{mill_events}
 use Rattle.borealis_top.specs.SmallWorlds.{Sent, SmallWorld, run_from, ready}
 use Rattle.borealis_top.specs.SmallRuns.{IsRunOf}
 use Rattle.borealis_top.proofs.small_run.SmallRun.mill_ready.Given as goal

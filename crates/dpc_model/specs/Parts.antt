@@ -1,0 +1,91 @@
+-- The parts of a node, as the contracts of each part see them: its inputs, its output, and what it knows of others.
+use Rattle.std.specs.Prelude.{ℕ, ◌+◌, ◌*◌, Bool, not, ◌&&◌, ◌==◌, if◌then◌else◌, List, ◌++◌, map, length, drop, Option, Some, None}
+use Rattle.dpc_model.specs.Lists.{is_nil}
+use Rattle.dpc_model.specs.Streams.{cut}
+use Rattle.dpc_model.specs.Operators.{all_of}
+use Rattle.dpc_model.specs.Fragments.{serial}
+use Rattle.dpc_model.specs.Engines.{Value}
+use Rattle.dpc_model.specs.Inlets.{InletState}
+use Rattle.dpc_model.specs.Due.{Stamps}
+use Rattle.dpc_model.specs.Replicas.{Watch}
+use Rattle.dpc_model.specs.Granting.{Grants}
+use Rattle.dpc_model.specs.Sessions.{Sub, Acked, Shown}
+use Rattle.dpc_model.specs.declared.tuples.Tuple.{Tuple}
+use Rattle.dpc_model.specs.declared.tuples.Tagged.{Tagged}
+
+-- ---- the inputs
+
+-- the inlet of each port, the stamps, the first bucket that is not processed stably, and the buckets closed from it on
+pub record Inputs : Type 0 where
+  pub inlets : List InletState
+  pub stamps : Stamps
+  pub cursor : ℕ
+  pub closed : List (List Tagged)
+
+-- the first bucket that is neither processed nor closed
+abbrev pub view_of : Inputs → ℕ
+view_of x = x.cursor + length x.closed
+
+-- the stable tuples below the cursor's bucket, by port
+abbrev pub done_in : ℕ → Inputs → List (List Tuple)
+done_in width x = map (λ (i : InletState). cut i.held.stable (x.cursor * width)) x.inlets
+
+-- the inputs that were processed stably, and with those of the closed buckets
+abbrev pub processed : ℕ → Inputs → List Tagged
+processed width x = serial (done_in width x)
+
+abbrev pub processed_view : ℕ → Inputs → List Tagged
+processed_view width x = processed width x ++ all_of x.closed
+
+-- ---- the output
+
+-- a stream as it stands: its stable tuples and how far they go, the tentative ones, and how far those are told to go
+pub record Stream : Type 0 where
+  pub stable : List Tuple
+  pub bound : ℕ
+  pub tentative : List Tuple
+  pub passed : Option ℕ
+
+-- what is made of inputs, where the plan passes soft marks on or doesn't
+abbrev pub stream_by : Value → ℕ → Bool → Inputs → Stream
+stream_by value width passing x =
+    let stable = value (processed width x) (x.cursor * width) in
+    record {
+      stable = stable;
+      bound = x.cursor * width;
+      tentative = drop (length stable) (value (processed_view width x) (view_of x * width));
+      passed = if passing && not (is_nil x.closed) then Some (view_of x * width) else None;
+    }
+
+-- by reader its session and what it acknowledged; and from which tuple on the sender can send
+pub record Outputs : Type 0 where
+  pub subs : List Sub
+  pub acks : List Acked
+  pub base : ℕ
+
+-- what a reader is shown of a stream
+abbrev pub shown_of : Stream → ℕ → Bool → Shown
+shown_of s b stable_now =
+    record {
+      stable = s.stable;
+      bound = if s.bound == 0 then None else Some (s.bound, length s.stable);
+      tentative = s.tentative;
+      passed = s.passed;
+      base = b;
+      is_stable = stable_now;
+    }
+
+-- ---- the neighbours
+
+-- the senders of one port's stream: the replica that the port reads, what is known of each, and the ticks since the session was opened
+pub record Upstream : Type 0 where
+  pub chosen : ℕ
+  pub watches : List Watch
+  pub ticks : ℕ
+
+-- the senders by port, asks and promises, what is known of each replica of the own fragment, and the number of recoveries begun
+pub record Neighbours : Type 0 where
+  pub upstreams : List Upstream
+  pub grants : Grants
+  pub peers : List Watch
+  pub tries : ℕ

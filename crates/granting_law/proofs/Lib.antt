@@ -1,0 +1,17 @@
+pub mod Each
+pub mod Keys
+pub mod Saying
+pub mod AtWork
+pub mod Events
+pub mod Slots
+pub mod Asked
+pub mod Running
+pub mod Standing
+pub mod Moves
+pub mod Taking
+pub mod Sending
+pub mod Senders
+pub mod Sent
+pub mod Prefix
+pub mod Sourced
+pub mod First

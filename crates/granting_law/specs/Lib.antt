@@ -1,0 +1,3 @@
+pub mod Asking
+pub mod Meanwhile
+pub mod Taken

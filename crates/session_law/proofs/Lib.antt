@@ -1,0 +1,13 @@
+pub mod Keeping
+pub mod Noding
+pub mod Distinct
+pub mod Asking
+pub mod Delivering
+pub mod Sources
+pub mod Worlds
+pub mod Events
+pub mod Runs
+pub mod Standing
+pub mod Invented
+pub mod Agreeing
+pub mod Asked

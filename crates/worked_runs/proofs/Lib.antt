@@ -1,0 +1,4 @@
+mod Checking
+mod TooManyColumns
+mod AnsweredSubscription
+mod HostileRuns

@@ -1,0 +1,6 @@
+pub mod Worlds
+pub mod Schedules
+pub mod Safe
+pub mod SessionLaw
+pub mod Steady
+pub mod Orderly

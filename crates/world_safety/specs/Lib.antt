@@ -1,0 +1,4 @@
+pub mod Plans
+pub mod Keeps
+pub mod Holders
+pub mod Promises
