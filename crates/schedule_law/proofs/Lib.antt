@@ -1,0 +1,13 @@
+pub mod Stages
+pub mod Nodes
+pub mod Calm
+pub mod Targets
+pub mod Waits
+pub mod Doing
+pub mod Delivering
+pub mod Directing
+pub mod Phases
+pub mod Lockstep
+pub mod Journals
+pub mod Clocks
+pub mod Timely

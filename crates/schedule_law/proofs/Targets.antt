@@ -1,0 +1,225 @@
+-- The cursors that nodes must reach in a phase: milling its ready buckets, a node reaches its own, and no later event undoes that.
+use Rattle.std.proofs.Common.{◌≡◌, ℕ, zero, suc, ◌+◌, ◌-◌, ◌/◌, ◌≤◌, Bool, true, false, not, cond, ◌&&◌, ◌==◌, nat_le, List, [], ◌∷◌, ◌++◌, map, length, refl, sym, ap, subst, ◌∙◌, arith, Option, Some, None, slice_get, unwrap_or}
+use Rattle.dpc_model.specs.Lists.{nth, changed, range_with_len, is_nil, least}
+use Rattle.dpc_model.specs.Actors.{Role, IsSource, IsNode, IsClient, Nobody, role_of, nodes_of}
+use Rattle.dpc_model.specs.Ports.{Port, held_at}
+use Rattle.dpc_model.specs.Reading.{Reader}
+use Rattle.dpc_model.specs.declared.messages.Event.TheVariants.{Mill}
+use Rattle.dpc_model.specs.declared.plans.Plan.{Plan}
+use Rattle.node_model.specs.Nodes.{Home, PlainNode, complete_upto, ready}
+use Rattle.node_model.specs.NodeSteps.{milled}
+use Rattle.world_model.specs.Worlds.{World, Slot, home_of, node_place, slot_of, node_role, node_stepped, node_mills, mills, ready_in, ready_role, ready_at, happens}
+use Rattle.world_model.specs.Schedules.{target_of, is_recovering, targets_left, may_mill}
+use Rattle.world_safety.proofs.Tests.{both, le-of, eq-of, eq-test}
+use Rattle.schedule_law.proofs.Nodes.{IsMilled, milled-moves}
+use Rattle.schedule_law.proofs.Calm.{no_slot, node_in, IsZeroedAt, AreZeroed, IsCalmAt, IsCalm, mill-calm}
+
+-- ---- a target
+
+-- a node that is up, with so many buckets to come, reaches the goal
+abbrev pub Meets : Option PlainNode → ℕ → ℕ → Type 0
+Meets None goal more = Unit {0}
+Meets (Some n) goal more = goal ≤ n.cursor + more
+
+abbrev pub AllMet : World → (ℕ → ℕ) → List (ℕ × ℕ) → Type 0
+AllMet w more [] = Unit {0}
+AllMet w more (t ∷ ts) = Meets (slot_of w t.0).node t.1 (more t.0) × AllMet w more ts
+
+-- the targets of a world are met by what is ready in it
+pub targets-met : (w : World) (ids : List ℕ) → AllMet w (ready_at w) (map (target_of w) ids)
+targets-met w [] = tt
+targets-met w (a ∷ ids) = (by-role (role_of w.plan a), targets-met w ids)
+  where
+    by-node : (o : Option PlainNode) (more : ℕ) → Meets o (elim o [ None ↦ 0 | Some n ↦ n.cursor + more ]) more
+    by-node None more = tt
+    by-node (Some n) more = omega arith
+
+    none : (o : Option PlainNode) → Meets o 0 (ready_at w a)
+    none None = tt
+    none (Some n) = omega arith
+
+    by-role : (x : Role) → Meets (slot_of w a).node (elim (node_role w a x) [ None ↦ 0 | Some n ↦ n.cursor + ready_at w a ]) (ready_at w a)
+    by-role (IsNode f r) = by-node (slot_of w a).node (ready_at w a)
+    by-role (IsSource s) = none (slot_of w a).node
+    by-role (IsClient c) = none (slot_of w a).node
+    by-role Nobody = none (slot_of w a).node
+
+-- a step that keeps each target of a node that does not recover keeps those that are left
+pub left-met : (w v : World) (f g : ℕ → ℕ) → ((b goal : ℕ) → is_recovering v b ≡ false → Meets (slot_of w b).node goal (f b) → Meets (slot_of v b).node goal (g b)) →
+    (ts : List (ℕ × ℕ)) → AllMet w f ts → AllMet v g (targets_left v ts)
+left-met w v f g keeps [] h = tt
+left-met w v f g keeps (t ∷ ts) h =
+    (elim (is_recovering v t.0) as (λ b. is_recovering v t.0 ≡ b → AllMet v g (cond (not b) (t ∷ targets_left v ts) (targets_left v ts))) [
+      | true ↦ λ e. left-met w v f g keeps ts h.1
+      | false ↦ λ e. (keeps t.0 t.1 e h.0, left-met w v f g keeps ts h.1)
+    ]) refl
+
+-- the node at an actor, before and behind a calm event
+pub calm-at : (w v : World) → IsCalm w v → (b : ℕ) → IsCalmAt (slot_of w b).node (slot_of v b).node
+calm-at w v c b = subst (λ (plan : Plan). IsCalmAt (slot_of w b).node (node_in v.nodes (node_place plan b))) (sym c.plan) (c.slots (node_place w.plan b))
+
+pub calm-meets : (w v : World) → AreZeroed w.nodes → IsCalm w v → (b goal : ℕ) → is_recovering v b ≡ false → Meets (slot_of w b).node goal 0 → Meets (slot_of v b).node goal 0
+calm-meets w v z c b goal up h = by-nodes (slot_of w b).node (slot_of v b).node (calm-at w v c b) (z (node_place w.plan b)) (by-role (role_of v.plan b) up) h
+  where
+    by-role : (x : Role) → (elim (node_role v b x) [ None ↦ true | Some n ↦ n.recovering ]) ≡ false → (elim (slot_of v b).node [ None ↦ true | Some n ↦ n.recovering ]) ≡ false
+    by-role (IsNode f r) e = e
+    by-role (IsSource s) e = cc
+    by-role (IsClient s) e = cc
+    by-role Nobody e = cc
+
+    by-nodes : (o p : Option PlainNode) → IsCalmAt o p → IsZeroedAt o → (elim p [ None ↦ true | Some n ↦ n.recovering ]) ≡ false → Meets o goal 0 → Meets p goal 0
+    by-nodes None None k y e g = tt
+    by-nodes None (Some m) k y e g = absurd k
+    by-nodes (Some n) None k y e g = absurd k
+    by-nodes (Some n) (Some m) k y e g = let more = k.cursor y e in omega (arith, more, g)
+
+-- ---- places
+
+pub node-past : (plan : Plan) (a f r : ℕ) → role_of plan a ≡ IsNode f r → length plan.sources ≤ a
+node-past plan a f r e = skip 0 (length plan.sources) a (map (λ (n : ℕ × ℕ). IsNode n.0 n.1) (nodes_of plan)) (map IsClient (range_with_len 0 (length plan.clients))) e
+  where
+    skip : (k n b : ℕ) (xs ys : List Role) → nth Nobody (map IsSource (range_with_len k n) ++ xs ++ ys) b ≡ IsNode f r → n ≤ b
+    skip k zero b xs ys h = omega arith
+    skip k (suc n) zero xs ys h = cc
+    skip k (suc n) (suc b) xs ys h = let rest = skip (k + 1) n b xs ys h in omega (arith, rest)
+
+changed-here : (k : ℕ) (f : Slot → Slot) (xs : List Slot) (x : Slot) → slice_get xs k ≡ Some x → nth no_slot (changed k f xs) k ≡ f x
+changed-here k f [] x e = cc
+changed-here zero f (y ∷ xs) x e = let same : y ≡ x = cc in ap f same
+changed-here (suc k) f (y ∷ xs) x e = changed-here k f xs x e
+
+changed-apart : (k i : ℕ) (f : Slot → Slot) (xs : List Slot) → (k ≡ i → ⊥) → nth no_slot (changed k f xs) i ≡ nth no_slot xs i
+changed-apart k i f [] h = refl
+changed-apart zero zero f (x ∷ xs) h = absurd (h refl)
+changed-apart zero (suc i) f (x ∷ xs) h = refl
+changed-apart (suc k) zero f (x ∷ xs) h = refl
+changed-apart (suc k) (suc i) f (x ∷ xs) h = changed-apart k i f xs (λ e. h (ap suc e))
+
+-- ---- milling
+
+complete-same : (home : Home) (n m : PlainNode) → m.ports ≡ n.ports → complete_upto home m ≡ complete_upto home n
+complete-same home n m e = ap (λ (ports : List Port). least 0 (map (λ (r : Reader). r.bound / home.plan.width) (map held_at ports))) e
+
+milled-ready : (home : Home) (r : ℕ) (n m : PlainNode) → IsMilled r n m → ready home m ≡ ready home n - r
+unfolding ready
+milled-ready home r n m h =
+    rw (h.also, h.closed, h.moved, complete-same home n m h.ports) (by-cases n.recovering (is_nil n.closed) (complete_upto home n) n.cursor)
+  where
+    by-cases : (b c : Bool) (x y : ℕ) → cond b 0 (cond c (x - (y + r)) 0) ≡ cond b 0 (cond c (x - y) 0) - r
+    by-cases true c x y = omega arith
+    by-cases false true x y = omega arith
+    by-cases false false x y = omega arith
+
+-- what milling leaves
+pub record IsMilledAt (w : World) (a r : ℕ) (v : World) : Type 0 where
+  pub calm : IsCalm w v
+  pub own : ready_at v a ≡ ready_at w a - r
+  pub others : (b : ℕ) → (b ≡ a → ⊥) → ready_at v b ≡ ready_at w b
+  pub meets : (b goal : ℕ) → Meets (slot_of w b).node goal (ready_at w b) → Meets (slot_of v b).node goal (ready_at v b)
+
+none-mills : (r k : ℕ) → nat_le 1 r && nat_le r 16 && nat_le r k ≡ true → k ≡ 0 → ⊥
+none-mills r k h e =
+    let p = both (nat_le 1 r && nat_le r 16) (nat_le r k) h in
+    let low = le-of 1 r (both (nat_le 1 r) (nat_le r 16) p.0).0 in
+    let high = le-of r k p.1 in absurd (omega (arith, low, high, e))
+
+stepped-at : (w : World) (a f q r : ℕ) (n : PlainNode) → role_of w.plan a ≡ IsNode f q → (slot_of w a).node ≡ Some n →
+    IsCalm w (node_stepped a (milled (home_of w.plan (f, q)) r n) w) → IsMilledAt w a r (node_stepped a (milled (home_of w.plan (f, q)) r n) w)
+stepped-at w a f q r n role up calm = record { calm = calm; own = own; others = others; meets = meets }
+  where
+    home : Home
+    home = home_of w.plan (f, q)
+
+    m : PlainNode
+    m = (milled home r n).after
+
+    v : World
+    v = node_stepped a (milled home r n) w
+
+    here : (slot_of v a).node ≡ Some m
+    here = by-get (slice_get w.nodes (node_place w.plan a)) refl
+      where
+        by-get : (o : Option Slot) → slice_get w.nodes (node_place w.plan a) ≡ o → (slot_of v a).node ≡ Some m
+        by-get None e = let none = sym (ap (λ (o : Option Slot). Slot.node (unwrap_or o no_slot)) e) ∙ up in cc
+        by-get (Some x) e = ap (λ (s : Slot). s.node) (changed-here (node_place w.plan a) (λ (slot : Slot). record slot { node = Some m }) w.nodes x e)
+
+    apart : (b : ℕ) → (node_place w.plan a ≡ node_place w.plan b → ⊥) → slot_of v b ≡ slot_of w b
+    apart b h = changed-apart (node_place w.plan a) (node_place w.plan b) (λ (slot : Slot). record slot { node = Some m }) w.nodes h
+
+    own : ready_at v a ≡ ready_at w a - r
+    own = rw (role, here, up) (milled-ready home r n m (milled-moves home r n))
+
+    others : (b : ℕ) → (b ≡ a → ⊥) → ready_at v b ≡ ready_at w b
+    others b h = by-role (role_of w.plan b) refl
+      where
+        by-role : (x : Role) → role_of w.plan b ≡ x → ready_role v b x ≡ ready_role w b x
+        by-role (IsSource s) e = refl
+        by-role (IsNode g p) e =
+            let low = node-past w.plan a f q role in
+            let also = node-past w.plan b g p e in
+            ap (λ (s : Slot). ready_in (home_of w.plan (g, p)) s.node) (apart b (λ same. h (omega (arith, low, also, same))))
+        by-role (IsClient c) e = refl
+        by-role Nobody e = refl
+
+    meets : (b goal : ℕ) → Meets (slot_of w b).node goal (ready_at w b) → Meets (slot_of v b).node goal (ready_at v b)
+    meets b goal h =
+        (elim (node_place w.plan a == node_place w.plan b) as (λ t. (node_place w.plan a == node_place w.plan b) ≡ t → Meets (slot_of v b).node goal (ready_at v b)) [
+          | false ↦ λ e. if-apart (role_of w.plan b) (apart b (λ same. differ (sym (eq-test _ _ same) ∙ e))) h
+          | true ↦ λ e. if-same (role_of w.plan b) (eq-of (node_place w.plan a) (node_place w.plan b) e) h
+        ]) refl
+      where
+        differ : true ≡ false → ⊥
+        differ x = cc
+
+        if-apart : (x : Role) → slot_of v b ≡ slot_of w b → Meets (slot_of w b).node goal (ready_role w b x) → Meets (slot_of v b).node goal (ready_role v b x)
+        if-apart (IsSource s) e k = subst (λ (slot : Slot). Meets slot.node goal 0) (sym e) k
+        if-apart (IsNode g p) e k = subst (λ (slot : Slot). Meets slot.node goal (ready_in (home_of w.plan (g, p)) slot.node)) (sym e) k
+        if-apart (IsClient c) e k = subst (λ (slot : Slot). Meets slot.node goal 0) (sym e) k
+        if-apart Nobody e k = subst (λ (slot : Slot). Meets slot.node goal 0) (sym e) k
+
+        here-too : node_place w.plan a ≡ node_place w.plan b → (slot_of v b).node ≡ Some m
+        here-too same = ap (λ (i : ℕ). node_in v.nodes i) (sym same) ∙ here
+
+        up-too : node_place w.plan a ≡ node_place w.plan b → (slot_of w b).node ≡ Some n
+        up-too same = ap (λ (i : ℕ). node_in w.nodes i) (sym same) ∙ up
+
+        moves : IsMilled r n m
+        moves = milled-moves home r n
+
+        still : node_place w.plan a ≡ node_place w.plan b → Meets (slot_of w b).node goal 0 → Meets (slot_of v b).node goal 0
+        still same k =
+            let moved = moves.moved in
+            let old : goal ≤ n.cursor + 0 = subst (λ (o : Option PlainNode). Meets o goal 0) (up-too same) k in
+            let new : goal ≤ m.cursor + 0 = omega (arith, moved, old) in
+            subst (λ (o : Option PlainNode). Meets o goal 0) (sym (here-too same)) new
+
+        if-same : (x : Role) → node_place w.plan a ≡ node_place w.plan b → Meets (slot_of w b).node goal (ready_role w b x) → Meets (slot_of v b).node goal (ready_role v b x)
+        if-same (IsSource s) same k = still same k
+        if-same (IsNode g p) same k =
+            let moved = moves.moved in
+            let other = home_of w.plan (g, p) in
+            let old : goal ≤ n.cursor + ready other n = subst (λ (o : Option PlainNode). Meets o goal (ready_in other o)) (up-too same) k in
+            let less = milled-ready other r n m moves in
+            let new : goal ≤ m.cursor + ready other m = omega (arith, moved, old, less) in
+            subst (λ (o : Option PlainNode). Meets o goal (ready_in other o)) (sym (here-too same)) new
+        if-same (IsClient c) same k = still same k
+        if-same Nobody same k = still same k
+
+pub mill-at : (w : World) (a r : ℕ) → may_mill w a r ≡ true → IsMilledAt w a r (happens w (Mill a r))
+mill-at w a r h = by-role (role_of w.plan a) refl h (mill-calm w a r)
+  where
+    by-role : (x : Role) → role_of w.plan a ≡ x → nat_le 1 r && nat_le r 16 && nat_le r (ready_role w a x) ≡ true → IsCalm w (mills w a r (role_of w.plan a)) → IsMilledAt w a r (mills w a r (role_of w.plan a))
+    by-role (IsSource s) e k c = absurd (none-mills r 0 k refl)
+    by-role (IsClient s) e k c = absurd (none-mills r 0 k refl)
+    by-role Nobody e k c = absurd (none-mills r 0 k refl)
+    by-role (IsNode f q) e k c = rw e (by-node (slot_of w a).node refl k (rw e at c))
+      where
+        home : Home
+        home = home_of w.plan (f, q)
+
+        by-node : (o : Option PlainNode) → (slot_of w a).node ≡ o → nat_le 1 r && nat_le r 16 && nat_le r (ready_in home o) ≡ true → IsCalm w (node_mills w a r home (slot_of w a).node) →
+            IsMilledAt w a r (node_mills w a r home (slot_of w a).node)
+        by-node None up g d = absurd (none-mills r 0 g refl)
+        by-node (Some n) up g d =
+            let is : node_mills w a r home (slot_of w a).node ≡ node_stepped a (milled home r n) w = rw (up, g) refl in
+            subst (λ (v : World). IsMilledAt w a r v) (sym is) (stepped-at w a f q r n e up (subst (λ (v : World). IsCalm w v) is d))
