@@ -20,3 +20,5 @@ pub mod Words
 pub mod ScriptText
 pub mod Parts
 pub mod PartStands
+pub mod NodeStates
+pub mod Limits

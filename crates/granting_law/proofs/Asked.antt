@@ -7,9 +7,9 @@ use Rattle.dpc_model.specs.Actors.{IsSource, IsNode, IsClient, role_of, replicas
 use Rattle.dpc_model.specs.declared.messages.Event.{Event}
 use Rattle.dpc_model.specs.declared.messages.Message.TheVariants as message
 use Rattle.dpc_model.specs.declared.plans.Plan.{Plan}
-use Rattle.node_model.specs.Mails.{Packet, Plain, SnapFor, Mail}
+use Rattle.node_model.specs.Mails.{Packet, Plain, SnapFor, Mail, Stepped}
 use Rattle.node_model.specs.Nodes.{Home, PlainNode, spec_of, restarted_node}
-use Rattle.node_model.specs.NodeSteps.{Stepped, replica_number, delivered, milled, ticked_at}
+use Rattle.node_model.specs.NodeSteps.{replica_number, delivered, milled, ticked_at}
 use Rattle.world_model.specs.Worlds.{World, Envelope, Slot, home_of, node_place, slot_of, from, node_stepped, restart_slot, happens}
 use Rattle.world_model.specs.Orderly.{is_fitting, packet_way, carries_fitting}
 use Rattle.world_safety.proofs.Tests.{both, eq-of, eq-test}
@@ -183,7 +183,7 @@ slot-asking w most a f r g es fine role advances node envelopes h =
         (subst (λ (x : ℕ). IsInOrder w x q (g (slot_of w a)).last_inc n) one (subst (λ (x : ℕ). IsInOrder w f x (g (slot_of w a)).last_inc n) two (node n (sym (ap (λ (x : Slot). x.node) now) ∙ up))))
 
 -- a node's own step
-step-asking-world : (H A E : ℕ → Key → Type 0) (w : World) (most a f r : ℕ) (n : PlainNode) (s : Stepped) → IsFine w most → role_of w.plan a ≡ IsNode f r → (slot_of w a).node ≡ Some n →
+step-asking-world : (H A E : ℕ → Key → Type 0) (w : World) (most a f r : ℕ) (n : PlainNode) (s : Stepped PlainNode) → IsFine w most → role_of w.plan a ≡ IsNode f r → (slot_of w a).node ≡ Some n →
     IsOwnStep H A E (home_of w.plan (f, r)) n s → IsAsking (home_of w.plan (f, r)) s.after →
     ((c q : ℕ) (key : Key) → role_of w.plan c ≡ IsNode f q → H q key → IsOver (slot_of w c) key) →
     ((c q : ℕ) (key : Key) → role_of w.plan c ≡ IsNode f q → A q key → WasAsked (slot_of w c) key) → IsAskingWorld w → IsAskingWorld (node_stepped a s w)

@@ -7,7 +7,7 @@ use Rattle.dpc_model.specs.Reading.{Reader}
 use Rattle.dpc_model.specs.Inlets.{heard, take_batch, same_sess}
 use Rattle.dpc_model.specs.Due.{is_complete}
 use Rattle.dpc_model.specs.Replicas.{is_silent}
-use Rattle.dpc_model.specs.Granting.{Key, key_le, greater_key, Grants, own_key, grants, granted, promise_to, over_by, known_over, heard_more, told, promise_after, promise_kept, may_enter_by, asking, finished, is_stabilizing}
+use Rattle.dpc_model.specs.Granting.{Key, key_le, greater_key, Grants, own_key, grants, granted, promise_to, over_by, known_over, heard_more, told, promise_after, promise_kept, may_enter_by, asking, finished}
 use Rattle.dpc_model.specs.Actors.{IsNode, role_of, are_peers, replicas_of}
 use Rattle.dpc_model.specs.Ports.{Port, no_port, held_at, sender_at, on_beat, on_truncated, all_truncated, marks_ended, port_ticked, port_chosen}
 use Rattle.dpc_model.specs.declared.batches.Taken.{Taken}
@@ -21,9 +21,10 @@ use Rattle.dpc_model.specs.declared.messages.NodeState.TheVariants.{Stable, UpFa
 use Rattle.dpc_model.specs.declared.messages.Message.{Message}
 use Rattle.dpc_model.specs.declared.messages.Message.TheVariants as message
 use Rattle.dpc_model.specs.Sessions.{given_items}
-use Rattle.node_model.specs.Mails.{Snap, Packet, Plain, SnapFor, mail, to_each}
-use Rattle.node_model.specs.Nodes.{Home, PlainNode, streams_of, held_by, view_cursor, out_stable, complete_upto, complete_buckets, ready, due_at, wants_to_reconcile, is_stable, is_up_failure, is_stabilization}
-use Rattle.node_model.specs.NodeSteps.{Stepped, silently, then_do, peers_of, peer_watches, replica_number, with_port, give, given_stable, entered, recovering_again, adopted, took, stamped_by, on_batch, on_subscribe, on_truncation, on_upstream_beat, on_peer_beat, on_ack, on_ask, on_grant, on_snap_ask, on_snap, reader_place, on_message, on_packet, with_marks_ended, delivered, advanced, reconciled, milled, clocked, may_start_afresh, choosing, reconciling, closing, with_failure, processed_upto, processing, announcing, serving, asking_snapshots, going_on, fresh, ticked_at}
+use Rattle.node_model.specs.Mails.{Snap, Packet, Plain, SnapFor, mail, to_each, Stepped}
+use Rattle.dpc_model.specs.NodeStates.{is_stable, is_up_failure, is_stabilization}
+use Rattle.node_model.specs.Nodes.{Home, PlainNode, streams_of, held_by, view_cursor, out_stable, complete_upto, complete_buckets, ready, due_at, wants_to_reconcile}
+use Rattle.node_model.specs.NodeSteps.{silently, then_do, peers_of, peer_watches, replica_number, with_port, give, given_stable, entered, recovering_again, adopted, took, stamped_by, on_batch, on_subscribe, on_truncation, on_upstream_beat, on_peer_beat, on_ack, on_ask, on_grant, on_snap_ask, on_snap, reader_place, on_message, on_packet, with_marks_ended, delivered, advanced, reconciled, milled, clocked, may_start_afresh, choosing, reconciling, closing, with_failure, processed_upto, processing, announcing, serving, asking_snapshots, going_on, fresh, ticked_at}
 use Rattle.world_model.specs.Safe.{EachReaches}
 use Rattle.world_model.specs.Orderly.{has_state_of_closed, packet_way}
 use Rattle.world_safety.proofs.Milling.{reaches_least}
@@ -212,7 +213,7 @@ ask-asking home i ask r n me other may h =
       promise = λ p e. by-old n.grants.promise refl p e;
     }
   where
-    calm-not : (s : NodeState) → is_stabilizing s ≡ false → is_stabilization s ≡ true → ⊥
+    calm-not : (s : NodeState) → is_stabilization s ≡ false → is_stabilization s ≡ true → ⊥
     calm-not Stable e f = cc
     calm-not UpFailure e f = cc
     calm-not Stabilization e f = cc
@@ -275,7 +276,7 @@ peer-other home me a r actor way e same =
 on_ask-asking : (home : Home) (i ask : ℕ) (o : Option ℕ) (n : PlainNode) → n.grants.me ≡ home.replica → ((r : ℕ) → o ≡ Some r → r ≡ home.replica → ⊥) → IsAsking home n → IsAsking home (on_ask home i ask o n).after
 on_ask-asking home i ask None n me other h = h
 on_ask-asking home i ask (Some r) n me other h =
-    (elim (grants n.grants n.state r (i, ask)) as (λ b. grants n.grants n.state r (i, ask) ≡ b → IsAsking home (cond {A = Stepped} b
+    (elim (grants n.grants n.state r (i, ask)) as (λ b. grants n.grants n.state r (i, ask) ≡ b → IsAsking home (cond {A = Stepped PlainNode} b
     (record { after = record n { grants = granted n.grants r (i, ask) }; sends = mail (nth 0 (replicas_of home.plan home.frag) r) (message.Grant i ask) ∷ [] }) (silently n)).after) [
       | true ↦ λ e. ask-asking home i ask r n me (other r refl) (granted-of n.grants n.state r (i, ask) e) h
       | false ↦ λ e. h
@@ -298,8 +299,8 @@ none-of (Some p) e = cc
 
 on_grant-asking : (home : Home) (i ask : ℕ) (n : PlainNode) → IsAsking home n → IsAsking home (on_grant home i ask n).after
 on_grant-asking home i ask n h =
-    (elim (is_up_failure n.state) as (λ c. IsAsking home (cond {A = Stepped} (c && may_enter_by n.grants (i, ask)) (entered home n) (silently n)).after) [
-      | true ↦ (elim (may_enter_by n.grants (i, ask)) as (λ b. may_enter_by n.grants (i, ask) ≡ b → IsAsking home (cond {A = Stepped} b (entered home n) (silently n)).after) [
+    (elim (is_up_failure n.state) as (λ c. IsAsking home (cond {A = Stepped PlainNode} (c && may_enter_by n.grants (i, ask)) (entered home n) (silently n)).after) [
+      | true ↦ (elim (may_enter_by n.grants (i, ask)) as (λ b. may_enter_by n.grants (i, ask) ≡ b → IsAsking home (cond {A = Stepped PlainNode} b (entered home n) (silently n)).after) [
         | true ↦ λ e.
             let x = both (n.grants.running && i == n.grants.inc && ask == n.grants.over + 1) (is_none n.grants.promise) e in
             let y = both (n.grants.running && i == n.grants.inc) (ask == n.grants.over + 1) x.0 in
@@ -329,7 +330,7 @@ on_snap-asking home most i try s n g h =
 
 -- ---- any packet
 
-unless-asking : (home : Home) (n : PlainNode) (s : Stepped) → IsAsking home n → IsAsking home s.after → IsAsking home (cond n.recovering (silently n) s).after
+unless-asking : (home : Home) (n : PlainNode) (s : Stepped PlainNode) → IsAsking home n → IsAsking home s.after → IsAsking home (cond n.recovering (silently n) s).after
 unless-asking home n s h k = elim n.recovering as (λ b. IsAsking home (cond b (silently n) s).after) [ true ↦ h | false ↦ k ]
 
 message-asking : (home : Home) (me most a : ℕ) (m : Message) (n : PlainNode) → IsActor home me → packet_way home.plan (role_of home.plan a) (IsNode home.frag home.replica) (Plain m) ≡ true →
@@ -400,21 +401,21 @@ failure-calm Stabilization e f = cc
 
 reconciling-asking : (home : Home) (n : PlainNode) → n.recovering ≡ false → IsAsking home n → IsAsking home (reconciling home n).after
 reconciling-asking home n up h =
-    (elim (wants_to_reconcile home n) as (λ c. wants_to_reconcile home n ≡ c → IsAsking home (cond {A = Stepped} (c && is_none n.grants.promise) (cond (list_all is_silent (peer_watches home n)) (entered home n)
+    (elim (wants_to_reconcile home n) as (λ c. wants_to_reconcile home n ≡ c → IsAsking home (cond {A = Stepped PlainNode} (c && is_none n.grants.promise) (cond (list_all is_silent (peer_watches home n)) (entered home n)
     (record { after = record n { grants = asking n.grants }; sends = to_each (message.Ask (own_key n.grants).0 (own_key n.grants).1) (peers_of home) })) (silently n)).after) [
       | false ↦ λ e. h
-      | true ↦ λ wants. (elim (is_none n.grants.promise) as (λ c. is_none n.grants.promise ≡ c → IsAsking home (cond {A = Stepped} c (cond (list_all is_silent (peer_watches home n)) (entered home n)
+      | true ↦ λ wants. (elim (is_none n.grants.promise) as (λ c. is_none n.grants.promise ≡ c → IsAsking home (cond {A = Stepped PlainNode} c (cond (list_all is_silent (peer_watches home n)) (entered home n)
           (record { after = record n { grants = asking n.grants }; sends = to_each (message.Ask (own_key n.grants).0 (own_key n.grants).1) (peers_of home) })) (silently n)).after) [
             | false ↦ λ e. h
             | true ↦ λ none. asks (both (is_up_failure n.state) (is_complete home.plan.width (held_by n) n.cursor) wants) (none-of n.grants.promise none)
           ]) refl
     ]) refl
   where
-    asks : (is_up_failure n.state ≡ true) × (is_complete home.plan.width (held_by n) n.cursor ≡ true) → n.grants.promise ≡ None → IsAsking home (cond {A = Stepped} (list_all is_silent (peer_watches home n)) (entered home n)
+    asks : (is_up_failure n.state ≡ true) × (is_complete home.plan.width (held_by n) n.cursor ≡ true) → n.grants.promise ≡ None → IsAsking home (cond {A = Stepped PlainNode} (list_all is_silent (peer_watches home n)) (entered home n)
         (record { after = record n { grants = asking n.grants }; sends = to_each (message.Ask (own_key n.grants).0 (own_key n.grants).1) (peers_of home) })).after
     asks w none =
         let first = complete-reaches home.plan.width n.cursor (held_by n) w.1 in
-        elim (list_all is_silent (peer_watches home n)) as (λ b. IsAsking home (cond {A = Stepped} b (entered home n)
+        elim (list_all is_silent (peer_watches home n)) as (λ b. IsAsking home (cond {A = Stepped PlainNode} b (entered home n)
         (record { after = record n { grants = asking n.grants }; sends = to_each (message.Ask (own_key n.grants).0 (own_key n.grants).1) (peers_of home) })).after) [
           | true ↦ entered-asking home n up first none
           | false ↦ record {
@@ -472,7 +473,7 @@ processed-asking home last n up calm closed h =
     still (inl e) f = let clash : true ≡ false = sym f ∙ ap is_stabilization e ∙ calm in cc
     still (inr e) f = let clash : true ≡ false = sym f ∙ ap is_stabilization e in cc
 
-abbrev IsAskingAfter : Home → Stepped → Type 0
+abbrev IsAskingAfter : Home → Stepped PlainNode → Type 0
 IsAskingAfter home s = IsAsking home s.after
 
 processing-asking : (home : Home) (n : PlainNode) → n.recovering ≡ false → has_state_of_closed n ≡ true → IsAsking home n → IsAsking home (processing home n).after
@@ -497,9 +498,9 @@ serving-asking home me most n actor up g h =
 
 going_on-asking : (home : Home) (me most : ℕ) (n : PlainNode) → IsActor home me → IsGood home most n → IsAsking home n → IsAsking home (going_on home n).after
 going_on-asking home me most n actor g h =
-    (elim n.recovering as (λ b. n.recovering ≡ b → IsAsking home (cond {A = Stepped} (not b) (serving home n) (cond (may_start_afresh home n) (serving home (fresh n)) (then_do (asking_snapshots home n) (announcing home)))).after) [
+    (elim n.recovering as (λ b. n.recovering ≡ b → IsAsking home (cond {A = Stepped PlainNode} (not b) (serving home n) (cond (may_start_afresh home n) (serving home (fresh n)) (then_do (asking_snapshots home n) (announcing home)))).after) [
       | false ↦ λ up. serving-asking home me most n actor up g h
-      | true ↦ λ down. elim (may_start_afresh home n) as (λ b. IsAsking home (cond {A = Stepped} b (serving home (fresh n)) (then_do (asking_snapshots home n) (announcing home))).after) [
+      | true ↦ λ down. elim (may_start_afresh home n) as (λ b. IsAsking home (cond {A = Stepped PlainNode} b (serving home (fresh n)) (then_do (asking_snapshots home n) (announcing home))).after) [
         | true ↦ serving-asking home me most (fresh n) actor refl (fresh-good home most n actor.place down g)
             (idle home (fresh n) (emptied-of n down g.orderly.recovering).running (λ up e. cc) h.promise)
         | false ↦ h

@@ -18,9 +18,10 @@ use Rattle.dpc_model.specs.declared.messages.Subscribe.{Subscribe}
 use Rattle.dpc_model.specs.declared.messages.Beat.{Beat}
 use Rattle.dpc_model.specs.declared.messages.Message.{Message}
 use Rattle.dpc_model.specs.declared.messages.Message.TheVariants as message
-use Rattle.node_model.specs.Mails.{Snap, Packet, Plain, SnapFor, mail, to_each}
-use Rattle.node_model.specs.Nodes.{Home, PlainNode, streams_of, due_at, wants_to_reconcile, is_up_failure, is_stabilization}
-use Rattle.node_model.specs.NodeSteps.{Stepped, silently, then_do, peers_of, peer_watches, replica_number, reader_place, with_port, port_emptied, ports_adopted, entered, recovering_again, adopted, took, stamped_by, on_batch, on_subscribe, on_truncation, on_upstream_beat, on_peer_beat, on_ack, on_ask, on_grant, on_snap_ask, on_snap, on_message, on_packet, with_marks_ended, delivered, milled, clocked, may_start_afresh, choosing, reconciling, processed_upto, processing, announcing, serving, asking_snapshots, going_on, fresh, ticked_at}
+use Rattle.node_model.specs.Mails.{Snap, Packet, Plain, SnapFor, mail, to_each, Stepped}
+use Rattle.dpc_model.specs.NodeStates.{is_up_failure, is_stabilization}
+use Rattle.node_model.specs.Nodes.{Home, PlainNode, streams_of, due_at, wants_to_reconcile}
+use Rattle.node_model.specs.NodeSteps.{silently, then_do, peers_of, peer_watches, replica_number, reader_place, with_port, port_emptied, ports_adopted, entered, recovering_again, adopted, took, stamped_by, on_batch, on_subscribe, on_truncation, on_upstream_beat, on_peer_beat, on_ack, on_ask, on_grant, on_snap_ask, on_snap, on_message, on_packet, with_marks_ended, delivered, milled, clocked, may_start_afresh, choosing, reconciling, processed_upto, processing, announcing, serving, asking_snapshots, going_on, fresh, ticked_at}
 use Rattle.world_safety.proofs.Tests.{not-lt, eq-of}
 use Rattle.granting_law.specs.Taken.{index_in}
 
@@ -258,7 +259,7 @@ module _ (home : Home) (a : ℕ) (packet : Packet) where
 
   ask-ports : (i ask : ℕ) (o : Option ℕ) (n : PlainNode) → (on_ask home i ask o n).after.ports ≡ n.ports
   ask-ports i ask None n = refl
-  ask-ports i ask (Some r) n = elim (grants n.grants n.state r (i, ask)) as (λ b. (cond {A = Stepped} b (record { after = record n { grants = granted n.grants r (i, ask) }; sends = mail (nth 0 (replicas_of home.plan home.frag) r) (message.Grant i ask) ∷ [] }) (silently n)).after.ports ≡ n.ports) [
+  ask-ports i ask (Some r) n = elim (grants n.grants n.state r (i, ask)) as (λ b. (cond {A = Stepped PlainNode} b (record { after = record n { grants = granted n.grants r (i, ask) }; sends = mail (nth 0 (replicas_of home.plan home.frag) r) (message.Grant i ask) ∷ [] }) (silently n)).after.ports ≡ n.ports) [
     | true ↦ refl
     | false ↦ refl
   ]
@@ -293,10 +294,10 @@ unfolding entered
 entered-ports home n = refl
 
 grant-ports : (home : Home) (i ask : ℕ) (n : PlainNode) → (on_grant home i ask n).after.ports ≡ n.ports
-grant-ports home i ask n = elim (is_up_failure n.state && may_enter_by n.grants (i, ask)) as (λ b. (cond {A = Stepped} b (entered home n) (silently n)).after.ports ≡ n.ports) [ true ↦ entered-ports home n | false ↦ refl ]
+grant-ports home i ask n = elim (is_up_failure n.state && may_enter_by n.grants (i, ask)) as (λ b. (cond {A = Stepped PlainNode} b (entered home n) (silently n)).after.ports ≡ n.ports) [ true ↦ entered-ports home n | false ↦ refl ]
 
-unless-ports : (home : Home) (n : PlainNode) (s : Stepped) → s.after.ports ≡ n.ports → (cond {A = Stepped} n.recovering (silently n) s).after.ports ≡ n.ports
-unless-ports home n s h = elim n.recovering as (λ b. (cond {A = Stepped} b (silently n) s).after.ports ≡ n.ports) [ true ↦ refl | false ↦ h ]
+unless-ports : (home : Home) (n : PlainNode) (s : Stepped PlainNode) → s.after.ports ≡ n.ports → (cond {A = Stepped PlainNode} n.recovering (silently n) s).after.ports ≡ n.ports
+unless-ports home n s h = elim n.recovering as (λ b. (cond {A = Stepped PlainNode} b (silently n) s).after.ports ≡ n.ports) [ true ↦ refl | false ↦ h ]
 
 message-ports : (home : Home) (a : ℕ) (m : Message) (n : PlainNode) → PortsMove (DeliversNext home a (Plain m)) n.ports (on_message home a m n).after.ports
 message-ports home a (message.Batch u index items) n = batch-ports home a (Plain (message.Batch u index items)) u index items (sender_at home.plan (streams_of home) a) n refl refl
@@ -351,7 +352,7 @@ unfolding milled
 milled-ports home r n =
     ports-stay NoneTaken n.ports (milled home r n).after.ports refl
 
-abbrev HasPorts : List Port → Stepped → Type 0
+abbrev HasPorts : List Port → Stepped PlainNode → Type 0
 HasPorts ps s = s.after.ports ≡ ps
 
 reconciling-ports : (home : Home) (n : PlainNode) → HasPorts n.ports (reconciling home n)
@@ -385,9 +386,9 @@ serving-ports home n =
 
 going_on-ports : (home : Home) (n : PlainNode) → PortsMove NoneTaken n.ports (going_on home n).after.ports
 going_on-ports home n =
-    elim n.recovering as (λ b. PortsMove NoneTaken n.ports (cond {A = Stepped} (not b) (serving home n) (cond (may_start_afresh home n) (serving home (fresh n)) (then_do (asking_snapshots home n) (announcing home)))).after.ports) [
+    elim n.recovering as (λ b. PortsMove NoneTaken n.ports (cond {A = Stepped PlainNode} (not b) (serving home n) (cond (may_start_afresh home n) (serving home (fresh n)) (then_do (asking_snapshots home n) (announcing home)))).after.ports) [
       | false ↦ serving-ports home n
-      | true ↦ elim (may_start_afresh home n) as (λ b. PortsMove NoneTaken n.ports (cond {A = Stepped} b (serving home (fresh n)) (then_do (asking_snapshots home n) (announcing home))).after.ports) [
+      | true ↦ elim (may_start_afresh home n) as (λ b. PortsMove NoneTaken n.ports (cond {A = Stepped PlainNode} b (serving home (fresh n)) (then_do (asking_snapshots home n) (announcing home))).after.ports) [
         | true ↦ serving-ports home (fresh n)
         | false ↦ ports-stay NoneTaken n.ports n.ports refl
       ]

@@ -8,7 +8,8 @@ use Rattle.dpc_model.specs.declared.messages.Event.{Event}
 use Rattle.dpc_model.specs.declared.messages.NodeState.{NodeState}
 use Rattle.dpc_model.specs.declared.messages.NodeState.TheVariants.{Stable, UpFailure, Stabilization}
 use Rattle.dpc_model.specs.declared.plans.Plan.{Plan}
-use Rattle.node_model.specs.Nodes.{Home, PlainNode, spec_of, held_by, complete_upto, ready, wants_to_reconcile, is_up_failure, is_stabilization, new_node}
+use Rattle.dpc_model.specs.NodeStates.{is_up_failure, is_stabilization}
+use Rattle.node_model.specs.Nodes.{Home, PlainNode, spec_of, held_by, complete_upto, ready, wants_to_reconcile, new_node}
 use Rattle.world_model.specs.Worlds.{World, Slot, home_of, node_place, slot_of, happens, run_from, run, new_world}
 use Rattle.world_model.specs.Safe.{EachReaches}
 use Rattle.world_model.specs.Orderly.{has_state_of_closed}

@@ -4,7 +4,7 @@ use Rattle.std.specs.Prelude.{is_none}
 use Rattle.dpc_model.specs.Lists.{nth, list_all}
 use Rattle.dpc_model.specs.Inlets.{Took, take_batch, same_sess}
 use Rattle.dpc_model.specs.Replicas.{is_silent}
-use Rattle.dpc_model.specs.Granting.{Key, key_le, Grants, own_key, grants, granted, promise_to, promised_other, known_over, may_enter_by, asking, is_stabilizing}
+use Rattle.dpc_model.specs.Granting.{Key, key_le, Grants, own_key, grants, granted, promise_to, promised_other, known_over, may_enter_by, asking}
 use Rattle.dpc_model.specs.Actors.{replicas_of}
 use Rattle.dpc_model.specs.Ports.{subscriptions, no_port, sender_at, on_truncated, all_truncated}
 use Rattle.dpc_model.specs.Sessions.{Sub, Shown, Answered, answered, is_newer_than_kept, first_batch, given_items}
@@ -19,9 +19,10 @@ use Rattle.dpc_model.specs.declared.messages.Beat.{Beat}
 use Rattle.dpc_model.specs.declared.messages.NodeState.{NodeState}
 use Rattle.dpc_model.specs.declared.messages.Message.{Message}
 use Rattle.dpc_model.specs.declared.messages.Message.TheVariants as message
-use Rattle.node_model.specs.Mails.{Snap, Packet, Plain, SnapFor, Mail, mail, mails, in_actor_order, to_each}
-use Rattle.node_model.specs.Nodes.{Home, PlainNode, streams_of, own_readers, view_cursor, out_stable, shown, complete_buckets, ready, due_at, wants_to_reconcile, is_up_failure, is_stabilization}
-use Rattle.node_model.specs.NodeSteps.{Stepped, silently, then_do, peers_of, peer_watches, replica_number, with_port, give, given_by, given_stable, entered, recovering_again, adopted, took, stamped_by, on_batch, on_subscribe, on_truncation, on_upstream_beat, on_peer_beat, on_ack, on_ask, on_grant, on_snap_ask, on_snap, reader_place, on_message, on_packet, with_marks_ended, delivered, advanced, reconciled, milled, clocked, may_start_afresh, choosing, reconciling, closing, with_failure, processed_upto, processing, acks_from, beats, announcing, serving, asking_snapshots, going_on, fresh, ticked_at}
+use Rattle.node_model.specs.Mails.{Snap, Packet, Plain, SnapFor, Mail, mail, mails, in_actor_order, to_each, Stepped}
+use Rattle.dpc_model.specs.NodeStates.{is_up_failure, is_stabilization}
+use Rattle.node_model.specs.Nodes.{Home, PlainNode, streams_of, own_readers, view_cursor, out_stable, shown, complete_buckets, ready, due_at, wants_to_reconcile}
+use Rattle.node_model.specs.NodeSteps.{silently, then_do, peers_of, peer_watches, replica_number, with_port, give, given_by, given_stable, entered, recovering_again, adopted, took, stamped_by, on_batch, on_subscribe, on_truncation, on_upstream_beat, on_peer_beat, on_ack, on_ask, on_grant, on_snap_ask, on_snap, reader_place, on_message, on_packet, with_marks_ended, delivered, advanced, reconciled, milled, clocked, may_start_afresh, choosing, reconciling, closing, with_failure, processed_upto, processing, acks_from, beats, announcing, serving, asking_snapshots, going_on, fresh, ticked_at}
 use Rattle.world_safety.proofs.Delivered.{place-nth}
 use Rattle.granting_law.proofs.Each.{Each, each-append, each-sorted, each-to, each-batches, each-subscription, each-acks, each-beats}
 use Rattle.granting_law.proofs.Keys.{key-refl, greater-second, IsAskStep, step-same, step-asking, step-finished, step-told, step-granted, step-silent}
@@ -82,7 +83,7 @@ Ends home a packet q key = (k : Key) × Hears home a packet q k × (key_le key k
 
 -- ---- one step
 
-pub record IsOwnStep (H A E : ℕ → Key → Type 0) (home : Home) (n : PlainNode) (s : Stepped) : Type 0 where
+pub record IsOwnStep (H A E : ℕ → Key → Type 0) (home : Home) (n : PlainNode) (s : Stepped PlainNode) : Type 0 where
   pub grants : IsAskStep H A E n.grants s.after.grants
   pub mails : Each (Says home s.after.grants) s.sends
 
@@ -147,15 +148,15 @@ subscribed-says home g k x sub asked =
 
 -- what a grant needs
 pub record IsGranted (g : Grants) (s : NodeState) (r : ℕ) (key : Key) : Type 0 where
-  pub calm : is_stabilizing s ≡ false
+  pub calm : is_stabilization s ≡ false
   pub same : promised_other g r ≡ false
   pub lower : (g.running && nat_lt g.me r) ≡ false
   pub going_on : known_over g r key ≡ false
 
 pub granted-of : (g : Grants) (s : NodeState) (r : ℕ) (key : Key) → grants g s r key ≡ true → IsGranted g s r key
-granted-of g s r key h = by-parts (is_stabilizing s) (promised_other g r) (g.running && nat_lt g.me r) (known_over g r key) refl refl refl refl h
+granted-of g s r key h = by-parts (is_stabilization s) (promised_other g r) (g.running && nat_lt g.me r) (known_over g r key) refl refl refl refl h
   where
-    by-parts : (a b c d : Bool) → is_stabilizing s ≡ a → promised_other g r ≡ b → (g.running && nat_lt g.me r) ≡ c → known_over g r key ≡ d → not (a || b || c || d) ≡ true → IsGranted g s r key
+    by-parts : (a b c d : Bool) → is_stabilization s ≡ a → promised_other g r ≡ b → (g.running && nat_lt g.me r) ≡ c → known_over g r key ≡ d → not (a || b || c || d) ≡ true → IsGranted g s r key
     by-parts true b c d e f k l x = cc
     by-parts false true c d e f k l x = cc
     by-parts false false true d e f k l x = cc
@@ -165,7 +166,7 @@ granted-of g s r key h = by-parts (is_stabilizing s) (promised_other g r) (g.run
 -- ---- a packet
 
 module _ (home : Home) (a : ℕ) (packet : Packet) where
-  abbrev own : PlainNode → Stepped → Type 0
+  abbrev own : PlainNode → Stepped PlainNode → Type 0
   own n s = IsOwnStep (Hears home a packet) (Asks home a packet) (Ends home a packet) home n s
 
   -- the grants stay
@@ -236,7 +237,7 @@ module _ (home : Home) (a : ℕ) (packet : Packet) where
       ]
 
   -- unless the node recovers
-  own-unless : (n : PlainNode) (s : Stepped) → own n s → own n (cond n.recovering (silently n) s)
+  own-unless : (n : PlainNode) (s : Stepped PlainNode) → own n s → own n (cond n.recovering (silently n) s)
   own-unless n s h = elim n.recovering as (λ b. own n (cond b (silently n) s)) [ true ↦ own-silent n n refl | false ↦ h ]
 
 own-message : (home : Home) (a : ℕ) (m : Message) (n : PlainNode) → IsOwnStep (Hears home a (Plain m)) (Asks home a (Plain m)) (Ends home a (Plain m)) home n (on_message home a m n)
@@ -292,7 +293,7 @@ FoundSilent now n q key = nth false (map is_silent (clocked now n).peers) q ≡ 
 processed-grants : (home : Home) (last : ℕ) (n : PlainNode) → (processed_upto home last n).after.grants ≡ n.grants
 processed-grants home last n = refl
 
-abbrev HasGrants : Grants → Stepped → Type 0
+abbrev HasGrants : Grants → Stepped PlainNode → Type 0
 HasGrants g s = s.after.grants ≡ g
 
 processing-grants : (home : Home) (n : PlainNode) → HasGrants n.grants (processing home n)
@@ -305,7 +306,7 @@ processing-grants home n =
       ]
     ]
 
-abbrev SendsSaying : Home → Grants → Stepped → Type 0
+abbrev SendsSaying : Home → Grants → Stepped PlainNode → Type 0
 SendsSaying home g s = Each (Says home g) s.sends
 
 processing-says : (home : Home) (g : Grants) (n : PlainNode) → SendsSaying home g (processing home n)
@@ -333,7 +334,7 @@ announcing-says home n =
 
 module _ (H A E : ℕ → Key → Type 0) (home : Home) (g : Grants) where
   -- the node asks, or not, and says so
-  record IsReconciling (n : PlainNode) (s : Stepped) : Type 0 where
+  record IsReconciling (n : PlainNode) (s : Stepped PlainNode) : Type 0 where
     grants : IsAskStep H A E g s.after.grants
     mails : Each (Says home s.after.grants) s.sends
 

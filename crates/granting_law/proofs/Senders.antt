@@ -19,9 +19,10 @@ use Rattle.dpc_model.specs.declared.messages.Subscribe.{Subscribe}
 use Rattle.dpc_model.specs.declared.messages.Message.{Message}
 use Rattle.dpc_model.specs.declared.messages.Message.TheVariants as message
 use Rattle.dpc_model.specs.declared.messages.NodeState.TheVariants.{Stabilization}
-use Rattle.node_model.specs.Mails.{Snap, Packet, Plain, SnapFor, Mail, mail, mails, in_actor_order, to_each}
-use Rattle.node_model.specs.Nodes.{Home, PlainNode, streams_of, own_readers, view_cursor, out_stable, shown, complete_buckets, ready, due_at, wants_to_reconcile, is_up_failure, is_stabilization}
-use Rattle.node_model.specs.NodeSteps.{Stepped, silently, then_do, peers_of, peer_watches, replica_number, reader_place, with_port, give, given_by, given_stable, entered, recovering_again, adopted, took, stamped_by, on_batch, on_subscribe, on_truncation, on_upstream_beat, on_peer_beat, on_ack, on_ask, on_grant, on_snap_ask, on_snap, on_message, on_packet, with_marks_ended, delivered, advanced, reconciled, milled, clocked, may_start_afresh, choosing, reconciling, closing, with_failure, processed_upto, processing, acks_from, beats, announcing, serving, asking_snapshots, going_on, fresh, ticked_at}
+use Rattle.node_model.specs.Mails.{Snap, Packet, Plain, SnapFor, Mail, mail, mails, in_actor_order, to_each, Stepped}
+use Rattle.dpc_model.specs.NodeStates.{is_up_failure, is_stabilization}
+use Rattle.node_model.specs.Nodes.{Home, PlainNode, streams_of, own_readers, view_cursor, out_stable, shown, complete_buckets, ready, due_at, wants_to_reconcile}
+use Rattle.node_model.specs.NodeSteps.{silently, then_do, peers_of, peer_watches, replica_number, reader_place, with_port, give, given_by, given_stable, entered, recovering_again, adopted, took, stamped_by, on_batch, on_subscribe, on_truncation, on_upstream_beat, on_peer_beat, on_ack, on_ask, on_grant, on_snap_ask, on_snap, on_message, on_packet, with_marks_ended, delivered, advanced, reconciled, milled, clocked, may_start_afresh, choosing, reconciling, closing, with_failure, processed_upto, processing, acks_from, beats, announcing, serving, asking_snapshots, going_on, fresh, ticked_at}
 use Rattle.world_model.specs.Worlds.{Envelope, from}
 use Rattle.world_model.specs.SessionLaw.{Line}
 use Rattle.world_safety.proofs.Tests.{both-of, eq-of, eq-test}
@@ -48,7 +49,7 @@ length-counted : (items : List Item) (subs : List Sub) → length (counted_all i
 length-counted items subs = elim (is_nil items) as (λ b. length (cond b subs (map counted subs)) ≡ length subs) [ true ↦ refl | false ↦ length-map subs counted ]
 
 -- what a step sends to the reader of one place in one session
-pub record NodeSends (home : Home) (a k : ℕ) (s : Sess) (opens : Bool) (old : List Sub) (t : Stepped) : Type 0 where
+pub record NodeSends (home : Home) (a k : ℕ) (s : Sess) (opens : Bool) (old : List Sub) (t : Stepped PlainNode) : Type 0 where
   pub many : length t.after.subs ≡ length (own_readers home)
   pub on : SendsOn s opens (nth no_session old k) (nth no_session t.after.subs k) (indexes (record { sender = a; reader = nth 0 (own_readers home) k; sess = s }) (map (from a) t.sends))
 
@@ -56,11 +57,11 @@ module _ (home : Home) (a k : ℕ) (s : Sess) (opens : Bool) (distinct : AreDist
   abbrev line : Line
   line = record { sender = a; reader = nth 0 (own_readers home) k; sess = s }
 
-  abbrev Sends : List Sub → Stepped → Type 0
+  abbrev Sends : List Sub → Stepped PlainNode → Type 0
   Sends old t = NodeSends home a k s opens old t
 
   -- sessions stay, and no batch is sent
-  sends-quiet : (old : List Sub) (t : Stepped) → length old ≡ length (own_readers home) → t.after.subs ≡ old → Each IsNoBatch t.sends → Sends old t
+  sends-quiet : (old : List Sub) (t : Stepped PlainNode) → length old ≡ length (own_readers home) → t.after.subs ≡ old → Each IsNoBatch t.sends → Sends old t
   sends-quiet old t many same none =
       record {
         many = ap length same ∙ many;
@@ -80,7 +81,7 @@ module _ (home : Home) (a k : ℕ) (s : Sess) (opens : Bool) (distinct : AreDist
   sends-give : (items : List Item) (m : PlainNode) → length m.subs ≡ length (own_readers home) → Sends m.subs (give home items m)
   sends-give items m many = record { many = length-counted items m.subs ∙ many; on = sends-given (own_readers home) a k s opens items m.subs distinct many low }
 
-  sends-behind : (old : List Sub) (t : Stepped) (f : PlainNode → Stepped) → Sends old t → Sends t.after.subs (f t.after) → Sends old (then_do t f)
+  sends-behind : (old : List Sub) (t : Stepped PlainNode) (f : PlainNode → Stepped PlainNode) → Sends old t → Sends t.after.subs (f t.after) → Sends old (then_do t f)
   sends-behind old t f h g =
       record {
         many = g.many;
@@ -178,7 +179,7 @@ module _ (home : Home) (a k : ℕ) (s : Sess) (opens : Bool) (distinct : AreDist
     | false ↦ sends-quiet n.subs (silently n) many refl tt
   ]
 
-  unless-sends : (n : PlainNode) (t : Stepped) → length n.subs ≡ length (own_readers home) → Sends n.subs t → Sends n.subs (cond n.recovering (silently n) t)
+  unless-sends : (n : PlainNode) (t : Stepped PlainNode) → length n.subs ≡ length (own_readers home) → Sends n.subs t → Sends n.subs (cond n.recovering (silently n) t)
   unless-sends n t many h = elim n.recovering as (λ b. Sends n.subs (cond b (silently n) t)) [ true ↦ sends-quiet n.subs (silently n) many refl tt | false ↦ h ]
 
   took-subs : (p : ℕ) (t : Took) (n : PlainNode) → (took home p t n).subs ≡ n.subs

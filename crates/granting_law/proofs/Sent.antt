@@ -7,9 +7,9 @@ use Rattle.dpc_model.specs.Sessions.{Sub, no_session}
 use Rattle.dpc_model.specs.declared.messages.Event.{Event}
 use Rattle.dpc_model.specs.declared.messages.Sess.{Sess}
 use Rattle.dpc_model.specs.declared.plans.Plan.{Plan}
-use Rattle.node_model.specs.Mails.{Mail}
+use Rattle.node_model.specs.Mails.{Mail, Stepped}
 use Rattle.node_model.specs.Nodes.{Home, PlainNode, own_readers, restarted_node}
-use Rattle.node_model.specs.NodeSteps.{Stepped, delivered, milled, ticked_at}
+use Rattle.node_model.specs.NodeSteps.{delivered, milled, ticked_at}
 use Rattle.world_model.specs.Worlds.{World, Envelope, Slot, home_of, node_place, slot_of, from, node_stepped, restart_slot, can_come, happens}
 use Rattle.world_model.specs.SessionLaw.{Line}
 use Rattle.world_safety.proofs.Tests.{both-of, eq-of, eq-test, lt-of}
@@ -90,7 +90,7 @@ module _ (w : World) (most a x f r k i : ℕ) (s : Sess) (fine : IsFine w most) 
   many-here n up = (shape-of (home_of w.plan (f, r)) most n (node-here w most a f r n fine line.role up).orderly.shape).subs
 
   -- the node's own step
-  own-step : (n : PlainNode) (t : Stepped) (opens : Bool) → (slot_of w a).node ≡ Some n → t.after.grants.inc ≡ n.grants.inc → NodeSends (home_of w.plan (f, r)) a k s opens n.subs t → (opens ≡ true → n.grants.inc ≡ i) → SentOrder (node_stepped a t w) a x k i s
+  own-step : (n : PlainNode) (t : Stepped PlainNode) (opens : Bool) → (slot_of w a).node ≡ Some n → t.after.grants.inc ≡ n.grants.inc → NodeSends (home_of w.plan (f, r)) a k s opens n.subs t → (opens ≡ true → n.grants.inc ≡ i) → SentOrder (node_stepped a t w) a x k i s
   own-step n t opens up inc sends told =
       let sent = indexes at (map (from a) t.sends) in
       let on = subst (λ (z : ℕ). SendsOn s opens (nth no_session n.subs k) (nth no_session t.after.subs k) (indexes (record { sender = a; reader = z; sess = s }) (map (from a) t.sends))) line.reader sends.on in
@@ -130,7 +130,7 @@ module _ (w : World) (most a x f r k i : ℕ) (s : Sess) (fine : IsFine w most) 
       not-open true e other = absurd (other (told e))
 
   -- a step of any node
-  any-step : (y p q : ℕ) (n : PlainNode) (t : Stepped) → role_of w.plan y ≡ IsNode p q → (a ≡ y → SentOrder (node_stepped a t w) a x k i s) → SentOrder (node_stepped y t w) a x k i s
+  any-step : (y p q : ℕ) (n : PlainNode) (t : Stepped PlainNode) → role_of w.plan y ≡ IsNode p q → (a ≡ y → SentOrder (node_stepped a t w) a x k i s) → SentOrder (node_stepped y t w) a x k i s
   any-step y p q n t role own =
       elim (same-or a y) [
         | inl same ↦ subst (λ (z : ℕ). SentOrder (node_stepped z t w) a x k i s) same (own same)

@@ -14,8 +14,8 @@ use Rattle.dpc_model.specs.declared.messages.Sess.{Sess}
 use Rattle.dpc_model.specs.declared.messages.Subscribe.{Subscribe}
 use Rattle.dpc_model.specs.declared.plans.Plan.{Plan}
 use Rattle.dpc_model.specs.declared.plans.StreamRef.TheVariants.{Source}
-use Rattle.node_model.specs.Mails.{Mail, mail, Packet, Plain, SnapFor}
-use Rattle.node_model.specs.Sources.{SourceState, SourceStepped, source_readers, source_shown, source_given, source_gives, source_emits, source_releases, source_subscribed, source_delivered, source_beat, source_ticked, bound_at}
+use Rattle.node_model.specs.Mails.{Mail, mail, Packet, Plain, SnapFor, Stepped}
+use Rattle.node_model.specs.Sources.{SourceState, source_readers, source_shown, source_given, source_gives, source_emits, source_releases, source_subscribed, source_delivered, source_beat, source_ticked, bound_at}
 use Rattle.world_model.specs.Worlds.{World, Envelope, source_at, no_source, from, source_stepped, can_come, happens, run_from}
 use Rattle.world_model.specs.Safe.{EachStep}
 use Rattle.world_model.specs.SessionLaw.{Line}
@@ -40,7 +40,7 @@ nth-in d f (x ∷ xs) zero h = refl
 nth-in d f (x ∷ xs) (suc k) h = nth-in d f xs k (omega (arith, h))
 
 -- what a source's step sends to the reader of one place in one session
-record SourceSends (readers : List ℕ) (a k : ℕ) (s : Sess) (opens : Bool) (old : SourceState) (t : SourceStepped) : Type 0 where
+record SourceSends (readers : List ℕ) (a k : ℕ) (s : Sess) (opens : Bool) (old : SourceState) (t : Stepped SourceState) : Type 0 where
   many : length t.after.subs ≡ length readers
   on : SendsOn s opens (nth no_session old.subs k) (nth no_session t.after.subs k) (indexes (record { sender = a; reader = nth 0 readers k; sess = s }) (map (from a) t.sends))
 
@@ -48,10 +48,10 @@ module _ (plan : Plan) (u a k : ℕ) (s : Sess) (opens : Bool) (low : k < length
   abbrev line : Line
   line = record { sender = a; reader = nth 0 (source_readers plan u) k; sess = s }
 
-  abbrev Sends : SourceState → SourceStepped → Type 0
+  abbrev Sends : SourceState → Stepped SourceState → Type 0
   Sends old t = SourceSends (source_readers plan u) a k s opens old t
 
-  quiet : (x : SourceState) (t : SourceStepped) → length x.subs ≡ length (source_readers plan u) → t.after.subs ≡ x.subs → Each IsNoBatch t.sends → Sends x t
+  quiet : (x : SourceState) (t : Stepped SourceState) → length x.subs ≡ length (source_readers plan u) → t.after.subs ≡ x.subs → Each IsNoBatch t.sends → Sends x t
   quiet x t many same none =
       record {
         many = ap length same ∙ many;
@@ -191,7 +191,7 @@ module _ (w : World) (a x u k i : ℕ) (s : Sess) (readers : ℕ) (line : IsSour
   full : length (source_at w u).subs ≡ length (source_readers w.plan u)
   full = h.few ∙ line.few
 
-  own-source : (t : SourceStepped) (opens : Bool) → SourceSends (source_readers w.plan u) a k s opens (source_at w u) t → (opens ≡ true → 1 ≡ i) → SourceOrder (source_stepped a t w) a x u k i s readers
+  own-source : (t : Stepped SourceState) (opens : Bool) → SourceSends (source_readers w.plan u) a k s opens (source_at w u) t → (opens ≡ true → 1 ≡ i) → SourceOrder (source_stepped a t w) a x u k i s readers
   own-source t opens sends told =
       let sent = indexes at (map (from a) t.sends) in
       let on = subst (λ (z : ℕ). SendsOn s opens (nth no_session (source_at w u).subs k) (nth no_session t.after.subs k) (indexes (record { sender = a; reader = z; sess = s }) (map (from a) t.sends))) line.reader sends.on in
@@ -228,7 +228,7 @@ module _ (w : World) (a x u k i : ℕ) (s : Sess) (readers : ℕ) (line : IsSour
       not-open true e other = absurd (other (told e))
 
   -- a step of any source
-  any-source : (y v : ℕ) (t : SourceStepped) → role_of w.plan y ≡ IsSource v → (a ≡ y → SourceOrder (source_stepped a t w) a x u k i s readers) → SourceOrder (source_stepped y t w) a x u k i s readers
+  any-source : (y v : ℕ) (t : Stepped SourceState) → role_of w.plan y ≡ IsSource v → (a ≡ y → SourceOrder (source_stepped a t w) a x u k i s readers) → SourceOrder (source_stepped y t w) a x u k i s readers
   any-source y v t role own =
       elim (same-or a y) [
         | inl same ↦ subst (λ (z : ℕ). SourceOrder (source_stepped z t w) a x u k i s readers) same (own same)

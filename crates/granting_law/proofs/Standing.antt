@@ -10,9 +10,10 @@ use Rattle.dpc_model.specs.Actors.{Role, IsSource, IsNode, IsClient, Nobody, rol
 use Rattle.dpc_model.specs.declared.messages.Event.{Event}
 use Rattle.dpc_model.specs.declared.messages.Message.TheVariants as message
 use Rattle.dpc_model.specs.declared.plans.Plan.{Plan}
-use Rattle.node_model.specs.Mails.{Packet, Plain, Mail}
-use Rattle.node_model.specs.Nodes.{Home, PlainNode, is_stabilization, restarted_node}
-use Rattle.node_model.specs.NodeSteps.{Stepped, replica_number, clocked, delivered, milled, ticked_at}
+use Rattle.node_model.specs.Mails.{Packet, Plain, Mail, Stepped}
+use Rattle.dpc_model.specs.NodeStates.{is_stabilization}
+use Rattle.node_model.specs.Nodes.{Home, PlainNode, restarted_node}
+use Rattle.node_model.specs.NodeSteps.{replica_number, clocked, delivered, milled, ticked_at}
 use Rattle.world_model.specs.Worlds.{World, Envelope, Slot, home_of, node_place, slot_of, from, node_stepped, restart_slot, is_clock, happens, run_from, run, new_world}
 use Rattle.world_model.specs.Orderly.{is_fitting, carries_fitting}
 use Rattle.world_safety.specs.Plans.{IsCheckedPlan}
@@ -242,7 +243,7 @@ stands-cases w most a b f ra rb i key fine asking h =
       client_ticks = λ x c now role calm. stands-quiet w _ a b f ra rb i key refl refl h;
     }
   where
-    stepped : (x p q : ℕ) (n : PlainNode) (s : Stepped) (H A E : ℕ → Key → Type 0) → role_of w.plan x ≡ IsNode p q → (slot_of w x).node ≡ Some n → IsAskStep H A E n.grants s.after.grants →
+    stepped : (x p q : ℕ) (n : PlainNode) (s : Stepped PlainNode) (H A E : ℕ → Key → Type 0) → role_of w.plan x ≡ IsNode p q → (slot_of w x).node ≡ Some n → IsAskStep H A E n.grants s.after.grants →
         (b ≡ x → IsPending (slot_of w a) key → (r : ℕ) (more : Key) → replica_number (home_of w.plan (f, rb)) a ≡ Some r → key_le key more ≡ true → E r more → ⊥) → Stands (node_stepped x s w) a b f ra rb i key
     stepped x p q n s H A E role up own stays =
         stands-slot w most x p q a b f ra rb i key (λ (slot : Slot). record slot { node = Some s.after }) (w.envelopes ++ map (from x) s.sends) fine role
@@ -348,7 +349,7 @@ grant-cases w most k a b f rb key fine new role_b =
               let same : b ≡ x = ap (λ (z : Envelope). z.sender) found.1 in unlike f rb (ap (λ (z : ℕ). role_of w.plan z) (sym same) ∙ role_b)
         ]
 
-    stepped : (x p q : ℕ) (m : PlainNode) (s : Stepped) → role_of w.plan x ≡ IsNode p q → Each (Says (home_of w.plan (p, q)) s.after.grants) s.sends →
+    stepped : (x p q : ℕ) (m : PlainNode) (s : Stepped PlainNode) → role_of w.plan x ≡ IsNode p q → Each (Says (home_of w.plan (p, q)) s.after.grants) s.sends →
         slice_get (w.envelopes ++ map (from x) s.sends) k ≡ Some (record { sender = b; to = a; packet = Plain (message.Grant key.0 key.1) }) → (n : PlainNode) → (slot_of (node_stepped x s w) b).node ≡ Some n → HoldsFor (home_of w.plan (f, rb)) a key n
     stepped x p q m s role says there n up =
         elim (got-sent (Says (home_of w.plan (p, q)) s.after.grants) x w.envelopes s.sends k (record { sender = b; to = a; packet = Plain (message.Grant key.0 key.1) }) says there) [

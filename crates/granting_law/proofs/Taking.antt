@@ -16,9 +16,9 @@ use Rattle.dpc_model.specs.declared.messages.Sess.{Sess}
 use Rattle.dpc_model.specs.declared.plans.Plan.{Plan}
 use Rattle.dpc_model.specs.declared.plans.StreamRef.{StreamRef}
 use Rattle.dpc_model.specs.declared.plans.StreamRef.TheVariants.{Source}
-use Rattle.node_model.specs.Mails.{Packet, Plain, SnapFor}
+use Rattle.node_model.specs.Mails.{Packet, Plain, SnapFor, Stepped}
 use Rattle.node_model.specs.Nodes.{Home, PlainNode, streams_of, reader_at, new_node, restarted_node}
-use Rattle.node_model.specs.NodeSteps.{Stepped, delivered, milled, ticked_at}
+use Rattle.node_model.specs.NodeSteps.{delivered, milled, ticked_at}
 use Rattle.node_model.specs.Clients.{ClientState, client_stream, new_client, keeping, client_took, client_message, client_packet, client_marks_ended, client_delivered, client_ticked}
 use Rattle.world_model.specs.Worlds.{World, Envelope, Slot, home_of, node_place, slot_of, client_at, from, node_stepped, client_stepped, restart_slot, happens, run_from, run, new_world}
 use Rattle.world_model.specs.SessionLaw.{Line}
@@ -136,7 +136,7 @@ module _ (w : World) (most x f q p : ℕ) (u : StreamRef) (fine : IsFine w most)
         | inr other ↦ node-still e next role_x (slot-there w y x g r0 f q h role role_x other) r there
       ]
 
-  node-step : (e : Event) (n : PlainNode) (s : Stepped) (T : ℕ → ℕ → Sess → ℕ → Type 0) → (slot_of w x).node ≡ Some n → PortsMove T n.ports s.after.ports → ((c : ℕ) (z : Sess) (i : ℕ) → T p c z i → TookIt w e x u c z i) →
+  node-step : (e : Event) (n : PlainNode) (s : Stepped PlainNode) (T : ℕ → ℕ → Sess → ℕ → Type 0) → (slot_of w x).node ≡ Some n → PortsMove T n.ports s.after.ports → ((c : ℕ) (z : Sess) (i : ℕ) → T p c z i → TookIt w e x u c z i) →
       (r : Port) → slice_get s.after.ports p ≡ Some r → Came w e x p u r
   node-step e n s T up moves weaker r there =
       let k = moves p r there in inr (k.0, port-was (Some n) up ∙ k.1, moves-weaker (T p) (TookIt w e x u) k.0 r weaker k.2)

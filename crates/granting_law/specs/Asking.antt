@@ -5,7 +5,8 @@ use Rattle.dpc_model.specs.Granting.{Key, known_over}
 use Rattle.dpc_model.specs.Actors.{IsNode, role_of}
 use Rattle.dpc_model.specs.declared.messages.Message.TheVariants as message
 use Rattle.node_model.specs.Mails.{Packet, Plain, SnapFor}
-use Rattle.node_model.specs.Nodes.{Home, PlainNode, is_stabilization, ready, wants_to_reconcile}
+use Rattle.dpc_model.specs.NodeStates.{is_stabilization}
+use Rattle.node_model.specs.Nodes.{Home, PlainNode, ready, wants_to_reconcile}
 use Rattle.world_model.specs.Worlds.{World, Envelope, Slot, home_of, slot_of}
 
 -- ---- one node

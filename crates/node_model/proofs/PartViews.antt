@@ -18,9 +18,10 @@ use Rattle.dpc_model.specs.declared.messages.Beat.{Beat}
 use Rattle.dpc_model.specs.declared.messages.Sess.{Sess}
 use Rattle.dpc_model.specs.declared.messages.Subscribe.{Subscribe}
 use Rattle.dpc_model.specs.declared.messages.Message.TheVariants as message
-use Rattle.node_model.specs.Mails.{mail}
-use Rattle.node_model.specs.Nodes.{Home, PlainNode, spec_of, inputs_done, out_stable, out_view, out_tentative, out_passed, is_stabilization, due_at, ready, shown, is_stable}
-use Rattle.node_model.specs.NodeSteps.{Stepped, silently, give, with_base, with_port, fresh, stamped_by, took, on_batch, on_subscribe, on_upstream_beat, on_peer_beat, on_ack, on_ask, on_snap_ask, with_marks_ended, moved, advanced, closing, with_failure, reconciled, milled, clocked, choosing, processed_upto, processing, announcing, asking_snapshots}
+use Rattle.node_model.specs.Mails.{mail, Stepped}
+use Rattle.dpc_model.specs.NodeStates.{is_stable, is_stabilization}
+use Rattle.node_model.specs.Nodes.{Home, PlainNode, spec_of, inputs_done, out_stable, out_view, out_tentative, out_passed, due_at, ready, shown}
+use Rattle.node_model.specs.NodeSteps.{silently, give, with_base, with_port, fresh, stamped_by, took, on_batch, on_subscribe, on_upstream_beat, on_peer_beat, on_ack, on_ask, on_snap_ask, with_marks_ended, moved, advanced, closing, with_failure, reconciled, milled, clocked, choosing, processed_upto, processing, announcing, asking_snapshots}
 use Rattle.node_model.specs.Views.{inputs_of, outputs_of, upstream_of, neighbours_of, stream_of}
 
 -- ---- ports
@@ -95,7 +96,7 @@ pub on_ask-leaves : (home : Home) (i ask : ℕ) (r : Option ℕ) (n : PlainNode)
     (inputs_of (on_ask home i ask r n).after ≡ inputs_of n) × (outputs_of (on_ask home i ask r n).after ≡ outputs_of n)
 on_ask-leaves home i ask None n = (refl, refl)
 on_ask-leaves home i ask (Some r) n =
-    let yes : Stepped = record { after = record n { grants = granted n.grants r (i, ask) }; sends = mail (nth 0 (replicas_of home.plan home.frag) r) (message.Grant i ask) ∷ [] } in
+    let yes : Stepped PlainNode = record { after = record n { grants = granted n.grants r (i, ask) }; sends = mail (nth 0 (replicas_of home.plan home.frag) r) (message.Grant i ask) ∷ [] } in
     elim (grants n.grants n.state r (i, ask)) as (λ b. (inputs_of (cond b yes (silently n)).after ≡ inputs_of n) × (outputs_of (cond b yes (silently n)).after ≡ outputs_of n)) [
       | true ↦ (refl, refl)
       | false ↦ (refl, refl)
@@ -152,7 +153,7 @@ processed_upto-leaves home last n = refl
 
 pub processing-leaves : (home : Home) (n : PlainNode) → neighbours_of (processing home n).after ≡ neighbours_of n
 processing-leaves home n =
-    let step : Option ℕ → Stepped = λ o. elim o [ None ↦ silently n | Some last ↦ processed_upto home last n ] in
+    let step : Option ℕ → Stepped PlainNode = λ o. elim o [ None ↦ silently n | Some last ↦ processed_upto home last n ] in
     elim (is_stabilization n.state) as (λ b. neighbours_of (cond b (silently n) (step (due_at home n n.clock))).after ≡ neighbours_of n) [
       | true ↦ refl
       | false ↦ elim (due_at home n n.clock) as (λ o. neighbours_of (step o).after ≡ neighbours_of n) [

@@ -13,17 +13,13 @@ use Rattle.dpc_model.specs.declared.messages.Message.TheVariants as message
 use Rattle.dpc_model.specs.declared.plans.Plan.{Plan}
 use Rattle.dpc_model.specs.declared.plans.StreamRef.{StreamRef}
 use Rattle.dpc_model.specs.declared.plans.StreamRef.TheVariants.{Source}
-use Rattle.node_model.specs.Mails.{Mail, mails, Packet, Plain, SnapFor}
+use Rattle.node_model.specs.Mails.{Stepped, Mail, mails, Packet, Plain, SnapFor}
 
 -- its port, the items that it took, and the clock
 pub record ClientState : Type 0 where
   pub port : Port
   pub taken : List Item
   pub clock : ℕ
-
-pub record ClientStepped : Type 0 where
-  pub after : ClientState
-  pub sends : List Mail
 
 -- the stream that a client reads
 abbrev pub client_stream : Plan → ℕ → StreamRef
@@ -71,7 +67,7 @@ unfoldable pub client_delivered : Plan → ℕ → ℕ → Packet → ClientStat
 client_delivered plan c a packet x = client_packet (sender_at plan (client_stream plan c ∷ []) a) packet (client_marks_ended x)
 
 -- at a tick a client chooses a replica, and acknowledges its tuples
-unfoldable pub client_ticked : Plan → ℕ → ℕ → ClientState → ClientStepped
+unfoldable pub client_ticked : Plan → ℕ → ℕ → ClientState → Stepped ClientState
 client_ticked plan c now x =
     let port = port_ticked (marks_ended x.port) in
     let sub = subscriptions plan (port ∷ []) (client_stream plan c ∷ []) in

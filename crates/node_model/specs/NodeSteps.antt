@@ -21,20 +21,16 @@ use Rattle.dpc_model.specs.declared.messages.Message.{Message}
 use Rattle.dpc_model.specs.declared.messages.Message.TheVariants as message
 use Rattle.dpc_model.specs.declared.messages.NodeState.TheVariants.{Stable, UpFailure, Stabilization}
 use Rattle.dpc_model.specs.declared.plans.StreamRef.{StreamRef}
-use Rattle.dpc_model.specs.Sessions.{Sub, shut, link_of, answered, Given, given_items, batches_of, counted_all, acked, base_after}
-use Rattle.node_model.specs.Mails.{Snap, Packet, Plain, SnapFor, Mail, mail, mails, in_actor_order, to_each, to_readers}
-use Rattle.node_model.specs.Nodes.{Home, streams_of, own_readers, PlainNode, reader_at, inputs_done, view_cursor, out_stable, out_tentative, out_bound, out_passed, shown, bucket_of, complete_buckets, ready, due_at, wants_to_reconcile, is_stabilization, is_up_failure}
+use Rattle.dpc_model.specs.Sessions.{Sub, shut, link_of, Given, given_items, acked, base_after}
+use Rattle.node_model.specs.Mails.{Stepped, Snap, Packet, Plain, SnapFor, Mail, mail, mails, in_actor_order, to_each, to_sessions, to_subscriber}
+use Rattle.dpc_model.specs.NodeStates.{is_up_failure, is_stabilization}
+use Rattle.node_model.specs.Nodes.{Home, streams_of, own_readers, PlainNode, reader_at, inputs_done, view_cursor, out_stable, out_tentative, out_bound, out_passed, shown, bucket_of, complete_buckets, ready, due_at, wants_to_reconcile}
 
--- what a step leaves, and what it sends
-pub record Stepped : Type 0 where
-  pub after : PlainNode
-  pub sends : List Mail
-
-abbrev pub silently : PlainNode → Stepped
+abbrev pub silently : PlainNode → Stepped PlainNode
 silently n = record { after = n; sends = [] }
 
 -- one step behind another
-abbrev pub then_do : Stepped → (PlainNode → Stepped) → Stepped
+abbrev pub then_do : Stepped PlainNode → (PlainNode → Stepped PlainNode) → Stepped PlainNode
 then_do s f = let t = f s.after in record { after = t.after; sends = s.sends ++ t.sends }
 
 -- the other replicas of the fragment, as actors
@@ -56,9 +52,8 @@ with_port p f n = record n { ports = changed p f n.ports }
 -- ---- giving items to the readers
 
 -- what an event gives goes in one batch to each open session
-abbrev pub give : Home → List Item → PlainNode → Stepped
-give home items n =
-    record { after = record n { subs = counted_all items n.subs }; sends = to_readers (own_readers home) (batches_of items n.subs) }
+abbrev pub give : Home → List Item → PlainNode → Stepped PlainNode
+give home items n = let s = to_sessions (own_readers home) items n.subs in record { after = record n { subs = s.after }; sends = s.sends }
 
 -- the base follows the acknowledgements
 abbrev pub with_base : Home → PlainNode → PlainNode
@@ -67,7 +62,7 @@ with_base home n = record n { base = base_after n.base n.acks (length (out_stabl
 -- ---- entering, recovering, snapshots
 
 -- tentative output goes, and the node reconciles from its cursor on
-unfoldable pub entered : Home → PlainNode → Stepped
+unfoldable pub entered : Home → PlainNode → Stepped PlainNode
 entered home n =
     give home (item.Undo (length (out_stable home n)) ∷ []) (record n { closed = []; state = Stabilization; grants = asking n.grants })
 
@@ -138,14 +133,10 @@ on_batch home s index items (Some (p, r)) n =
     let port = nth no_port n.ports p in if port.chosen == r then took home p (take_batch port.inlet s index items) n else n
 
 -- a reader's subscription, by its place among the readers
-abbrev pub on_subscribe : Home → Subscribe → Option ℕ → PlainNode → Stepped
+abbrev pub on_subscribe : Home → Subscribe → Option ℕ → PlainNode → Stepped PlainNode
 on_subscribe home asked None n = silently n
 on_subscribe home asked (Some k) n =
-    let answer = answered (shown home n) (nth (record { kept = None; is_open = false; batches = 0 }) n.subs k) asked in
-    record {
-      after = record n { subs = changed k (λ _. answer.after) n.subs };
-      sends = elim answer.answer [ None ↦ [] | Some m ↦ mail (nth 0 (own_readers home) k) m ∷ [] ];
-    }
+    let s = to_subscriber (own_readers home) (shown home n) k asked n.subs in record { after = record n { subs = s.after }; sends = s.sends }
 
 -- the present session's tuples were truncated; where that holds of every replica of the port, the node begins to recover
 abbrev pub on_truncation : Home → Sess → ℕ → Option (ℕ × ℕ) → PlainNode → PlainNode
@@ -172,7 +163,7 @@ on_ack home i count None n = n
 on_ack home i count (Some k) n = with_base home (record n { acks = changed k (acked i count) n.acks })
 
 -- an ask of another replica is granted, or has no answer
-abbrev pub on_ask : Home → ℕ → ℕ → Option ℕ → PlainNode → Stepped
+abbrev pub on_ask : Home → ℕ → ℕ → Option ℕ → PlainNode → Stepped PlainNode
 on_ask home i ask None n = silently n
 on_ask home i ask (Some r) n =
     if grants n.grants n.state r (i, ask)
@@ -180,10 +171,10 @@ on_ask home i ask (Some r) n =
     else silently n
 
 -- a grant for the running ask lets a node that is UP_FAILURE enter
-abbrev pub on_grant : Home → ℕ → ℕ → PlainNode → Stepped
+abbrev pub on_grant : Home → ℕ → ℕ → PlainNode → Stepped PlainNode
 on_grant home i ask n = if is_up_failure n.state && may_enter_by n.grants (i, ask) then entered home n else silently n
 
-abbrev pub on_snap_ask : Home → ℕ → ℕ → ℕ → PlainNode → Stepped
+abbrev pub on_snap_ask : Home → ℕ → ℕ → ℕ → PlainNode → Stepped PlainNode
 on_snap_ask home sender i try n = record { after = n; sends = record { to = sender; packet = SnapFor i try (snapshot home n) } ∷ [] }
 
 -- the place of a reader
@@ -191,7 +182,7 @@ abbrev pub reader_place : Home → ℕ → Option ℕ
 reader_place home a = place_of (λ b. a == b) (own_readers home)
 
 -- a message is taken, after the marks that the node has reached are ended
-abbrev pub on_message : Home → ℕ → Message → PlainNode → Stepped
+abbrev pub on_message : Home → ℕ → Message → PlainNode → Stepped PlainNode
 on_message home a (message.Batch s index items) n = silently (on_batch home s index items (sender_at home.plan (streams_of home) a) n)
 on_message home a (message.Subscribe asked) n = if n.recovering then silently n else on_subscribe home asked (reader_place home a) n
 on_message home a (message.Truncated s base) n = silently (on_truncation home s base (sender_at home.plan (streams_of home) a) n)
@@ -209,12 +200,12 @@ on_snap home i try s n = if n.recovering && i == n.grants.inc && try == n.tries 
 abbrev pub with_marks_ended : PlainNode → PlainNode
 with_marks_ended n = record n { ports = map marks_ended n.ports }
 
-abbrev pub on_packet : Home → ℕ → Packet → PlainNode → Stepped
+abbrev pub on_packet : Home → ℕ → Packet → PlainNode → Stepped PlainNode
 on_packet home a (Plain m) n = on_message home a m n
 on_packet home a (SnapFor i try s) n = silently (on_snap home i try s n)
 
 -- the node takes a packet of an actor
-unfoldable pub delivered : Home → ℕ → Packet → PlainNode → Stepped
+unfoldable pub delivered : Home → ℕ → Packet → PlainNode → Stepped PlainNode
 delivered home a packet n = on_packet home a packet (with_marks_ended n)
 
 -- ---- milling
@@ -236,7 +227,7 @@ abbrev pub reconciled : Bool → PlainNode → PlainNode
 reconciled done n = record n { state = if done then Stable else n.state; grants = if done then finished n.grants else n.grants }
 
 -- r ready buckets are processed
-unfoldable pub milled : Home → ℕ → PlainNode → Stepped
+unfoldable pub milled : Home → ℕ → PlainNode → Stepped PlainNode
 milled home r n =
     let m = advanced home r n in
     let done = is_stabilization n.state && ready home m == 0 in
@@ -255,12 +246,12 @@ abbrev pub may_start_afresh : Home → PlainNode → Bool
 may_start_afresh home n = list_all (λ w. is_silent w || says_recovering w) (peer_watches home n)
 
 -- a replica is chosen for each port, and sessions are opened anew
-abbrev pub choosing : Home → PlainNode → Stepped
+abbrev pub choosing : Home → PlainNode → Stepped PlainNode
 choosing home n =
     record { after = record n { ports = map port_chosen n.ports }; sends = in_actor_order (mails (subscriptions home.plan n.ports (streams_of home))) }
 
 -- the node asks to reconcile, or enters where every peer is silent
-abbrev pub reconciling : Home → PlainNode → Stepped
+abbrev pub reconciling : Home → PlainNode → Stepped PlainNode
 reconciling home n =
     if wants_to_reconcile home n && is_none n.grants.promise
     then (if list_all is_silent (peer_watches home n) then entered home n
@@ -302,14 +293,14 @@ abbrev pub after_buckets : Home → ℕ → ℕ → PlainNode → PlainNode
 after_buckets home r count n = with_failure (closing home (count - r) (advanced home r n))
 
 -- buckets up to the last due one are processed
-abbrev pub processed_upto : Home → ℕ → PlainNode → Stepped
+abbrev pub processed_upto : Home → ℕ → PlainNode → Stepped PlainNode
 processed_upto home last n =
     let count = count_upto last n in
     let r = stably home n count in
     let new = after_buckets home r count n in
     give home (given_items (length (out_stable home n)) (given_by home n new (nat_lt 0 r) (nat_lt r count))) new
 
-abbrev pub processing : Home → PlainNode → Stepped
+abbrev pub processing : Home → PlainNode → Stepped PlainNode
 processing home n =
     if is_stabilization n.state then silently n
     else elim (due_at home n n.clock) [ None ↦ silently n | Some last ↦ processed_upto home last n ]
@@ -331,22 +322,22 @@ abbrev pub beats : Home → PlainNode → List Mail
 beats home n =
     to_each (beat_of n None) (peers_of home) ++ map (λ (x : ℕ × Sub). mail x.0 (beat_of n (link_of x.1))) (zip (own_readers home) n.subs)
 
-abbrev pub announcing : Home → PlainNode → Stepped
+abbrev pub announcing : Home → PlainNode → Stepped PlainNode
 announcing home n = record { after = n; sends = in_actor_order (acks_from home n n.ports (streams_of home)) ++ in_actor_order (beats home n) }
 
 -- the later steps of a tick of a node that is not recovering
-abbrev pub serving : Home → PlainNode → Stepped
+abbrev pub serving : Home → PlainNode → Stepped PlainNode
 serving home n = then_do (then_do (then_do (choosing home n) (reconciling home)) (processing home)) (announcing home)
 
 -- a recovering node asks each peer for a snapshot
-abbrev pub asking_snapshots : Home → PlainNode → Stepped
+abbrev pub asking_snapshots : Home → PlainNode → Stepped PlainNode
 asking_snapshots home n = record { after = n; sends = to_each (message.SnapAsk n.grants.inc n.tries) (peers_of home) }
 
-abbrev pub going_on : Home → PlainNode → Stepped
+abbrev pub going_on : Home → PlainNode → Stepped PlainNode
 going_on home n =
     if not n.recovering then serving home n
     else (if may_start_afresh home n then serving home (fresh n) else then_do (asking_snapshots home n) (announcing home))
 
 -- a tick of the node at this clock
-unfoldable pub ticked_at : Home → ℕ → PlainNode → Stepped
+unfoldable pub ticked_at : Home → ℕ → PlainNode → Stepped PlainNode
 ticked_at home now n = going_on home (clocked now (with_marks_ended n))

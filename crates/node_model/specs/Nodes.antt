@@ -9,12 +9,13 @@ use Rattle.dpc_model.specs.Inlets.{new_inlet, restarted_inlet, sess_of}
 use Rattle.dpc_model.specs.Due.{Stamps, Waiting, is_complete, last_due, delay_of}
 use Rattle.dpc_model.specs.Replicas.{Watch, new_watch}
 use Rattle.dpc_model.specs.Granting.{Grants, new_grants}
+use Rattle.dpc_model.specs.NodeStates.{is_stable, is_up_failure}
 use Rattle.dpc_model.specs.Actors.{readers_of}
 use Rattle.dpc_model.specs.Ports.{Port, port_at, held_at}
 use Rattle.dpc_model.specs.declared.tuples.Tuple.{Tuple}
 use Rattle.dpc_model.specs.declared.tuples.Tagged.{Tagged}
 use Rattle.dpc_model.specs.declared.messages.NodeState.{NodeState}
-use Rattle.dpc_model.specs.declared.messages.NodeState.TheVariants.{Stable, UpFailure, Stabilization}
+use Rattle.dpc_model.specs.declared.messages.NodeState.TheVariants.{Stable, Stabilization}
 use Rattle.dpc_model.specs.declared.plans.Plan.{Plan}
 use Rattle.dpc_model.specs.declared.plans.FragSpec.{FragSpec}
 use Rattle.dpc_model.specs.declared.plans.StreamRef.{StreamRef}
@@ -142,21 +143,6 @@ out_bound home n = if n.cursor == 0 then None else Some (n.cursor * home.plan.wi
 -- how far the tentative output goes, where the plan passes that on and a bucket is closed
 abbrev pub out_passed : Home → PlainNode → Option ℕ
 out_passed home n = if home.plan.passing && not (is_nil n.closed) then Some (view_cursor n * home.plan.width) else None
-
-abbrev pub is_stable : NodeState → Bool
-is_stable Stable = true
-is_stable UpFailure = false
-is_stable Stabilization = false
-
-abbrev pub is_up_failure : NodeState → Bool
-is_up_failure Stable = false
-is_up_failure UpFailure = true
-is_up_failure Stabilization = false
-
-abbrev pub is_stabilization : NodeState → Bool
-is_stabilization Stable = false
-is_stabilization UpFailure = false
-is_stabilization Stabilization = true
 
 -- what the node shows a reader
 abbrev pub shown : Home → PlainNode → Shown

@@ -11,8 +11,8 @@ use Rattle.dpc_model.specs.declared.messages.Message.TheVariants as message
 use Rattle.dpc_model.specs.declared.messages.NodeState.TheVariants.{Stable}
 use Rattle.dpc_model.specs.declared.plans.Plan.{Plan}
 use Rattle.dpc_model.specs.declared.plans.StreamRef.TheVariants.{Source}
-use Rattle.dpc_model.specs.Sessions.{Sub, opening_session, no_session, link_of, Shown, answered, Given, given_items, batches_of, counted_all}
-use Rattle.node_model.specs.Mails.{Mail, mail, Packet, Plain, SnapFor, to_readers}
+use Rattle.dpc_model.specs.Sessions.{Sub, opening_session, link_of, Shown, Given, given_items}
+use Rattle.node_model.specs.Mails.{Stepped, Mail, mail, Packet, Plain, SnapFor, to_sessions, to_subscriber}
 
 -- how many tuples of its log were emitted, its last boundary (0 where none was released), the readers' sessions, and the clock
 pub record SourceState : Type 0 where
@@ -20,10 +20,6 @@ pub record SourceState : Type 0 where
   pub bound : ℕ
   pub subs : List Sub
   pub clock : ℕ
-
-pub record SourceStepped : Type 0 where
-  pub after : SourceState
-  pub sends : List Mail
 
 abbrev pub source_readers : Plan → ℕ → List ℕ
 source_readers plan s = readers_of plan (Source s)
@@ -49,30 +45,23 @@ source_given plan s t bound x =
     record { stable = drop x.emitted (take (emitted_upto plan s t x) (log_of plan s)); bound = bound; tentative = []; passed = None; done = false }
 
 -- they go in one batch to each open session
-abbrev pub source_gives : Plan → ℕ → ℕ → Option (ℕ × ℕ) → SourceState → SourceStepped
+abbrev pub source_gives : Plan → ℕ → ℕ → Option (ℕ × ℕ) → SourceState → Stepped SourceState
 source_gives plan s t bound x =
-    let items = given_items x.emitted (source_given plan s t bound x) in
-    record {
-      after = record x { emitted = emitted_upto plan s t x; subs = counted_all items x.subs };
-      sends = to_readers (source_readers plan s) (batches_of items x.subs);
-    }
+    let y = to_sessions (source_readers plan s) (given_items x.emitted (source_given plan s t bound x)) x.subs in
+    record { after = record x { emitted = emitted_upto plan s t x; subs = y.after }; sends = y.sends }
 
-unfoldable pub source_emits : Plan → ℕ → ℕ → SourceState → SourceStepped
+unfoldable pub source_emits : Plan → ℕ → ℕ → SourceState → Stepped SourceState
 source_emits plan s t x = source_gives plan s t None x
 
-unfoldable pub source_releases : Plan → ℕ → ℕ → SourceState → SourceStepped
+unfoldable pub source_releases : Plan → ℕ → ℕ → SourceState → Stepped SourceState
 source_releases plan s t x = source_gives plan s t (if nat_lt x.bound t then bound_at plan s t else None) (record x { bound = max x.bound t })
 
-abbrev pub source_subscribed : Plan → ℕ → Subscribe → Option ℕ → SourceState → SourceStepped
+abbrev pub source_subscribed : Plan → ℕ → Subscribe → Option ℕ → SourceState → Stepped SourceState
 source_subscribed plan s asked None x = record { after = x; sends = [] }
 source_subscribed plan s asked (Some k) x =
-    let answer = answered (source_shown plan s x) (nth no_session x.subs k) asked in
-    record {
-      after = record x { subs = changed k (λ _. answer.after) x.subs };
-      sends = elim answer.answer [ None ↦ [] | Some m ↦ mail (nth 0 (source_readers plan s) k) m ∷ [] ];
-    }
+    let y = to_subscriber (source_readers plan s) (source_shown plan s x) k asked x.subs in record { after = record x { subs = y.after }; sends = y.sends }
 
-abbrev pub source_message : Plan → ℕ → ℕ → Message → SourceState → SourceStepped
+abbrev pub source_message : Plan → ℕ → ℕ → Message → SourceState → Stepped SourceState
 source_message plan s a (message.Subscribe asked) x = source_subscribed plan s asked (place_of (λ b. a == b) (source_readers plan s)) x
 source_message plan s a (message.Batch u index items) x = record { after = x; sends = [] }
 source_message plan s a (message.Truncated u base) x = record { after = x; sends = [] }
@@ -83,7 +72,7 @@ source_message plan s a (message.Grant i n) x = record { after = x; sends = [] }
 source_message plan s a (message.SnapAsk i n) x = record { after = x; sends = [] }
 
 -- a source answers subscriptions, and ignores all else
-unfoldable pub source_delivered : Plan → ℕ → ℕ → Packet → SourceState → SourceStepped
+unfoldable pub source_delivered : Plan → ℕ → ℕ → Packet → SourceState → Stepped SourceState
 source_delivered plan s a (Plain m) x = source_message plan s a m x
 source_delivered plan s a (SnapFor i try snap) x = record { after = x; sends = [] }
 
@@ -91,6 +80,6 @@ abbrev pub source_beat : Option (Sess × ℕ) → Message
 source_beat link = message.Beat (record { inc = 1; state = Stable; recovering = false; over = 0; link = link })
 
 -- at a tick a source tells each reader its session
-unfoldable pub source_ticked : Plan → ℕ → ℕ → SourceState → SourceStepped
+unfoldable pub source_ticked : Plan → ℕ → ℕ → SourceState → Stepped SourceState
 source_ticked plan s now x =
     record { after = record x { clock = now }; sends = map (λ (y : ℕ × Sub). mail y.0 (source_beat (link_of y.1))) (zip (source_readers plan s) x.subs) }

@@ -6,8 +6,9 @@ use Rattle.dpc_model.specs.declared.messages.Event.{Event}
 use Rattle.dpc_model.specs.declared.messages.Event.TheVariants.{Phase, Emit, Release, Cut, Heal, Crash, Restart, Deliver, Tick, Mill}
 use Rattle.dpc_model.specs.declared.plans.Plan.{Plan}
 use Rattle.node_model.specs.Nodes.{Home, PlainNode, restarted_node, ready, complete_buckets}
-use Rattle.node_model.specs.NodeSteps.{Stepped, delivered, milled, ticked_at}
-use Rattle.node_model.specs.Sources.{SourceStepped, source_emits, source_releases, source_delivered, source_ticked}
+use Rattle.node_model.specs.Mails.{Stepped}
+use Rattle.node_model.specs.NodeSteps.{delivered, milled, ticked_at}
+use Rattle.node_model.specs.Sources.{source_emits, source_releases, source_delivered, source_ticked, SourceState}
 use Rattle.node_model.specs.Clients.{ClientState, client_delivered, client_ticked}
 use Rattle.world_model.specs.Worlds.{World, Envelope, Slot, home_of, node_place, from, slot_of, source_at, client_at, node_stepped, source_stepped, client_stepped, is_release_time, is_clock, emits, releases, link_up, role_up, is_up, cuts_link, crashes, restart_slot, restarts, node_takes, taken_by, can_come, comes, node_ticks, ticks, can_mill, node_mills, mills, happens}
 use Rattle.world_model.specs.Schedules.{may_come}
@@ -92,7 +93,7 @@ same-calm w = record { plan = refl; cuts = refl; more = []; sent = none-more w.e
 
 -- ---- steps of actors
 
-node-calm : (w : World) (a : ℕ) (n : PlainNode) (s : Stepped) → (slot_of w a).node ≡ Some n → IsCalmNode n s.after → IsCalm w (node_stepped a s w)
+node-calm : (w : World) (a : ℕ) (n : PlainNode) (s : Stepped PlainNode) → (slot_of w a).node ≡ Some n → IsCalmNode n s.after → IsCalm w (node_stepped a s w)
 node-calm w a n s up c =
     record {
       plan = refl;
@@ -104,7 +105,7 @@ node-calm w a n s up c =
           subst (λ (o : Option PlainNode). IsCalmAt o (Some s.after)) (sym here) c) (λ x. calm-itself x.node);
     }
 
-source-calm : (w : World) (a : ℕ) (s : SourceStepped) → IsCalm w (source_stepped a s w)
+source-calm : (w : World) (a : ℕ) (s : Stepped SourceState) → IsCalm w (source_stepped a s w)
 source-calm w a s = record { plan = refl; cuts = refl; more = map (from a) s.sends; sent = refl; slots = λ i. calm-itself (node_in w.nodes i) }
 
 clients-calm : (w : World) (xs : List ClientState) → IsCalm w (record w { clients = xs })
@@ -159,7 +160,7 @@ tick-calm w a now = ticks-calm w a now (role_of w.plan a)
 
 -- ---- directives
 
-sources-grown : (w : World) (a : ℕ) (b : Bool) (s : SourceStepped) → IsGrown w (cond b (source_stepped a s w) w)
+sources-grown : (w : World) (a : ℕ) (b : Bool) (s : Stepped SourceState) → IsGrown w (cond b (source_stepped a s w) w)
 sources-grown w a true s = calm-grown w _ (source-calm w a s)
 sources-grown w a false s = calm-grown w w (same-calm w)
 

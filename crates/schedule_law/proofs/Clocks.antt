@@ -12,11 +12,11 @@ use Rattle.dpc_model.specs.declared.messages.Message.{Message}
 use Rattle.dpc_model.specs.declared.messages.Message.TheVariants as message
 use Rattle.dpc_model.specs.declared.messages.Subscribe.{Subscribe}
 use Rattle.dpc_model.specs.declared.plans.Plan.{Plan}
-use Rattle.node_model.specs.Mails.{Packet, Plain, SnapFor}
+use Rattle.node_model.specs.Mails.{Packet, Plain, SnapFor, Stepped}
 use Rattle.node_model.specs.Nodes.{Home, PlainNode, new_node, restarted_node}
-use Rattle.node_model.specs.NodeSteps.{Stepped, delivered, milled, ticked_at}
-use Rattle.node_model.specs.Sources.{SourceState, SourceStepped, new_source, source_readers, source_emits, source_releases, source_subscribed, source_message, source_delivered, source_ticked}
-use Rattle.node_model.specs.Clients.{ClientState, ClientStepped, new_client, client_stream, keeping, client_took, client_message, client_packet, client_marks_ended, client_delivered, client_ticked}
+use Rattle.node_model.specs.NodeSteps.{delivered, milled, ticked_at}
+use Rattle.node_model.specs.Sources.{SourceState, new_source, source_readers, source_emits, source_releases, source_subscribed, source_message, source_delivered, source_ticked}
+use Rattle.node_model.specs.Clients.{ClientState, new_client, client_stream, keeping, client_took, client_message, client_packet, client_marks_ended, client_delivered, client_ticked}
 use Rattle.world_model.specs.Worlds.{World, Envelope, Slot, home_of, node_place, slot_of, source_at, client_at, no_source, node_stepped, source_stepped, client_stepped, is_release_time, is_clock, emits, releases, link_up, crashes, restart_slot, restarts, node_takes, taken_by, can_come, comes, node_ticks, ticks, can_mill, node_mills, mills, happens, new_world}
 use Rattle.schedule_law.proofs.Nodes.{delivered-clock, ticked-clock, milled-moves}
 
@@ -167,14 +167,14 @@ node-clock c w a t = each-nth (λ (x : Slot). ClockWithin c x.node) (record { la
 
 -- ---- steps
 
-node-timely : (c : ℕ) (w : World) (a : ℕ) (s : Stepped) → s.after.clock ≤ c → IsTimely c w → IsTimely c (node_stepped a s w)
+node-timely : (c : ℕ) (w : World) (a : ℕ) (s : Stepped PlainNode) → s.after.clock ≤ c → IsTimely c w → IsTimely c (node_stepped a s w)
 node-timely c w a s h t =
     record { sources = t.sources; slots = each-changed (λ (x : Slot). ClockWithin c x.node) (node_place w.plan a) (λ slot. record slot { node = Some s.after }) w.nodes (λ x k. h) t.slots; clients = t.clients }
 
-source-timely : (c : ℕ) (w : World) (a : ℕ) (s : SourceStepped) → s.after.clock ≤ c → IsTimely c w → IsTimely c (source_stepped a s w)
+source-timely : (c : ℕ) (w : World) (a : ℕ) (s : Stepped SourceState) → s.after.clock ≤ c → IsTimely c w → IsTimely c (source_stepped a s w)
 source-timely c w a s h t = record { sources = each-changed (λ (x : SourceState). x.clock ≤ c) a (λ _. s.after) w.sources (λ x k. h) t.sources; slots = t.slots; clients = t.clients }
 
-client-timely : (c : ℕ) (w : World) (a k : ℕ) (s : ClientStepped) → s.after.clock ≤ c → IsTimely c w → IsTimely c (client_stepped a k s w)
+client-timely : (c : ℕ) (w : World) (a k : ℕ) (s : Stepped ClientState) → s.after.clock ≤ c → IsTimely c w → IsTimely c (client_stepped a k s w)
 client-timely c w a k s h t = record { sources = t.sources; slots = t.slots; clients = each-changed (λ (x : ClientState). x.clock ≤ c) k (λ _. s.after) w.clients (λ x e. h) t.clients }
 
 -- ---- events

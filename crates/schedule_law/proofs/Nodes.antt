@@ -14,9 +14,10 @@ use Rattle.dpc_model.specs.declared.messages.Subscribe.{Subscribe}
 use Rattle.dpc_model.specs.declared.messages.Beat.{Beat}
 use Rattle.dpc_model.specs.declared.messages.Message.{Message}
 use Rattle.dpc_model.specs.declared.messages.Message.TheVariants as message
-use Rattle.node_model.specs.Mails.{Snap, Packet, Plain, SnapFor, mail, to_each}
-use Rattle.node_model.specs.Nodes.{Home, streams_of, PlainNode, view_cursor, complete_buckets, due_at, wants_to_reconcile, is_stabilization, is_up_failure}
-use Rattle.node_model.specs.NodeSteps.{Stepped, silently, then_do, on_snap_ask, asking_snapshots, announcing, peers_of, entered, recovering_again, adopted, fresh, stamped_by, took, on_batch, on_subscribe, with_port, on_truncation, on_upstream_beat, on_peer_beat, on_ack, on_ask, on_grant, on_message, on_snap, on_packet, with_marks_ended, delivered, replica_number, reader_place, advanced, milled, clocked, may_start_afresh, peer_watches, choosing, reconciling, closing, with_failure, processed_upto, processing, serving, going_on, ticked_at}
+use Rattle.node_model.specs.Mails.{Snap, Packet, Plain, SnapFor, mail, to_each, Stepped}
+use Rattle.dpc_model.specs.NodeStates.{is_up_failure, is_stabilization}
+use Rattle.node_model.specs.Nodes.{Home, streams_of, PlainNode, view_cursor, complete_buckets, due_at, wants_to_reconcile}
+use Rattle.node_model.specs.NodeSteps.{silently, then_do, on_snap_ask, asking_snapshots, announcing, peers_of, entered, recovering_again, adopted, fresh, stamped_by, took, on_batch, on_subscribe, with_port, on_truncation, on_upstream_beat, on_peer_beat, on_ack, on_ask, on_grant, on_message, on_snap, on_packet, with_marks_ended, delivered, replica_number, reader_place, advanced, milled, clocked, may_start_afresh, peer_watches, choosing, reconciling, closing, with_failure, processed_upto, processing, serving, going_on, ticked_at}
 use Rattle.world_safety.proofs.Tests.{both}
 
 -- a node that recovers has no bucket done

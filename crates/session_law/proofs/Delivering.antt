@@ -16,9 +16,10 @@ use Rattle.dpc_model.specs.declared.messages.Subscribe.{Subscribe}
 use Rattle.dpc_model.specs.declared.messages.Message.{Message}
 use Rattle.dpc_model.specs.declared.messages.Message.TheVariants as message
 use Rattle.dpc_model.specs.declared.plans.StreamRef.TheVariants.{Frag}
-use Rattle.node_model.specs.Mails.{Snap, Packet, Plain, SnapFor, mail}
-use Rattle.node_model.specs.Nodes.{Home, PlainNode, streams_of, own_readers, shown, is_up_failure}
-use Rattle.node_model.specs.NodeSteps.{Stepped, silently, with_port, took, stamped_by, on_batch, on_subscribe, on_truncation, recovering_again, on_upstream_beat, on_peer_beat, on_ack, on_ask, on_grant, entered, on_snap_ask, on_snap, adopted, reader_place, replica_number, on_message, on_packet, with_marks_ended, delivered}
+use Rattle.node_model.specs.Mails.{Snap, Packet, Plain, SnapFor, mail, Stepped}
+use Rattle.dpc_model.specs.NodeStates.{is_up_failure}
+use Rattle.node_model.specs.Nodes.{Home, PlainNode, streams_of, own_readers, shown}
+use Rattle.node_model.specs.NodeSteps.{silently, with_port, took, stamped_by, on_batch, on_subscribe, on_truncation, recovering_again, on_upstream_beat, on_peer_beat, on_ack, on_ask, on_grant, entered, on_snap_ask, on_snap, adopted, reader_place, replica_number, on_message, on_packet, with_marks_ended, delivered}
 use Rattle.world_model.specs.Worlds.{Envelope, from}
 use Rattle.world_model.specs.SessionLaw.{Line}
 use Rattle.world_model.specs.Safe.{IsTruePacket}
@@ -86,7 +87,7 @@ ack-rest home i count (Some k) n = record { recovering = refl; cursor = refl; cl
 ask-goes : (home : Home) (a most : ℕ) (i ask : ℕ) (o : Option ℕ) (n : PlainNode) → IsPlace home → IsGood home most n → IsGood home most (on_ask home i ask o n).after → Goes home a n (on_ask home i ask o n)
 ask-goes home a most i ask None n place g k = silent-goes home a n [] refl
 ask-goes home a most i ask (Some r) n place g k =
-    let granting : Stepped = record { after = record n { grants = granted n.grants r (i, ask) }; sends = mail (nth 0 (replicas_of home.plan home.frag) r) (message.Grant i ask) ∷ [] } in
+    let granting : Stepped PlainNode = record { after = record n { grants = granted n.grants r (i, ask) }; sends = mail (nth 0 (replicas_of home.plan home.frag) r) (message.Grant i ask) ∷ [] } in
     (elim (grants n.grants n.state r (i, ask)) as (λ b. IsGood home most (cond b granting (silently n)).after → Goes home a n (cond b granting (silently n))) [
       | true ↦ λ h. rest-goes home a most most n granting.after granting.sends place g h (record { recovering = refl; cursor = refl; closed = refl; subs = refl }) refl
       | false ↦ λ h. silent-goes home a n [] refl
@@ -108,7 +109,7 @@ snap-goes home a i try s n = elim (n.recovering && i == n.grants.inc && try == n
 -- ---- a message that is no subscription
 
 -- it opens no session
-goes-opens : (home : Home) (a : ℕ) (e : Envelope) (n : PlainNode) (s : Stepped) → ((l : Line) → packet_asks l e.packet ≡ None) → Goes home a n s → (h : ℕ → Sess → List Item) (q : ℕ → Sess → Subscribe) → HeldBy home.plan (Frag home.frag) (shown home n) h q n.subs →
+goes-opens : (home : Home) (a : ℕ) (e : Envelope) (n : PlainNode) (s : Stepped PlainNode) → ((l : Line) → packet_asks l e.packet ≡ None) → Goes home a n s → (h : ℕ → Sess → List Item) (q : ℕ → Sess → Subscribe) → HeldBy home.plan (Frag home.frag) (shown home n) h q n.subs →
     HeldBy home.plan (Frag home.frag) (shown home s.after) (λ k u. h k u ++ mailed a (own_readers home) s.sends k u) (opens a (own_readers home) s.sends e q) s.after.subs
 goes-opens home a e n s none goes h q held k sub at =
     held-same home.plan (Frag home.frag) (shown home s.after) (λ u. h k u ++ mailed a (own_readers home) s.sends k u) (λ u. h k u ++ mailed a (own_readers home) s.sends k u) (q k) (opens a (own_readers home) s.sends e q k) sub
@@ -123,7 +124,7 @@ goes-opens home a e n s none goes h q held k sub at =
     by-none d l false = refl
 
 -- what taking a packet leaves
-abbrev pub Takes : Home → ℕ → Envelope → PlainNode → Stepped → Type 0
+abbrev pub Takes : Home → ℕ → Envelope → PlainNode → Stepped PlainNode → Type 0
 Takes home a e n s =
     (h : ℕ → Sess → List Item) (q : ℕ → Sess → Subscribe) → HeldBy home.plan (Frag home.frag) (shown home n) h q n.subs →
     HeldBy home.plan (Frag home.frag) (shown home s.after) (λ k u. h k u ++ mailed a (own_readers home) s.sends k u) (opens a (own_readers home) s.sends e q) s.after.subs

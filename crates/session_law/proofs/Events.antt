@@ -13,9 +13,10 @@ use Rattle.dpc_model.specs.declared.messages.Subscribe.{Subscribe}
 use Rattle.dpc_model.specs.declared.plans.Plan.{Plan}
 use Rattle.dpc_model.specs.declared.plans.StreamRef.TheVariants.{Source, Frag}
 use Rattle.node_model.specs.Nodes.{Home, PlainNode, own_readers, shown, restarted_node}
-use Rattle.node_model.specs.NodeSteps.{Stepped, delivered, milled, ticked_at}
-use Rattle.node_model.specs.Sources.{SourceState, SourceStepped, source_readers, source_shown, source_emits, source_releases, source_delivered, source_ticked}
-use Rattle.node_model.specs.Clients.{ClientStepped, client_delivered, client_ticked}
+use Rattle.node_model.specs.Mails.{Stepped}
+use Rattle.node_model.specs.NodeSteps.{delivered, milled, ticked_at}
+use Rattle.node_model.specs.Sources.{SourceState, source_readers, source_shown, source_emits, source_releases, source_delivered, source_ticked}
+use Rattle.node_model.specs.Clients.{client_delivered, client_ticked, ClientState}
 use Rattle.world_model.specs.Worlds.{World, Envelope, Slot, home_of, node_place, from, slot_of, source_at, client_at, node_stepped, source_stepped, client_stepped, is_release_time, is_clock, emits, releases, link_up, heals_link, crashes, restart_slot, restarts, node_takes, taken_by, can_come, comes, node_ticks, ticks, can_mill, node_mills, mills, happens, run_from}
 use Rattle.world_model.specs.SessionLaw.{Line, carried, goes_down, sent_after}
 use Rattle.world_model.specs.Safe.{IsTruePacket}
@@ -40,12 +41,12 @@ either-same : {X : Type 0} (b : Bool) (x : X) → cond b x x ≡ x
 either-same true x = refl
 either-same false x = refl
 
-goes-step : (home : Home) (a : ℕ) (n : PlainNode) (s : Stepped) → Goes home a n s → StepTakes home a nothing n s
+goes-step : (home : Home) (a : ℕ) (n : PlainNode) (s : Stepped PlainNode) → Goes home a n s → StepTakes home a nothing n s
 goes-step home a n s goes h q held k sub e =
     held-same home.plan (Frag home.frag) (shown home s.after) (λ u. h k u ++ mailed a (own_readers home) s.sends k u) (λ u. h k u ++ mailed a (own_readers home) s.sends k u) (q k)
     (λ u. cond (has_first (line_of a (own_readers home) k u) (map (from a) s.sends)) (q k u) (q k u)) sub (λ u. refl) (λ u. either-same (has_first (line_of a (own_readers home) k u) (map (from a) s.sends)) (q k u)) (goes h q held k sub e)
 
-source-step : (plan : Plan) (a s : ℕ) (x : SourceState) (t : SourceStepped) → SourceGoes plan a s x t → SourceStepTakes plan a s nothing x t
+source-step : (plan : Plan) (a s : ℕ) (x : SourceState) (t : Stepped SourceState) → SourceGoes plan a s x t → SourceStepTakes plan a s nothing x t
 source-step plan a s x t goes h q held k sub e =
     held-same plan (Source s) (source_shown plan s t.after) (λ u. h k u ++ mailed a (source_readers plan s) t.sends k u) (λ u. h k u ++ mailed a (source_readers plan s) t.sends k u) (q k)
     (λ u. cond (has_first (line_of a (source_readers plan s) k u) (map (from a) t.sends)) (q k u) (q k u)) sub (λ u. refl) (λ u. either-same (has_first (line_of a (source_readers plan s) k u) (map (from a) t.sends)) (q k u)) (goes h q held k sub e)
@@ -210,7 +211,7 @@ deliver-held w most k (Some e) h q f fine held =
 -- ---- ticks and milling
 
 -- a client's step
-client-held : (w : World) (b c : ℕ) (t : ClientStepped) (h : Line → List Item) (q : Line → Subscribe) → role_of w.plan b ≡ IsClient c → AreHeld w h q → AreHeldNext w (client_stepped b c t w) nothing h q
+client-held : (w : World) (b c : ℕ) (t : Stepped ClientState) (h : Line → List Item) (q : Line → Subscribe) → role_of w.plan b ≡ IsClient c → AreHeld w h q → AreHeldNext w (client_stepped b c t w) nothing h q
 client-held w b c t h q role held a =
     let next = client_stepped b c t w in
     (elim (a == b) as (λ d. (a == b) ≡ d → HeldAt w.plan w.sources w.nodes (λ l. past_next l (h l) w next) (λ l. opened_next l None (q l) w next) a (role_of w.plan a)) [

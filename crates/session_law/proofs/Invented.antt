@@ -10,10 +10,10 @@ use Rattle.dpc_model.specs.declared.messages.Event.{Event}
 use Rattle.dpc_model.specs.declared.messages.Event.TheVariants.{Phase, Emit, Release, Cut, Heal, Crash, Restart, Deliver, Tick, Mill}
 use Rattle.dpc_model.specs.declared.messages.Message.TheVariants as message
 use Rattle.dpc_model.specs.declared.plans.Plan.{Plan}
-use Rattle.node_model.specs.Mails.{Mail, mails}
+use Rattle.node_model.specs.Mails.{Mail, mails, Stepped}
 use Rattle.node_model.specs.Nodes.{PlainNode, out_tentative}
-use Rattle.node_model.specs.NodeSteps.{Stepped, delivered, milled, ticked_at}
-use Rattle.node_model.specs.Sources.{SourceStepped, source_emits, source_releases, source_delivered, source_ticked}
+use Rattle.node_model.specs.NodeSteps.{delivered, milled, ticked_at}
+use Rattle.node_model.specs.Sources.{source_emits, source_releases, source_delivered, source_ticked, SourceState}
 use Rattle.node_model.specs.Clients.{ClientState, client_stream, client_ticked}
 use Rattle.dpc_model.specs.Ports.{marks_ended, port_ticked, subscriptions, acks_to}
 use Rattle.dpc_model.specs.Actors.{senders_of}
@@ -49,7 +49,7 @@ mails-sent w next a ms same h =
     each [] h = All-nil (λ (x : Envelope). TentativesStand (tentative_output next x.sender (role_of next.plan x.sender)) (items_of x.packet))
     each (m ∷ ms) h = All-cons (λ (x : Envelope). TentativesStand (tentative_output next x.sender (role_of next.plan x.sender)) (items_of x.packet)) (from a m) (map (from a) ms) h.0 (each ms h.1)
 
-node-sent : (w : World) (most a f r : ℕ) (s : Stepped) → IsFine w most → role_of w.plan a ≡ IsNode f r → Stands (home_of w.plan (f, r)) s → AllStand w (node_stepped a s w)
+node-sent : (w : World) (most a f r : ℕ) (s : Stepped PlainNode) → IsFine w most → role_of w.plan a ≡ IsNode f r → Stands (home_of w.plan (f, r)) s → AllStand w (node_stepped a s w)
 node-sent w most a f r s fine role stands =
     let next = node_stepped a s w in
     let slot : slot_of next a ≡ record (slot_of w a) { node = Some s.after } = stepped-slot w most a f r (λ (slot : Slot). record slot { node = Some s.after }) fine role in
@@ -57,7 +57,7 @@ node-sent w most a f r s fine role stands =
     ap (λ (x : Role). tentative_output next a x) role ∙ ap (λ (x : Slot). elim x.node [ None ↦ [] | Some n ↦ out_tentative (home_of w.plan (f, r)) n ]) slot in
     mails-sent w next a s.sends refl (subst (λ (ts : List Tuple). AreStanding ts s.sends) (sym out) stands)
 
-source-sent : (w : World) (a s : ℕ) (t : SourceStepped) → role_of w.plan a ≡ IsSource s → AreStanding [] t.sends → AllStand w (source_stepped a t w)
+source-sent : (w : World) (a s : ℕ) (t : Stepped SourceState) → role_of w.plan a ≡ IsSource s → AreStanding [] t.sends → AllStand w (source_stepped a t w)
 source-sent w a s t role stands =
     let next = source_stepped a t w in
     mails-sent w next a t.sends refl (subst (λ (x : Role). AreStanding (tentative_output next a x) t.sends) (sym role) stands)

@@ -20,9 +20,10 @@ use Rattle.dpc_model.specs.declared.messages.NodeState.TheVariants.{Stabilizatio
 use Rattle.dpc_model.specs.declared.plans.Plan.{Plan}
 use Rattle.dpc_model.specs.declared.plans.StreamRef.{StreamRef}
 use Rattle.dpc_model.specs.declared.plans.StreamRef.TheVariants.{Frag}
-use Rattle.node_model.specs.Mails.{Mail, mail, mails, in_actor_order, to_each}
-use Rattle.node_model.specs.Nodes.{Home, PlainNode, spec_of, streams_of, own_readers, inputs_done, view_cursor, out_stable, out_view, out_tentative, shown, ready, complete_upto, due_at, is_stabilization, wants_to_reconcile, buckets_of}
-use Rattle.node_model.specs.NodeSteps.{Stepped, silently, then_do, give, given_by, given_stable, entered, advanced, closing, with_failure, stably, processed_upto, processing, reconciled, milled, peers_of, peer_watches, clocked, may_start_afresh, choosing, reconciling, done_at, acks_from, beat_of, beats, announcing, serving, asking_snapshots, going_on, fresh, with_marks_ended, ticked_at}
+use Rattle.node_model.specs.Mails.{Mail, mail, mails, in_actor_order, to_each, Stepped}
+use Rattle.dpc_model.specs.NodeStates.{is_stabilization}
+use Rattle.node_model.specs.Nodes.{Home, PlainNode, spec_of, streams_of, own_readers, inputs_done, view_cursor, out_stable, out_view, out_tentative, shown, ready, complete_upto, due_at, wants_to_reconcile, buckets_of}
+use Rattle.node_model.specs.NodeSteps.{silently, then_do, give, given_by, given_stable, entered, advanced, closing, with_failure, stably, processed_upto, processing, reconciled, milled, peers_of, peer_watches, clocked, may_start_afresh, choosing, reconciling, done_at, acks_from, beat_of, beats, announcing, serving, asking_snapshots, going_on, fresh, with_marks_ended, ticked_at}
 use Rattle.world_safety.proofs.Outputs.{inputs-held}
 use Rattle.world_safety.specs.Plans.{IsPlace}
 use Rattle.world_safety.proofs.Tests.{all-append, all-sort, all-map}
@@ -43,10 +44,10 @@ use Rattle.world_safety.proofs.Histories.{AreDistinct, Carries}
 use Rattle.session_law.proofs.Keeping.{Keeps, SameShown, is_bare, keeps-then, keeps-same, keeps-shut, keeps-gave, mapped}
 
 -- a step of a node leaves what is held
-abbrev pub Goes : Home → ℕ → PlainNode → Stepped → Type 0
+abbrev pub Goes : Home → ℕ → PlainNode → Stepped PlainNode → Type 0
 Goes home a n s = Keeps home.plan (Frag home.frag) a (own_readers home) (shown home n) n.subs (shown home s.after) s.after.subs s.sends
 
-pub goes-then : (home : Home) (a : ℕ) (n : PlainNode) (s : Stepped) (f : PlainNode → Stepped) → Goes home a n s → Goes home a s.after (f s.after) → Goes home a n (then_do s f)
+pub goes-then : (home : Home) (a : ℕ) (n : PlainNode) (s : Stepped PlainNode) (f : PlainNode → Stepped PlainNode) → Goes home a n s → Goes home a s.after (f s.after) → Goes home a n (then_do s f)
 goes-then home a n s f h k =
     keeps-then home.plan (Frag home.frag) a (own_readers home) (shown home n) (shown home s.after) (shown home (f s.after).after) n.subs s.after.subs (f s.after).after.subs s.sends (f s.after).sends h k
 
@@ -273,7 +274,7 @@ snapshots-goes : (home : Home) (a : ℕ) (n : PlainNode) → Goes home a n (aski
 snapshots-goes home a n = silent-goes home a n (asking_snapshots home n).sends (each-bare (message.SnapAsk n.grants.inc n.tries) (peers_of home) (λ b. refl))
 
 -- a step behind one that sends nothing
-pub behind : (home : Home) (a : ℕ) (n m : PlainNode) (s : Stepped) → Goes home a n (silently m) → Goes home a m s → Goes home a n s
+pub behind : (home : Home) (a : ℕ) (n m : PlainNode) (s : Stepped PlainNode) → Goes home a n (silently m) → Goes home a m s → Goes home a n s
 behind home a n m s h k = goes-then home a n (silently m) (λ _. s) h k
 
 going_on-goes : (home : Home) (a most : ℕ) (n : PlainNode) → IsActor home a → AreDistinct (own_readers home) → IsGood home most n → Goes home a n (going_on home n)

@@ -15,8 +15,8 @@ use Rattle.dpc_model.specs.declared.messages.Message.{Message}
 use Rattle.dpc_model.specs.declared.messages.Message.TheVariants as message
 use Rattle.dpc_model.specs.declared.plans.Plan.{Plan}
 use Rattle.dpc_model.specs.declared.plans.StreamRef.TheVariants.{Source}
-use Rattle.node_model.specs.Mails.{Packet, Plain, SnapFor, mail}
-use Rattle.node_model.specs.Sources.{SourceState, SourceStepped, source_readers, bound_at, source_shown, emitted_upto, source_given, source_gives, source_emits, source_releases, source_subscribed, source_message, source_delivered, source_beat, source_ticked}
+use Rattle.node_model.specs.Mails.{Packet, Plain, SnapFor, mail, Stepped}
+use Rattle.node_model.specs.Sources.{SourceState, source_readers, bound_at, source_shown, emitted_upto, source_given, source_gives, source_emits, source_releases, source_subscribed, source_message, source_delivered, source_beat, source_ticked}
 use Rattle.world_model.specs.Worlds.{Envelope}
 use Rattle.world_model.specs.SessionLaw.{bound_of}
 use Rattle.world_safety.specs.Plans.{IsChecked}
@@ -30,10 +30,10 @@ use Rattle.session_law.proofs.Keeping.{HeldBy, Keeps, mailed, is_bare, keeps-sam
 use Rattle.session_law.proofs.Asking.{opens, asked-held}
 
 -- a step of a source leaves what is held
-abbrev pub SourceGoes : Plan → ℕ → ℕ → SourceState → SourceStepped → Type 0
+abbrev pub SourceGoes : Plan → ℕ → ℕ → SourceState → Stepped SourceState → Type 0
 SourceGoes plan a s x t = Keeps plan (Source s) a (source_readers plan s) (source_shown plan s x) x.subs (source_shown plan s t.after) t.after.subs t.sends
 
-abbrev pub SourceTakes : Plan → ℕ → ℕ → Envelope → SourceState → SourceStepped → Type 0
+abbrev pub SourceTakes : Plan → ℕ → ℕ → Envelope → SourceState → Stepped SourceState → Type 0
 SourceTakes plan a s e x t =
     (h : ℕ → Sess → List Item) (q : ℕ → Sess → Subscribe) → HeldBy plan (Source s) (source_shown plan s x) h q x.subs →
     HeldBy plan (Source s) (source_shown plan s t.after) (λ k u. h k u ++ mailed a (source_readers plan s) t.sends k u) (opens a (source_readers plan s) t.sends e q) t.after.subs

@@ -13,9 +13,10 @@ use Rattle.dpc_model.specs.declared.messages.Subscribe.{Subscribe}
 use Rattle.dpc_model.specs.declared.messages.Message.{Message}
 use Rattle.dpc_model.specs.declared.messages.Message.TheVariants as message
 use Rattle.dpc_model.specs.declared.plans.Plan.{Plan}
-use Rattle.node_model.specs.Mails.{Packet, Plain, SnapFor, Mail, mail, to_readers, to_each}
-use Rattle.node_model.specs.Nodes.{Home, PlainNode, own_readers, out_stable, out_view, out_tentative, shown, is_up_failure, is_stabilization, due_at, view_cursor, ready, wants_to_reconcile}
-use Rattle.node_model.specs.NodeSteps.{Stepped, silently, then_do, give, given_by, given_stable, entered, advanced, closing, with_failure, stably, processed_upto, processing, reconciled, milled, peers_of, peer_watches, choosing, reconciling, announcing, serving, asking_snapshots, going_on, fresh, clocked, with_marks_ended, may_start_afresh, ticked_at, on_subscribe, on_ask, on_snap_ask, on_message, on_packet, reader_place, replica_number, delivered}
+use Rattle.node_model.specs.Mails.{Packet, Plain, SnapFor, Mail, mail, to_readers, to_each, Stepped}
+use Rattle.dpc_model.specs.NodeStates.{is_up_failure, is_stabilization}
+use Rattle.node_model.specs.Nodes.{Home, PlainNode, own_readers, out_stable, out_view, out_tentative, shown, due_at, view_cursor, ready, wants_to_reconcile}
+use Rattle.node_model.specs.NodeSteps.{silently, then_do, give, given_by, given_stable, entered, advanced, closing, with_failure, stably, processed_upto, processing, reconciled, milled, peers_of, peer_watches, choosing, reconciling, announcing, serving, asking_snapshots, going_on, fresh, clocked, with_marks_ended, may_start_afresh, ticked_at, on_subscribe, on_ask, on_snap_ask, on_message, on_packet, reader_place, replica_number, delivered}
 use Rattle.node_model.specs.Sources.{SourceState, bound_at, source_readers, source_shown, source_given, source_gives, source_emits, source_releases, source_subscribed, source_message, source_delivered, source_ticked}
 use Rattle.world_model.specs.Orderly.{items_of}
 use Rattle.world_safety.proofs.Carried.{here, there}
@@ -149,7 +150,7 @@ answer-standing x sub asked to =
 -- ---- the steps of a node
 
 -- what a step sends stands in the node's tentative output
-abbrev pub Stands : Home → Stepped → Type 0
+abbrev pub Stands : Home → Stepped PlainNode → Type 0
 Stands home s = AreStanding (out_tentative home s.after) s.sends
 
 tentative-subs : (home : Home) (n : PlainNode) (subs : List Sub) → out_tentative home (record n { subs = subs }) ≡ out_tentative home n
@@ -197,7 +198,7 @@ milled-stands home r n =
 
 reconciling-standing : (home : Home) (out : List Tuple) (n : PlainNode) → AreStanding out (reconciling home n).sends
 reconciling-standing home out n =
-    let asks : Stepped = record { after = record n { grants = asking n.grants }; sends = to_each (message.Ask (own_key n.grants).0 (own_key n.grants).1) (peers_of home) } in
+    let asks : Stepped PlainNode = record { after = record n { grants = asking n.grants }; sends = to_each (message.Ask (own_key n.grants).0 (own_key n.grants).1) (peers_of home) } in
     elim (wants_to_reconcile home n && is_none n.grants.promise) as (λ b. AreStanding out (cond b (cond (list_all is_silent (peer_watches home n)) (entered home n) asks) (silently n)).sends) [
       | true ↦ elim (list_all is_silent (peer_watches home n)) as (λ b. AreStanding out (cond b (entered home n) asks).sends) [
         | true ↦ entered-standing home out n

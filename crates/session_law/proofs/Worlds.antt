@@ -11,10 +11,9 @@ use Rattle.dpc_model.specs.declared.messages.Sess.{Sess}
 use Rattle.dpc_model.specs.declared.messages.Subscribe.{Subscribe}
 use Rattle.dpc_model.specs.declared.plans.Plan.{Plan}
 use Rattle.dpc_model.specs.declared.plans.StreamRef.TheVariants.{Source, Frag}
-use Rattle.node_model.specs.Mails.{Mail}
+use Rattle.node_model.specs.Mails.{Mail, Stepped}
 use Rattle.node_model.specs.Nodes.{Home, PlainNode, own_readers, shown}
-use Rattle.node_model.specs.NodeSteps.{Stepped}
-use Rattle.node_model.specs.Sources.{SourceState, SourceStepped, source_readers, source_shown}
+use Rattle.node_model.specs.Sources.{SourceState, source_readers, source_shown}
 use Rattle.world_model.specs.Worlds.{World, Envelope, Slot, home_of, node_place, from, slot_of, source_at, no_source, role_up, is_up, node_stepped, source_stepped}
 use Rattle.world_model.specs.SessionLaw.{Line, carried, goes_down}
 use Rattle.world_safety.proofs.Tests.{eq-of, eq-test}
@@ -178,7 +177,7 @@ other-slot plan a b f r g p change slots apart other role =
 -- ---- a node steps
 
 -- what a step of a node leaves, where an event brings o
-abbrev pub StepTakes : Home → ℕ → (Line → Option Subscribe) → PlainNode → Stepped → Type 0
+abbrev pub StepTakes : Home → ℕ → (Line → Option Subscribe) → PlainNode → Stepped PlainNode → Type 0
 StepTakes home a o n s =
     (h : ℕ → Sess → List Item) (q : ℕ → Sess → Subscribe) → HeldBy home.plan (Frag home.frag) (shown home n) h q n.subs →
     HeldBy home.plan (Frag home.frag) (shown home s.after) (λ k u. h k u ++ mailed a (own_readers home) s.sends k u)
@@ -190,7 +189,7 @@ stepped-slot w most b f r change fine role =
     let found = slots-at w.plan most (node_place w.plan b) (f, r) (nodes_of w.plan) w.nodes (node-at w.plan b f r role) fine.nodes_up in
     ap (λ (o : Option Slot). unwrap_or o no_slot) (get-changed (node_place w.plan b) change w.nodes found.0 found.1) ∙ ap change (sym (ap (λ (o : Option Slot). unwrap_or o no_slot) found.1))
 
-node-own : (w : World) (most b f r : ℕ) (n : PlainNode) (s : Stepped) (o : Line → Option Subscribe) (h : Line → List Item) (q : Line → Subscribe) → IsFine w most → role_of w.plan b ≡ IsNode f r → (slot_of w b).node ≡ Some n →
+node-own : (w : World) (most b f r : ℕ) (n : PlainNode) (s : Stepped PlainNode) (o : Line → Option Subscribe) (h : Line → List Item) (q : Line → Subscribe) → IsFine w most → role_of w.plan b ≡ IsNode f r → (slot_of w b).node ≡ Some n →
     StepTakes (home_of w.plan (f, r)) b o n s → AreHeld w h q →
     HeldNode (home_of w.plan (f, r)) b (λ l. past_next l (h l) w (node_stepped b s w)) (λ l. opened_next l (o l) (q l) w (node_stepped b s w)) (nth no_slot (changed (node_place w.plan b) (λ slot. record slot { node = Some s.after }) w.nodes) (node_place w.plan b)).node
 node-own w most b f r n s o h q fine role up step held =
@@ -209,7 +208,7 @@ node-own w most b f r n s o h q fine role up step held =
     (λ u. past-stepped (line_of b readers k u) (h (line_of b readers k u)) w next (map (from b) s.sends) refl is_up_now)
     (λ u. opened-stepped (line_of b readers k u) (o (line_of b readers k u)) (q (line_of b readers k u)) w next (map (from b) s.sends) refl) (new k sub e))
 
-pub node-held : (w : World) (most b f r : ℕ) (n : PlainNode) (s : Stepped) (o : Line → Option Subscribe) (h : Line → List Item) (q : Line → Subscribe) → IsFine w most → role_of w.plan b ≡ IsNode f r → (slot_of w b).node ≡ Some n →
+pub node-held : (w : World) (most b f r : ℕ) (n : PlainNode) (s : Stepped PlainNode) (o : Line → Option Subscribe) (h : Line → List Item) (q : Line → Subscribe) → IsFine w most → role_of w.plan b ≡ IsNode f r → (slot_of w b).node ≡ Some n →
     StepTakes (home_of w.plan (f, r)) b o n s → AreHeld w h q → AreHeldNext w (node_stepped b s w) o h q
 node-held w most b f r n s o h q fine role up step held a =
     let next = node_stepped b s w in
@@ -222,7 +221,7 @@ node-held w most b f r n s o h q fine role up step held a =
 
 -- ---- a source steps
 
-abbrev pub SourceStepTakes : Plan → ℕ → ℕ → (Line → Option Subscribe) → SourceState → SourceStepped → Type 0
+abbrev pub SourceStepTakes : Plan → ℕ → ℕ → (Line → Option Subscribe) → SourceState → Stepped SourceState → Type 0
 SourceStepTakes plan a s o x t =
     (h : ℕ → Sess → List Item) (q : ℕ → Sess → Subscribe) → HeldBy plan (Source s) (source_shown plan s x) h q x.subs →
     HeldBy plan (Source s) (source_shown plan s t.after) (λ k u. h k u ++ mailed a (source_readers plan s) t.sends k u)
@@ -233,7 +232,7 @@ changed-none i f [] e = refl
 changed-none zero f (x ∷ xs) e = cc
 changed-none (suc i) f (x ∷ xs) e = changed-none i f xs e
 
-source-own : (w : World) (b s : ℕ) (t : SourceStepped) (o : Line → Option Subscribe) (h : Line → List Item) (q : Line → Subscribe) → s ≡ b → role_of w.plan b ≡ IsSource s → SourceStepTakes w.plan b s o (source_at w s) t → AreHeld w h q →
+source-own : (w : World) (b s : ℕ) (t : Stepped SourceState) (o : Line → Option Subscribe) (h : Line → List Item) (q : Line → Subscribe) → s ≡ b → role_of w.plan b ≡ IsSource s → SourceStepTakes w.plan b s o (source_at w s) t → AreHeld w h q →
     HeldSource w.plan b s (λ l. past_next l (h l) w (source_stepped b t w)) (λ l. opened_next l (o l) (q l) w (source_stepped b t w)) (nth no_source (changed b (λ _. t.after) w.sources) s)
 source-own w b s t o h q here role step held =
     let next = source_stepped b t w in
@@ -255,7 +254,7 @@ source-own w b s t o h q here role step held =
           (λ u. opened-stepped (line_of b readers k u) (o (line_of b readers k u)) (q (line_of b readers k u)) w next (map (from b) t.sends) refl) (new k sub f))
     ]) refl
 
-pub source-held : (w : World) (b s : ℕ) (t : SourceStepped) (o : Line → Option Subscribe) (h : Line → List Item) (q : Line → Subscribe) → role_of w.plan b ≡ IsSource s → SourceStepTakes w.plan b s o (source_at w s) t → AreHeld w h q →
+pub source-held : (w : World) (b s : ℕ) (t : Stepped SourceState) (o : Line → Option Subscribe) (h : Line → List Item) (q : Line → Subscribe) → role_of w.plan b ≡ IsSource s → SourceStepTakes w.plan b s o (source_at w s) t → AreHeld w h q →
     AreHeldNext w (source_stepped b t w) o h q
 source-held w b s t o h q role step held a =
     let next = source_stepped b t w in

@@ -20,7 +20,8 @@ use Rattle.dpc_model.specs.declared.plans.Plan.{Plan}
 use Rattle.dpc_model.specs.declared.plans.StreamRef.{StreamRef}
 use Rattle.dpc_model.specs.declared.plans.StreamRef.TheVariants.{Source, Frag}
 use Rattle.node_model.specs.Mails.{Packet, Plain, SnapFor}
-use Rattle.node_model.specs.Nodes.{Home, spec_of, streams_of, own_readers, buckets_of, PlainNode, view_cursor, out_stable, is_up_failure, is_stabilization}
+use Rattle.dpc_model.specs.NodeStates.{is_up_failure, is_stabilization}
+use Rattle.node_model.specs.Nodes.{Home, spec_of, streams_of, own_readers, buckets_of, PlainNode, view_cursor, out_stable}
 use Rattle.node_model.specs.Sources.{SourceState, source_readers}
 use Rattle.node_model.specs.Clients.{ClientState, client_stream}
 use Rattle.world_model.specs.Worlds.{World, Envelope, Slot, home_of}

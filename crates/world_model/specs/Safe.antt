@@ -17,9 +17,10 @@ use Rattle.dpc_model.specs.declared.plans.Plan.{Plan}
 use Rattle.dpc_model.specs.declared.plans.StreamRef.{StreamRef}
 use Rattle.dpc_model.specs.declared.plans.StreamRef.TheVariants.{Source, Frag}
 use Rattle.dpc_model.specs.Sessions.{Sub, link_of, given_items}
-use Rattle.node_model.specs.Mails.{Snap, Packet, Plain, SnapFor, Mail, mail}
-use Rattle.node_model.specs.Nodes.{Home, PlainNode, streams_of, own_readers, held_by, out_stable, out_tentative, due_at, is_stable, is_stabilization}
-use Rattle.node_model.specs.NodeSteps.{Stepped, given_by, ticked_at}
+use Rattle.node_model.specs.Mails.{Snap, Packet, Plain, SnapFor, Mail, mail, Stepped}
+use Rattle.dpc_model.specs.NodeStates.{is_stable, is_stabilization}
+use Rattle.node_model.specs.Nodes.{Home, PlainNode, streams_of, own_readers, held_by, out_stable, out_tentative, due_at}
+use Rattle.node_model.specs.NodeSteps.{given_by, ticked_at}
 use Rattle.node_model.specs.Clients.{ClientState, client_stream, reader_of}
 use Rattle.world_model.specs.Worlds.{World, Envelope, Slot, home_of, slot_of, new_world, happens, run, is_clock}
 
@@ -167,7 +168,7 @@ abbrev pub CarriesLast : List Mail → ℕ → List Item → Sess × ℕ → Typ
 CarriesLast sends to items l = (index : ℕ) × (l.1 ≡ index + 1) × Contains sends (mail to (message.Batch l.0 index items))
 
 -- a tick outside STABILIZATION leaves no bucket due, and what it processed stands in the last batch of every open session
-pub record Serves (home : Home) (now : ℕ) (n : PlainNode) (s : Stepped) : Type 0 where
+pub record Serves (home : Home) (now : ℕ) (n : PlainNode) (s : Stepped PlainNode) : Type 0 where
   pub nothing_due : due_at home s.after now ≡ None
   pub given : (k : ℕ) → let items = given_items (length (out_stable home n)) (given_by home n s.after (nat_lt n.cursor s.after.cursor) (nat_lt (length n.closed) (length s.after.closed)))
       in items ≢ [] → (sub : Sub) → slice_get s.after.subs k ≡ Some sub → IfSome (link_of sub) (CarriesLast s.sends (nth 0 (own_readers home) k) items)

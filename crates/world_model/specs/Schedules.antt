@@ -1,6 +1,7 @@
 -- Which events a script lets come next, and the one-thread journal of a script.
 use Rattle.std.specs.Prelude.{ℕ, zero, suc, ◌+◌, ◌-◌, ◌*◌, ◌/◌, ◌%◌, Bool, true, false, not, ◌&&◌, ◌||◌, ◌==◌, nat_lt, nat_le, max, if◌then◌else◌, List, [], ◌∷◌, ◌++◌, map, length, filter, flat_map, fold, drop, reverse, replicate, Option, Some, None, slice_get}
 use Rattle.dpc_model.specs.Lists.{nth, range_with_len, list_any, list_all, has, place_of, is_nil}
+use Rattle.dpc_model.specs.Limits.{most_milled, may_be_milled}
 use Rattle.dpc_model.specs.Actors.{roles_of, nodes_of}
 use Rattle.dpc_model.specs.declared.messages.Event.{Event}
 use Rattle.dpc_model.specs.declared.messages.Event.TheVariants.{Phase, Emit, Release, Cut, Heal, Crash, Restart, Deliver, Tick, Mill}
@@ -90,9 +91,9 @@ tell_all x events = fold tell x events
 abbrev pub tell_directive : Told → Directive → Told
 tell_directive x d = elim (event_of x.world d) [ None ↦ x | Some e ↦ tell x e ]
 
--- so many buckets of a node, 16 at a time
+-- so many buckets of a node, the most at a time
 abbrev pub mill_events : ℕ → ℕ → List Event
-mill_events a r = replicate (r / 16) (Mill a 16) ++ (if r % 16 == 0 then [] else Mill a (r % 16) ∷ [])
+mill_events a r = replicate (r / most_milled) (Mill a most_milled) ++ (if r % most_milled == 0 then [] else Mill a (r % most_milled) ∷ [])
 
 -- the numbers of all actors
 abbrev pub actors_of : Plan → List ℕ
@@ -289,7 +290,7 @@ now_of script x = (phase_of script x.phase).now
 
 -- an event that a node may make of its ready buckets
 abbrev pub may_mill : World → ℕ → ℕ → Bool
-may_mill w a r = nat_le 1 r && nat_le r 16 && nat_le r (ready_at w a)
+may_mill w a r = may_be_milled r (ready_at w a)
 
 abbrev pub all_ticked : Progress → Bool
 all_ticked x = list_all (λ a. not (is_up x.world a) || has x.ticked a) (actors_of x.world.plan)

@@ -1,5 +1,6 @@
 -- What the items of one session leave at its reader.
 use Rattle.std.specs.Prelude.{◌≡◌, ℕ, ◌≤◌, Bool, not, ◌&&◌, ◌==◌, nat_lt, nat_le, max, if◌then◌else◌, List, [], ◌∷◌, ◌++◌, length, take, drop, filter, Option, Some, None, IfSome, IsSome}
+use Rattle.dpc_model.specs.Engines.{from_time}
 use Rattle.dpc_model.specs.Fragments.{ideal, ideal_upto}
 use Rattle.dpc_model.specs.Reading.{Reader, is_sure, Folded, fold_items}
 use Rattle.dpc_model.specs.Inlets.{same_sess}
@@ -59,10 +60,6 @@ pub record Fits (plan : Plan) (s : StreamRef) (asked : Subscribe) (r : Reader) :
   pub bound : length (ideal_upto plan s r.bound) ≤ asked.n
   pub tentative : is_sure r ≡ not asked.tentative
 
--- the tuples at or past a time
-abbrev pub at_or_past : ℕ → List Tuple → List Tuple
-at_or_past b ts = filter (λ (t : Tuple). nat_le b t.stime) ts
-
 abbrev pub bound_of : Option (ℕ × ℕ) → ℕ
 bound_of None = 0
 bound_of (Some b) = b.0
@@ -79,7 +76,7 @@ taken_whole plan s asked x start =
     record {
       stable = take (max asked.n (length x.stable)) (ideal plan s);
       bound = b;
-      tentative = at_or_past b x.tentative;
+      tentative = from_time b x.tentative;
       soft = soft_of b x.passed;
     }
 

@@ -1,18 +1,19 @@
 -- The world: all actors, the links, and every envelope that was sent; and what each event makes of it.
 use Rattle.std.specs.Prelude.{ℕ, ◌+◌, ◌-◌, ◌^◌, Bool, true, false, not, ◌&&◌, ◌||◌, ◌==◌, nat_lt, nat_le, if◌then◌else◌, List, [], ◌∷◌, ◌++◌, map, length, filter, drop, Option, Some, None, slice_get, is_some}
 use Rattle.dpc_model.specs.Lists.{nth, changed, range_with_len, list_any, push}
+use Rattle.dpc_model.specs.Limits.{most_envelopes, most_items, may_be_milled}
 use Rattle.dpc_model.specs.Actors.{Role, IsSource, IsNode, IsClient, Nobody, role_of, nodes_of, are_linked}
 use Rattle.dpc_model.specs.declared.messages.Event.{Event}
 use Rattle.dpc_model.specs.declared.messages.Event.TheVariants.{Phase, Emit, Release, Cut, Heal, Crash, Restart, Deliver, Tick, Mill}
 use Rattle.dpc_model.specs.declared.messages.Message.{Message}
 use Rattle.dpc_model.specs.declared.messages.Message.TheVariants as message
 use Rattle.dpc_model.specs.declared.plans.Plan.{Plan}
-use Rattle.node_model.specs.Mails.{Snap, Packet, Plain, SnapFor, Mail}
+use Rattle.node_model.specs.Mails.{Snap, Packet, Plain, SnapFor, Mail, Stepped}
 use Rattle.node_model.specs.Stands.{snap_output}
 use Rattle.node_model.specs.Nodes.{Home, PlainNode, new_node, restarted_node, ready}
-use Rattle.node_model.specs.NodeSteps.{Stepped, delivered, milled, ticked_at}
-use Rattle.node_model.specs.Sources.{SourceState, SourceStepped, new_source, source_emits, source_releases, source_delivered, source_ticked}
-use Rattle.node_model.specs.Clients.{ClientState, ClientStepped, new_client, client_delivered, client_ticked, client_settled}
+use Rattle.node_model.specs.NodeSteps.{delivered, milled, ticked_at}
+use Rattle.node_model.specs.Sources.{SourceState, new_source, source_emits, source_releases, source_delivered, source_ticked}
+use Rattle.node_model.specs.Clients.{ClientState, new_client, client_delivered, client_ticked, client_settled}
 
 -- ---- the world
 
@@ -100,14 +101,14 @@ from a m = record { sender = a; to = m.to; packet = m.packet }
 abbrev pub sent : ℕ → List Mail → World → World
 sent a ms w = record w { envelopes = w.envelopes ++ map (from a) ms }
 
-abbrev pub node_stepped : ℕ → Stepped → World → World
+abbrev pub node_stepped : ℕ → Stepped PlainNode → World → World
 node_stepped a s w =
     sent a s.sends (record w { nodes = changed (node_place w.plan a) (λ slot. record slot { node = Some s.after }) w.nodes })
 
-abbrev pub source_stepped : ℕ → SourceStepped → World → World
+abbrev pub source_stepped : ℕ → Stepped SourceState → World → World
 source_stepped a s w = sent a s.sends (record w { sources = changed a (λ _. s.after) w.sources })
 
-abbrev pub client_stepped : ℕ → ℕ → ClientStepped → World → World
+abbrev pub client_stepped : ℕ → ℕ → Stepped ClientState → World → World
 client_stepped a c s w = sent a s.sends (record w { clients = changed c (λ _. s.after) w.clients })
 
 abbrev pub no_source : SourceState
@@ -192,9 +193,8 @@ ticks w a now (IsNode f r) = node_ticks w a now (home_of w.plan (f, r)) (slot_of
 ticks w a now (IsClient c) = if is_clock (client_at w c).clock now then client_stepped a c (client_ticked w.plan c now (client_at w c)) w else w
 ticks w a now Nobody = w
 
--- 1 to 16 ready buckets may be milled
 abbrev pub can_mill : Home → ℕ → PlainNode → Bool
-can_mill home r n = nat_le 1 r && nat_le r 16 && nat_le r (ready home n)
+can_mill home r n = may_be_milled r (ready home n)
 
 abbrev pub node_mills : World → ℕ → ℕ → Home → Option PlainNode → World
 node_mills w a r home None = w
@@ -276,13 +276,6 @@ item_count w [] = 0
 item_count w (e ∷ rest) = items_in w.plan e.to e.packet + item_count w rest
 
 -- ---- the limits of a run
-
--- the most envelopes of a run, and the most items in them
-abbrev pub most_envelopes : ℕ
-most_envelopes = 8000000
-
-abbrev pub most_items : ℕ
-most_items = 4000000
 
 -- how many envelopes were sent, and how many items they carry
 pub record Sums : Type 0 where

@@ -20,9 +20,10 @@ use Rattle.dpc_model.specs.declared.messages.Message.TheVariants as message
 use Rattle.dpc_model.specs.declared.plans.Plan.{Plan}
 use Rattle.dpc_model.specs.declared.plans.StreamRef.{StreamRef}
 use Rattle.dpc_model.specs.declared.plans.StreamRef.TheVariants.{Source, Frag}
-use Rattle.node_model.specs.Mails.{Snap, Packet, Plain, SnapFor, mail}
-use Rattle.node_model.specs.Nodes.{Home, PlainNode, streams_of, own_readers, held_by, out_stable, is_up_failure, is_stabilization}
-use Rattle.node_model.specs.NodeSteps.{Stepped, silently, with_port, took, on_batch, on_subscribe, on_truncation, recovering_again, on_upstream_beat, on_peer_beat, on_ack, with_base, on_ask, on_grant, entered, on_snap_ask, snapshot, on_snap, adopted, reader_place, replica_number, on_message, on_packet, with_marks_ended, delivered}
+use Rattle.node_model.specs.Mails.{Snap, Packet, Plain, SnapFor, mail, Stepped}
+use Rattle.dpc_model.specs.NodeStates.{is_up_failure, is_stabilization}
+use Rattle.node_model.specs.Nodes.{Home, PlainNode, streams_of, own_readers, held_by, out_stable}
+use Rattle.node_model.specs.NodeSteps.{silently, with_port, took, on_batch, on_subscribe, on_truncation, recovering_again, on_upstream_beat, on_peer_beat, on_ack, with_base, on_ask, on_grant, entered, on_snap_ask, snapshot, on_snap, adopted, reader_place, replica_number, on_message, on_packet, with_marks_ended, delivered}
 use Rattle.world_model.specs.Safe.{IsTruePacket, IsTrueSnap}
 use Rattle.world_model.specs.Orderly.{is_port_sound, item_fits, packet_way, carries_fitting, recovers_empty}
 use Rattle.world_safety.proofs.Milling.{IsSafeNode-same}
@@ -374,17 +375,17 @@ on_snap-good home most i try s n place truth g =
 -- ---- any packet
 
 -- a step that carries no RecDone, with risen limits
-pub step-bare : (home : Home) (a most : ℕ) (done : Type 0) (s : Stepped) → IsGoodStep home a most ⊥ s → IsGoodStep home a (most + 1) done s
+pub step-bare : (home : Home) (a most : ℕ) (done : Type 0) (s : Stepped PlainNode) → IsGoodStep home a most ⊥ s → IsGoodStep home a (most + 1) done s
 step-bare home a most done s h = record { after = later-good home most s.after h.after; mails = mails-weaker home.plan a ⊥ done (λ e. absurd e) s.sends h.mails }
 
 step-silent : (home : Home) (a most : ℕ) (done : Type 0) (n : PlainNode) → IsGood home most n → IsGoodStep home a most done (silently n)
 step-silent home a most done n g = record { after = g; mails = tt }
 
-step-later : (home : Home) (a most : ℕ) (done : Type 0) (s : Stepped) → IsGoodStep home a most done s → IsGoodStep home a (most + 1) done s
+step-later : (home : Home) (a most : ℕ) (done : Type 0) (s : Stepped PlainNode) → IsGoodStep home a most done s → IsGoodStep home a (most + 1) done s
 step-later home a most done s h = record { after = later-good home most s.after h.after; mails = h.mails }
 
 -- unless the node recovers
-unless-recovering : (home : Home) (a most : ℕ) (n : PlainNode) (f : PlainNode → Stepped) → IsGood home most n → (n.recovering ≡ false → IsGoodStep home a most (IsDoneNode home (f n).after) (f n)) →
+unless-recovering : (home : Home) (a most : ℕ) (n : PlainNode) (f : PlainNode → Stepped PlainNode) → IsGood home most n → (n.recovering ≡ false → IsGoodStep home a most (IsDoneNode home (f n).after) (f n)) →
     IsGoodStep home a most (IsDoneNode home (cond n.recovering (silently n) (f n)).after) (cond n.recovering (silently n) (f n))
 unless-recovering home a most n f g h = by-value n.recovering refl
   where
@@ -398,7 +399,7 @@ message-good : (home : Home) (me most sender : ℕ) (m : Message) (n : PlainNode
 message-good home me most sender (message.Batch u index items) n actor way fits truth g =
     step-silent home me (most + 1) _ _ (later-good home most _ (on_batch-good home most sender u index items n actor.place truth fits g))
 message-good home me most sender (message.Subscribe asked) n actor way fits truth g =
-    let f : PlainNode → Stepped = λ x. on_subscribe home asked (reader_place home sender) x in
+    let f : PlainNode → Stepped PlainNode = λ x. on_subscribe home asked (reader_place home sender) x in
     step-later home me most (IsDoneNode home (cond n.recovering (silently n) (f n)).after) (cond n.recovering (silently n) (f n))
     (unless-recovering home me most n f g (λ up. on_subscribe-good home me most asked (reader_place home sender) n actor up g (λ k e. place-below (λ b. sender == b) (own_readers home) k e)))
 message-good home me most sender (message.Truncated u base) n actor way fits truth g = step-silent home me (most + 1) _ _ (on_truncation-good home most sender u base n actor.place g)
@@ -413,7 +414,7 @@ message-good home me most sender (message.Ack i count) n actor way fits truth g 
 message-good home me most sender (message.Ask i ask) n actor way fits truth g = step-bare home me most _ (on_ask home i ask (replica_number home sender) n) (on_ask-good home me most sender i ask n actor way g)
 message-good home me most sender (message.Grant i ask) n actor way fits truth g = step-bare home me most _ (on_grant home i ask n) (on_grant-good home me most i ask n actor g)
 message-good home me most sender (message.SnapAsk i try) n actor way fits truth g =
-    let f : PlainNode → Stepped = λ x. on_snap_ask home sender i try x in
+    let f : PlainNode → Stepped PlainNode = λ x. on_snap_ask home sender i try x in
     step-later home me most (IsDoneNode home (cond n.recovering (silently n) (f n)).after) (cond n.recovering (silently n) (f n))
     (unless-recovering home me most n f g (λ up. let s = on_snap_ask-good home me most sender i try n actor up way g in record { after = s.after; mails = mails-weaker home.plan me ⊥ _ (λ e. absurd e) (f n).sends s.mails }))
 

@@ -10,7 +10,8 @@ use Rattle.dpc_model.specs.Sessions.{Acked, Sub, shut}
 use Rattle.dpc_model.specs.declared.tuples.Tuple.{Tuple}
 use Rattle.dpc_model.specs.declared.plans.Plan.{Plan}
 use Rattle.dpc_model.specs.declared.plans.StreamRef.{StreamRef}
-use Rattle.node_model.specs.Nodes.{Home, PlainNode, spec_of, streams_of, own_readers, reader_at, is_stabilization}
+use Rattle.dpc_model.specs.NodeStates.{is_stabilization}
+use Rattle.node_model.specs.Nodes.{Home, PlainNode, spec_of, streams_of, own_readers, reader_at}
 use Rattle.node_model.specs.NodeSteps.{port_emptied, recovering_again}
 use Rattle.world_model.specs.Safe.{HoldsOf, EachHolds}
 use Rattle.world_model.specs.Orderly.{is_port_sound, are_ports_sound, recovers_empty, has_shape}

@@ -20,9 +20,10 @@ use Rattle.dpc_model.specs.declared.messages.Subscribe.{Subscribe}
 use Rattle.dpc_model.specs.declared.plans.Plan.{Plan}
 use Rattle.dpc_model.specs.declared.plans.StreamRef.{StreamRef}
 use Rattle.dpc_model.specs.declared.plans.StreamRef.TheVariants.{Frag}
-use Rattle.node_model.specs.Mails.{mail}
-use Rattle.node_model.specs.Nodes.{Home, PlainNode, spec_of, own_readers, inputs_done, view_cursor, buckets_of, out_stable, out_view, out_tentative, out_bound, out_passed, shown, is_stable, is_up_failure, is_stabilization, complete_upto, ready, due_at}
-use Rattle.node_model.specs.NodeSteps.{stably, Stepped, silently, give, given_by, given_stable, entered, advanced, closing, with_failure, processed_upto, processing, reconciled, milled, on_subscribe}
+use Rattle.node_model.specs.Mails.{mail, Stepped}
+use Rattle.dpc_model.specs.NodeStates.{is_stable, is_up_failure, is_stabilization}
+use Rattle.node_model.specs.Nodes.{Home, PlainNode, spec_of, own_readers, inputs_done, view_cursor, buckets_of, out_stable, out_view, out_tentative, out_bound, out_passed, shown, complete_upto, ready, due_at}
+use Rattle.node_model.specs.NodeSteps.{stably, silently, give, given_by, given_stable, entered, advanced, closing, with_failure, processed_upto, processing, reconciled, milled, on_subscribe}
 use Rattle.world_model.specs.Safe.{AreTrueItems, IsSafeNode, has_done}
 use Rattle.world_model.specs.Orderly.{fits_stream, item_fits, has_state_of_closed}
 use Rattle.world_safety.proofs.Milling.{advanced-safe, IsSafeNode-same, upto-items-true}
@@ -41,7 +42,7 @@ use Rattle.world_safety.proofs.OutFits.{out_stable-fits, out_tentative-fits, dro
 use Rattle.world_safety.proofs.Mailing.{AreMails, IsActor, IsSender, node-sender, batches-mails, given-fit, given-done, IsBoundWithin, IsPassedWithin, stable-fit, tentative-fit, boundary-fit, passed-fit, done-fit, done-append, stable-done, tentative-done, boundary-done, passed-done}
 
 -- a step leaves a good node, and sends mails
-pub record IsGoodStep (home : Home) (a most : ℕ) (done : Type 0) (s : Stepped) : Type 0 where
+pub record IsGoodStep (home : Home) (a most : ℕ) (done : Type 0) (s : Stepped PlainNode) : Type 0 where
   pub after : IsGood home most s.after
   pub mails : AreMails home.plan a done s.sends
 

@@ -12,10 +12,11 @@ use Rattle.dpc_model.specs.declared.messages.Event.TheVariants.{Phase, Emit, Rel
 use Rattle.dpc_model.specs.declared.tuples.Tuple.{Tuple}
 use Rattle.dpc_model.specs.declared.tuples.Tagged.{Tagged}
 use Rattle.dpc_model.specs.declared.plans.Plan.{Plan}
-use Rattle.node_model.specs.Mails.{Mail}
-use Rattle.node_model.specs.Nodes.{Home, PlainNode, ready, complete_upto, is_stabilization, restarted_node}
-use Rattle.node_model.specs.NodeSteps.{Stepped, delivered, milled, ticked_at}
-use Rattle.node_model.specs.Sources.{SourceState, SourceStepped, source_readers, source_emits, source_releases, source_delivered, source_ticked}
+use Rattle.node_model.specs.Mails.{Mail, Stepped}
+use Rattle.dpc_model.specs.NodeStates.{is_stabilization}
+use Rattle.node_model.specs.Nodes.{Home, PlainNode, ready, complete_upto, restarted_node}
+use Rattle.node_model.specs.NodeSteps.{delivered, milled, ticked_at}
+use Rattle.node_model.specs.Sources.{SourceState, source_readers, source_emits, source_releases, source_delivered, source_ticked}
 use Rattle.node_model.specs.Clients.{ClientState, new_client, client_delivered, client_ticked}
 use Rattle.world_model.specs.Worlds.{World, Envelope, Slot, home_of, node_place, from, slot_of, source_at, client_at, no_source, node_stepped, source_stepped, client_stepped, is_release_time, is_clock, emits, releases, link_up, cuts_link, crashes, restart_slot, restarts, node_takes, taken_by, can_come, comes, node_ticks, ticks, can_mill, node_mills, mills, happens}
 use Rattle.world_model.specs.Safe.{AreTrue, IsTruePacket, IsDone, SendsDoneSurely, Serves, ServesAt, TicksServe, IsSafeStep}
@@ -88,7 +89,7 @@ sent-done w next a ms plan same h =
 
 -- ---- a node steps
 
-pub node-next : (w : World) (most a f r : ℕ) (s : Stepped) → IsFine w most → role_of w.plan a ≡ IsNode f r → IsGoodStep (home_of w.plan (f, r)) a (most + 1) (IsDoneNode (home_of w.plan (f, r)) s.after) s →
+pub node-next : (w : World) (most a f r : ℕ) (s : Stepped PlainNode) → IsFine w most → role_of w.plan a ≡ IsNode f r → IsGoodStep (home_of w.plan (f, r)) a (most + 1) (IsDoneNode (home_of w.plan (f, r)) s.after) s →
     IsNext w most (node_stepped a s w)
 node-next w most a f r s h role step =
     let next = node_stepped a s w in
@@ -137,7 +138,7 @@ source-here w most s h =
       | Some x ↦ λ e. let zero_on : 0 + s ≡ s = omega arith in fine-of w.plan s x (rw zero_on at (sources-at w.plan 0 s w.sources x h.sources e))
     ]) refl
 
-source-next : (w : World) (most a s : ℕ) (t : SourceStepped) → IsFine w most → role_of w.plan a ≡ IsSource s → IsSourceStep w.plan a s (source_at w s) t → IsNext w most (source_stepped a t w)
+source-next : (w : World) (most a s : ℕ) (t : Stepped SourceState) → IsFine w most → role_of w.plan a ≡ IsSource s → IsSourceStep w.plan a s (source_at w s) t → IsNext w most (source_stepped a t w)
 source-next w most a s t h role step =
     let next = source_stepped a t w in
     let some = h.some in

@@ -11,7 +11,8 @@ use Rattle.dpc_model.specs.declared.messages.NodeState.TheVariants.{UpFailure}
 use Rattle.dpc_model.specs.declared.plans.Plan.{Plan}
 use Rattle.dpc_model.specs.declared.plans.StreamRef.{StreamRef}
 use Rattle.dpc_model.specs.declared.plans.StreamRef.TheVariants.{Frag}
-use Rattle.node_model.specs.Nodes.{Home, PlainNode, streams_of, held_by, view_cursor, bucket_of, buckets_of, out_stable, out_bound, complete_upto, is_up_failure, is_stabilization}
+use Rattle.dpc_model.specs.NodeStates.{is_up_failure, is_stabilization}
+use Rattle.node_model.specs.Nodes.{Home, PlainNode, streams_of, held_by, view_cursor, bucket_of, buckets_of, out_stable, out_bound, complete_upto}
 use Rattle.node_model.specs.NodeSteps.{stably, advanced, closing, with_failure, give, given_by}
 use Rattle.world_model.specs.Safe.{EachReaches, IsSafeNode, EachHolds, AreTrueItems}
 use Rattle.world_model.specs.Orderly.{IsOrderlyNode, closed_in_place, stamps_in_place, base_follows, has_shape, has_state_of_closed, are_ports_sound, port_columns}

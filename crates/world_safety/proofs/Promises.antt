@@ -12,7 +12,8 @@ use Rattle.dpc_model.specs.declared.messages.Event.{Event}
 use Rattle.dpc_model.specs.declared.messages.Event.TheVariants.{Tick}
 use Rattle.dpc_model.specs.declared.plans.Plan.{Plan}
 use Rattle.dpc_model.specs.declared.plans.StreamRef.{StreamRef}
-use Rattle.node_model.specs.Nodes.{Home, PlainNode, streams_of, due_at, is_stabilization}
+use Rattle.dpc_model.specs.NodeStates.{is_stabilization}
+use Rattle.node_model.specs.Nodes.{Home, PlainNode, streams_of, due_at}
 use Rattle.node_model.specs.NodeSteps.{ticked_at}
 use Rattle.node_model.specs.Clients.{ClientState}
 use Rattle.world_model.specs.Worlds.{World, Envelope, Slot, home_of, node_place, slot_of, is_clock, node_ticks, node_stepped, ticks, happens, run}

@@ -12,9 +12,10 @@ use Rattle.dpc_model.specs.Sessions.{Sub, link_of, Given, given_items}
 use Rattle.dpc_model.specs.declared.tuples.Item.{Item}
 use Rattle.dpc_model.specs.declared.messages.Sess.{Sess}
 use Rattle.dpc_model.specs.declared.messages.Message.TheVariants as message
-use Rattle.node_model.specs.Mails.{Mail, to_each}
-use Rattle.node_model.specs.Nodes.{Home, PlainNode, streams_of, own_readers, held_by, view_cursor, out_stable, out_view, out_tentative, bucket_of, due_at, is_stabilization, wants_to_reconcile}
-use Rattle.node_model.specs.NodeSteps.{stably, Stepped, silently, then_do, given_by, peers_of, peer_watches, clocked, may_start_afresh, choosing, reconciling, entered, advanced, closing, with_failure, processed_upto, processing, announcing, serving, asking_snapshots, going_on, fresh, with_marks_ended, ticked_at}
+use Rattle.node_model.specs.Mails.{Mail, to_each, Stepped}
+use Rattle.dpc_model.specs.NodeStates.{is_stabilization}
+use Rattle.node_model.specs.Nodes.{Home, PlainNode, streams_of, own_readers, held_by, view_cursor, out_stable, out_view, out_tentative, bucket_of, due_at, wants_to_reconcile}
+use Rattle.node_model.specs.NodeSteps.{stably, silently, then_do, given_by, peers_of, peer_watches, clocked, may_start_afresh, choosing, reconciling, entered, advanced, closing, with_failure, processed_upto, processing, announcing, serving, asking_snapshots, going_on, fresh, with_marks_ended, ticked_at}
 use Rattle.world_model.specs.Safe.{CarriesLast, Serves, IsSafeNode}
 use Rattle.world_safety.specs.Plans.{IsPlace}
 use Rattle.world_safety.proofs.Closing.{length-range}
@@ -52,7 +53,7 @@ none-given home x count = rw (drop-all (out_stable home x), drop-all (out_tentat
 -- ---- the step that processes buckets
 
 -- what a tick owes, of a step that begins at x
-abbrev pub IsGiven : Home → PlainNode → Stepped → Type 0
+abbrev pub IsGiven : Home → PlainNode → Stepped PlainNode → Type 0
 IsGiven home x s = (k : ℕ) → let items = given_items (length (out_stable home x)) (given_by home x s.after (nat_lt x.cursor s.after.cursor) (nat_lt (length x.closed) (length s.after.closed)))
     in items ≢ [] → IsGivenIn s.sends s.after.subs (own_readers home) items k
 
@@ -96,7 +97,7 @@ silent-given home x k some =
     ∙ ap (λ (c : Bool). given_items (length (out_stable home x)) (given_by home x x false c)) (lt-self (length x.closed)) ∙ none-given home x (length (out_stable home x))))
 
 -- the step, outside STABILIZATION
-pub record HasServed (home : Home) (x : PlainNode) (s : Stepped) : Type 0 where
+pub record HasServed (home : Home) (x : PlainNode) (s : Stepped PlainNode) : Type 0 where
   pub nothing_due : due_at home s.after x.clock ≡ None
   pub given : IsGiven home x s
 
@@ -124,7 +125,7 @@ items-same home n x y h =
 reconciling-same : (home : Home) (x : PlainNode) → is_stabilization (reconciling home x).after.state ≡ false → SameView x (reconciling home x).after × ((reconciling home x).after.clock ≡ x.clock)
 unfolding entered
 reconciling-same home x =
-    let asks : Stepped = record { after = record x { grants = asking x.grants }; sends = to_each (message.Ask (own_key x.grants).0 (own_key x.grants).1) (peers_of home) } in
+    let asks : Stepped PlainNode = record { after = record x { grants = asking x.grants }; sends = to_each (message.Ask (own_key x.grants).0 (own_key x.grants).1) (peers_of home) } in
     elim (wants_to_reconcile home x && is_none x.grants.promise) as (λ b. is_stabilization (cond b (cond (list_all is_silent (peer_watches home x)) (entered home x) asks) (silently x)).after.state ≡ false →
     SameView x (cond b (cond (list_all is_silent (peer_watches home x)) (entered home x) asks) (silently x)).after × ((cond b (cond (list_all is_silent (peer_watches home x)) (entered home x) asks) (silently x)).after.clock ≡ x.clock)) [
       | true ↦ elim (list_all is_silent (peer_watches home x)) as (λ b. is_stabilization (cond b (entered home x) asks).after.state ≡ false →

@@ -12,8 +12,8 @@ use Rattle.dpc_model.specs.declared.messages.Message.TheVariants as message
 use Rattle.dpc_model.specs.declared.plans.Plan.{Plan}
 use Rattle.dpc_model.specs.declared.plans.StreamRef.TheVariants.{Source}
 use Rattle.dpc_model.proofs.Prefixes.{length-filter_le}
-use Rattle.node_model.specs.Mails.{Packet, Plain, SnapFor}
-use Rattle.node_model.specs.Sources.{SourceState, SourceStepped, source_readers, bound_at, source_shown, emitted_upto, source_given, source_gives, source_emits, source_releases, source_subscribed, source_message, source_delivered, source_beat, source_ticked}
+use Rattle.node_model.specs.Mails.{Packet, Plain, SnapFor, Stepped}
+use Rattle.node_model.specs.Sources.{SourceState, source_readers, bound_at, source_shown, emitted_upto, source_given, source_gives, source_emits, source_releases, source_subscribed, source_message, source_delivered, source_beat, source_ticked}
 use Rattle.world_model.specs.Safe.{AreTrueItems}
 use Rattle.world_model.specs.Orderly.{fits_stream, is_source_orderly}
 use Rattle.world_safety.proofs.Truth.{stable_items-true, given_items-true, get-drop, ideal-source}
@@ -34,7 +34,7 @@ pub record IsFineSource (plan : Plan) (s : ℕ) (x : SourceState) : Type 0 where
   pub few : x.emitted ≤ length (log_of plan s)
   pub subs : length x.subs ≤ length (source_readers plan s)
 
-pub record IsSourceStep (plan : Plan) (a s : ℕ) (x : SourceState) (t : SourceStepped) : Type 0 where
+pub record IsSourceStep (plan : Plan) (a s : ℕ) (x : SourceState) (t : Stepped SourceState) : Type 0 where
   pub fine : IsFineSource plan s t.after
   pub subs : length t.after.subs ≡ length x.subs
   pub mails : AreMails plan a (Unit {0}) t.sends

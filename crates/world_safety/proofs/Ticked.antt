@@ -16,9 +16,9 @@ use Rattle.dpc_model.specs.declared.messages.Message.TheVariants as message
 use Rattle.dpc_model.specs.declared.plans.Plan.{Plan}
 use Rattle.dpc_model.specs.declared.plans.StreamRef.{StreamRef}
 use Rattle.dpc_model.specs.declared.plans.StreamRef.TheVariants.{Frag}
-use Rattle.node_model.specs.Mails.{mail, mails, in_actor_order, to_each}
+use Rattle.node_model.specs.Mails.{mail, mails, in_actor_order, to_each, Stepped}
 use Rattle.node_model.specs.Nodes.{Home, PlainNode, streams_of, own_readers, held_by, out_stable, wants_to_reconcile}
-use Rattle.node_model.specs.NodeSteps.{Stepped, silently, then_do, peers_of, peer_watches, clocked, may_start_afresh, choosing, reconciling, entered, processing, done_at, acks_from, beat_of, beats, announcing, serving, asking_snapshots, going_on, fresh, with_marks_ended, ticked_at}
+use Rattle.node_model.specs.NodeSteps.{silently, then_do, peers_of, peer_watches, clocked, may_start_afresh, choosing, reconciling, entered, processing, done_at, acks_from, beat_of, beats, announcing, serving, asking_snapshots, going_on, fresh, with_marks_ended, ticked_at}
 use Rattle.world_model.specs.Orderly.{is_port_sound, are_ports_sound}
 use Rattle.world_safety.proofs.Milling.{IsSafeNode-same}
 use Rattle.world_safety.proofs.Tests.{both, both-of, eq-of, eq-test}
@@ -245,7 +245,7 @@ reconciling-recovering home n =
       | false ↦ refl
     ]
 
-pub then-good : (home : Home) (me most more : ℕ) (s : Stepped) (f : PlainNode → Stepped) → IsGoodStep home me most ⊥ s → IsGoodStep home me more ⊥ (f s.after) → IsGoodStep home me more ⊥ (then_do s f)
+pub then-good : (home : Home) (me most more : ℕ) (s : Stepped PlainNode) (f : PlainNode → Stepped PlainNode) → IsGoodStep home me most ⊥ s → IsGoodStep home me more ⊥ (f s.after) → IsGoodStep home me more ⊥ (then_do s f)
 then-good home me most more s f h k = record { after = k.after; mails = mails-append home.plan me ⊥ s.sends (f s.after).sends h.mails k.mails }
 
 pub serving-good : (home : Home) (me most : ℕ) (n : PlainNode) → IsActor home me → n.recovering ≡ false → IsGood home most n → IsGoodStep home me (most + 1) ⊥ (serving home n)

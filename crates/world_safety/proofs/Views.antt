@@ -16,7 +16,8 @@ use Rattle.dpc_model.specs.declared.plans.StreamRef.{StreamRef}
 use Rattle.std.proofs.lemmas.List.Elements.{filter-append}
 use Rattle.dpc_model.proofs.Prefixes.{get-prefix}
 use Rattle.world_safety.proofs.Truth.{get-drop}
-use Rattle.world_model.specs.SessionLaw.{Fits, at_or_past, bound_of, soft_of, taken_whole, LeavesView}
+use Rattle.dpc_model.specs.Engines.{from_time}
+use Rattle.world_model.specs.SessionLaw.{Fits, bound_of, soft_of, taken_whole, LeavesView}
 use Rattle.world_safety.proofs.Tests.{both, le-test, lt-of, lt-test, eq-of, eq-test}
 use Rattle.world_safety.proofs.Clienting.{fold-append}
 
@@ -111,14 +112,14 @@ append-one : (xs ys : List Tuple) (t : Tuple) → (xs ++ t ∷ []) ++ ys ≡ xs 
 append-one [] ys t = refl
 append-one (x ∷ xs) ys t = ap (λ (zs : List Tuple). x ∷ zs) (append-one xs ys t)
 
-pub tentative-leaves : (r : Reader) (ts : List Tuple) → Leaves r (tentative_items ts) (record r { tentative = r.tentative ++ at_or_past r.bound ts })
+pub tentative-leaves : (r : Reader) (ts : List Tuple) → Leaves r (tentative_items ts) (record r { tentative = r.tentative ++ from_time r.bound ts })
 tentative-leaves r [] = subst (λ (ys : List Tuple). Leaves r [] (record r { tentative = ys })) (sym (append-nil r.tentative)) (leaves-none r)
 tentative-leaves r (t ∷ ts) =
-    (elim (nat_le r.bound t.stime) as (λ b. nat_le r.bound t.stime ≡ b → Leaves r (Tentative t ∷ tentative_items ts) (record r { tentative = r.tentative ++ cond b (t ∷ at_or_past r.bound ts) (at_or_past r.bound ts) })) [
+    (elim (nat_le r.bound t.stime) as (λ b. nat_le r.bound t.stime ≡ b → Leaves r (Tentative t ∷ tentative_items ts) (record r { tentative = r.tentative ++ cond b (t ∷ from_time r.bound ts) (from_time r.bound ts) })) [
       | true ↦ λ e.
           let u = record r { tentative = push r.tentative t } in
           leaves-take r u _ (Tentative t) (tentative_items ts) (rw e refl)
-          (subst (λ (ys : List Tuple). Leaves u (tentative_items ts) (record r { tentative = ys })) (append-one r.tentative (at_or_past r.bound ts) t) (tentative-leaves u ts))
+          (subst (λ (ys : List Tuple). Leaves u (tentative_items ts) (record r { tentative = ys })) (append-one r.tentative (from_time r.bound ts) t) (tentative-leaves u ts))
       | false ↦ λ e. leaves-skip r _ (Tentative t) (tentative_items ts) (rw e refl) (tentative-leaves r ts)
     ]) refl
 
@@ -150,7 +151,7 @@ done-leaves r false sure = leaves-none r
 
 -- what a reader holds behind a view: n or k stable tuples, this bound, and the view's tentative output past it
 abbrev pub held_view : List Tuple → ℕ → ℕ → ℕ → List Tuple → Option ℕ → Reader
-held_view whole n k b tentative passed = record { stable = take (max n k) whole; bound = b; tentative = at_or_past b tentative; soft = soft_of b passed }
+held_view whole n k b tentative passed = record { stable = take (max n k) whole; bound = b; tentative = from_time b tentative; soft = soft_of b passed }
 
 abbrev pub IsBoundStep : Shown → Shown → Option (ℕ × ℕ) → Type 0
 IsBoundStep x y None = bound_of y.bound ≡ bound_of x.bound
@@ -275,8 +276,8 @@ given-leaves plan s asked x y g start few step =
     to-tentative =
         let b = max start.bound (bound_of y.bound) in
         let r = held_view (ideal plan s) asked.n (length y.stable) b x.tentative x.passed in
-        let joined : at_or_past b y.tentative ≡ at_or_past b x.tentative ++ at_or_past b g.tentative =
-        ap (λ (ts : List Tuple). at_or_past b ts) step.tentative ∙ filter-append (λ (t : Tuple). nat_le b t.stime) x.tentative g.tentative in
+        let joined : from_time b y.tentative ≡ from_time b x.tentative ++ from_time b g.tentative =
+        ap (λ (ts : List Tuple). from_time b ts) step.tentative ∙ filter-append (λ (t : Tuple). nat_le b t.stime) x.tentative g.tentative in
         subst (λ (ts : List Tuple). Leaves r (tentative_items g.tentative) (record r { tentative = ts })) (sym joined) (tentative-leaves r g.tentative)
 
     to-passed : (o : Option ℕ) → IsPassedStep x y o → Leaves (held_view (ideal plan s) asked.n (length y.stable) (max start.bound (bound_of y.bound)) y.tentative x.passed) (passed_item o)
@@ -331,7 +332,7 @@ first-leaves plan s asked x start view fit =
     let r0 : Reader = record { stable = take n whole; bound = start.bound; tentative = []; soft = 0 } in
     let r1 : Reader = record { stable = take (max n (length x.stable)) whole; bound = start.bound; tentative = []; soft = 0 } in
     let r2 : Reader = record { stable = take (max n (length x.stable)) whole; bound = b'; tentative = []; soft = 0 } in
-    let r3 : Reader = record { stable = take (max n (length x.stable)) whole; bound = b'; tentative = at_or_past b' x.tentative; soft = 0 } in
+    let r3 : Reader = record { stable = take (max n (length x.stable)) whole; bound = b'; tentative = from_time b' x.tentative; soft = 0 } in
     let r4 = taken_whole plan s asked x start in
     let left : length (drop n x.stable) ≡ length x.stable - n = length-drop n x.stable in
     let top : max n n ≡ n = omega arith in
@@ -374,13 +375,13 @@ first-leaves plan s asked x start view fit =
         rw e (boundary-leaves r m.0 m.1 (omega (arith, long, low)) refl)
 
     by-passed : (o : Option ℕ) → x.passed ≡ o →
-        Leaves (record { stable = take (max asked.n (length x.stable)) (ideal plan s); bound = max start.bound (bound_of x.bound); tentative = at_or_past (max start.bound (bound_of x.bound)) x.tentative; soft = 0 })
+        Leaves (record { stable = take (max asked.n (length x.stable)) (ideal plan s); bound = max start.bound (bound_of x.bound); tentative = from_time (max start.bound (bound_of x.bound)) x.tentative; soft = 0 })
         (passed_item o) (taken_whole plan s asked x start)
     by-passed None e =
-        rw e (leaves-none (record { stable = take (max asked.n (length x.stable)) (ideal plan s); bound = max start.bound (bound_of x.bound); tentative = at_or_past (max start.bound (bound_of x.bound)) x.tentative; soft = 0 }))
+        rw e (leaves-none (record { stable = take (max asked.n (length x.stable)) (ideal plan s); bound = max start.bound (bound_of x.bound); tentative = from_time (max start.bound (bound_of x.bound)) x.tentative; soft = 0 }))
     by-passed (Some v) e =
         let b = max start.bound (bound_of x.bound) in
-        let r : Reader = record { stable = take (max asked.n (length x.stable)) (ideal plan s); bound = b; tentative = at_or_past b x.tentative; soft = 0 } in
+        let r : Reader = record { stable = take (max asked.n (length x.stable)) (ideal plan s); bound = b; tentative = from_time b x.tentative; soft = 0 } in
         subst (λ (o : Option ℕ). Leaves r (Passed v ∷ []) (record r { soft = soft_of b o })) (sym e) (passed-leaves r v (omega arith) (inl refl))
 
 -- ---- the law, one event more

@@ -12,7 +12,8 @@ use Rattle.dpc_model.specs.declared.messages.Event.TheVariants.{Tick}
 use Rattle.dpc_model.specs.declared.plans.Plan.{Plan}
 use Rattle.dpc_model.specs.declared.plans.StreamRef.{StreamRef}
 use Rattle.dpc_model.specs.declared.plans.StreamRef.TheVariants.{Frag}
-use Rattle.node_model.specs.Nodes.{PlainNode, out_stable, due_at, is_stabilization}
+use Rattle.dpc_model.specs.NodeStates.{is_stabilization}
+use Rattle.node_model.specs.Nodes.{PlainNode, out_stable, due_at}
 use Rattle.node_model.specs.Clients.{ClientState}
 use Rattle.world_model.specs.Worlds.{Envelope, home_of, slot_of, is_clock, run}
 use Rattle.world_model.specs.Safe.{IsTrueEnvelope, packet_done, IsDone}
