@@ -1,5 +1,6 @@
 -- What every event leaves of a world, and what deliveries, ticks and milling leave.
-use Rattle.std.proofs.Common.{◌≡◌, ℕ, zero, suc, Bool, true, false, cond, ◌&&◌, nat_lt, nat_le, List, [], ◌∷◌, ◌++◌, map, refl, sym, ap, subst, ◌∙◌, arith, append_assoc, Option, Some, None, slice_get, unwrap_or, is_some}
+use Rattle.std.proofs.Common.{◌≡◌, ℕ, zero, suc, ◌≤◌, Bool, true, false, cond, ◌&&◌, nat_lt, nat_le, List, [], ◌∷◌, ◌++◌, map, length, refl, sym, ap, subst, ◌∙◌, arith, append_assoc, Option, Some, None, slice_get, unwrap_or, is_some}
+use Rattle.std.proofs.lemmas.List.{length-append}
 use Rattle.dpc_model.specs.Lists.{nth, changed, push}
 use Rattle.dpc_model.specs.Actors.{Role, IsSource, IsNode, IsClient, Nobody, role_of}
 use Rattle.dpc_model.specs.declared.messages.Event.{Event}
@@ -38,7 +39,7 @@ IsCalmAt None (Some m) = ⊥
 IsCalmAt (Some n) None = ⊥
 IsCalmAt (Some n) (Some m) = IsCalmNode n m
 
-abbrev pub AreCalm : List Slot → List Slot → Type 0
+abbrev AreCalm : List Slot → List Slot → Type 0
 AreCalm slots others = (i : ℕ) → IsCalmAt (node_in slots i) (node_in others i)
 
 -- ---- what is left
@@ -48,6 +49,12 @@ pub record IsGrown (w v : World) : Type 0 where
   pub more : List Envelope
   pub sent : v.envelopes ≡ w.envelopes ++ more
   pub zeroed : AreZeroed w.nodes → AreZeroed v.nodes
+
+-- no envelope is taken back
+pub grown-longer : (w v : World) → IsGrown w v → length w.envelopes ≤ length v.envelopes
+grown-longer w v c =
+    let many : length v.envelopes ≡ length (w.envelopes ++ c.more) = ap (λ (es : List Envelope). length es) c.sent in
+    let sum = length-append w.envelopes c.more in omega (arith, many, sum)
 
 pub record IsCalm (w v : World) : Type 0 where
   pub plan : v.plan ≡ w.plan
@@ -65,7 +72,7 @@ calm-itself None = tt
 calm-itself (Some n) = still-calm n n (itself n)
 
 -- a change of one slot
-pub changed-each : (R : Slot → Slot → Type 0) (k : ℕ) (f : Slot → Slot) (xs : List Slot) → ((x : Slot) → slice_get xs k ≡ Some x → R x (f x)) → ((x : Slot) → R x x) →
+changed-each : (R : Slot → Slot → Type 0) (k : ℕ) (f : Slot → Slot) (xs : List Slot) → ((x : Slot) → slice_get xs k ≡ Some x → R x (f x)) → ((x : Slot) → R x x) →
     (i : ℕ) → R (nth no_slot xs i) (nth no_slot (changed k f xs) i)
 changed-each R k f [] h same i = same no_slot
 changed-each R zero f (x ∷ xs) h same zero = h x refl
@@ -271,7 +278,7 @@ up-same None (Some m) c = absurd c
 up-same (Some n) None c = absurd c
 up-same (Some n) (Some m) c = refl
 
-pub calm-up : (w v : World) → IsCalm w v → (a : ℕ) → is_up v a ≡ is_up w a
+calm-up : (w v : World) → IsCalm w v → (a : ℕ) → is_up v a ≡ is_up w a
 calm-up w v c a = ap (λ (plan : Plan). role_up v a (role_of plan a)) c.plan ∙ by-role (role_of w.plan a)
   where
     by-role : (role : Role) → role_up v a role ≡ role_up w a role

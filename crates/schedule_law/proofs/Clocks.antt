@@ -87,7 +87,7 @@ client-ticked-clock plan c now x = refl
 
 -- ---- the clocks of a world
 
-abbrev pub Each : {X : Type 0} → (X → Type 0) → List X → Type 0
+abbrev Each : {X : Type 0} → (X → Type 0) → List X → Type 0
 Each P [] = Unit {0}
 Each P (x ∷ xs) = P x × Each P xs
 

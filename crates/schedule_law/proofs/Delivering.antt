@@ -2,6 +2,7 @@
 use Rattle.std.proofs.Common.{◌≡◌, ℕ, zero, suc, ◌+◌, ◌-◌, ◌≤◌, ◌<◌, Bool, true, false, not, cond, ◌&&◌, ◌||◌, ◌==◌, nat_lt, List, [], ◌∷◌, ◌++◌, map, length, refl, sym, ap, subst, ◌∙◌, arith, append_assoc, Option, slice_get, ◌⊎◌, inl, inr}
 use Rattle.std.specs.Prelude.{replicate, flat_map}
 use Rattle.std.specs.List.{filter}
+use Rattle.std.proofs.Math.Bool.{or-true}
 use Rattle.dpc_model.specs.Lists.{list_all, list_any, range_with_len, is_nil, has}
 use Rattle.dpc_model.specs.declared.messages.Event.{Event}
 use Rattle.dpc_model.specs.declared.messages.Event.TheVariants.{Deliver, Tick}
@@ -183,10 +184,6 @@ tick-all script p start base now a (suc n) y es low clock f t =
 
             less : (b ≡ a → ⊥) → b < a
             less other = omega (arith, h, other)
-
-    or-true : (c : Bool) → (c || true) ≡ true
-    or-true true = refl
-    or-true false = refl
 
     by-up : (c : Bool) → is_up base a ≡ c → ((z : Progress) (fs : List Event) → Follows script z fs → IsTicking script p start base (a + 1) z →
         Reached script (IsTicking script p start base (a + 1 + n)) (tell_all (at z fs) (map (λ a. Tick a now) (filter (is_up base) (range_with_len (a + 1) n))))) →

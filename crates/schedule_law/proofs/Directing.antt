@@ -2,7 +2,6 @@
 use Rattle.std.proofs.Common.{◌≡◌, ℕ, ◌+◌, ◌-◌, ◌≤◌, ◌<◌, Bool, true, false, not, cond, ◌&&◌, ◌==◌, List, [], ◌∷◌, ◌++◌, length, drop, refl, sym, ap, subst, ◌∙◌, arith, Option, Some, None, slice_get}
 use Rattle.std.specs.Prelude.{fold}
 use Rattle.std.specs.List.{filter}
-use Rattle.std.proofs.lemmas.List.{length-append}
 use Rattle.dpc_model.specs.Lists.{list_all, is_nil}
 use Rattle.dpc_model.specs.declared.messages.Event.{Event}
 use Rattle.dpc_model.specs.declared.messages.Event.TheVariants.{Phase, Emit, Release, Cut, Heal, Crash, Restart}
@@ -13,12 +12,12 @@ use Rattle.world_model.specs.Worlds.{World, Envelope, slot_of, ready_at, happens
 use Rattle.world_model.specs.Schedules.{Waiting, Progress, tell_directive, progressed, has_event, event_of, same_event, is_next, newly_sent, pending_in, targets_in, targets_left, node_actors, is_phase_complete, phase_left, phase_of}
 use Rattle.world_safety.proofs.Tests.{both-of, eq-of, eq-test}
 use Rattle.schedule_law.proofs.Stages.{at, Follows, Reached, follows-next, reached}
-use Rattle.schedule_law.proofs.Calm.{AreZeroed, IsGrown, happens-grown}
+use Rattle.schedule_law.proofs.Calm.{AreZeroed, IsGrown, grown-longer, happens-grown}
 use Rattle.schedule_law.proofs.Targets.{AllMet, targets-met, left-met}
 use Rattle.schedule_law.proofs.Waits.{fresh_from, fresh-grown, is_pending, pending-old, get-grown}
 
 -- until the directives are done there is no target; then all are met by what is ready
-abbrev pub TargetsStand : List Directive → Progress → Type 0
+abbrev TargetsStand : List Directive → Progress → Type 0
 TargetsStand [] y = AllMet y.world (ready_at y.world) y.targets
 TargetsStand (d ∷ ds) y = y.targets ≡ []
 
@@ -35,11 +34,6 @@ pub record IsDirected (script : Script) (p start : ℕ) (old : World) (ws : List
   pub met : TargetsStand ds y
 
 -- ---- one directive
-
-grown-longer : (w v : World) → IsGrown w v → length w.envelopes ≤ length v.envelopes
-grown-longer w v c =
-    let many : length v.envelopes ≡ length (w.envelopes ++ c.more) = ap (λ (es : List Envelope). length es) c.sent in
-    let sum = length-append w.envelopes c.more in omega (arith, many, sum)
 
 next-is : (y : Progress) (d : Directive) (e : Event) (ds : List Directive) → y.todo ≡ d ∷ ds → event_of y.world d ≡ Some e → same_event e e ≡ true → is_next y e ≡ true
 next-is y d e ds h g k = rw h (found (event_of y.world d) g)
@@ -105,7 +99,6 @@ directives-told script p start old ws [] y es f h = reached script (IsDirected s
 directives-told script p start old ws (directive.Lose a b ∷ ds) y es f h = directives-told script p start old ws ds y es f h
 directives-told script p start old ws (directive.Repeat a b ∷ ds) y es f h = directives-told script p start old ws ds y es f h
 directives-told script p start old ws (directive.Emit s t ∷ ds) y es f h =
-    let e = Emit s t in
     directives-told script p start old ws ds (progressed script y (Emit s t)) (Emit s t ∷ es) (follows-next script y es (Emit s t) f (next-is y (directive.Emit s t) (Emit s t) (filter has_event ds) h.todo refl (two-same s t)))
     (directed-next script p start old ws (directive.Emit s t) (filter has_event ds) y (happens y.world (Emit s t)) h (happens-grown y.world (Emit s t)))
 directives-told script p start old ws (directive.Release s t ∷ ds) y es f h =

@@ -3,18 +3,17 @@ use Rattle.std.proofs.Common.{◌≡◌, ℕ, zero, suc, ◌+◌, ◌-◌, ◌*�
 use Rattle.std.specs.Prelude.{replicate, flat_map}
 use Rattle.std.proofs.lemmas.Grind.{common_steps}
 use Rattle.std.proofs.lemmas.List.Sums.{fold-append}
-use Rattle.std.proofs.lemmas.List.{length-append}
 use Rattle.std.proofs.lemmas.Nat.{div-add-mod'}
 use Rattle.std.proofs.Math.Nat.{mod-lt}
 use Rattle.dpc_model.specs.Lists.{range_with_len, is_nil}
 use Rattle.dpc_model.specs.declared.messages.Event.{Event}
 use Rattle.dpc_model.specs.declared.messages.Event.TheVariants.{Mill}
 use Rattle.dpc_model.specs.declared.scripts.Script.{Script}
-use Rattle.world_model.specs.Worlds.{World, Envelope, ready_at, happens}
+use Rattle.world_model.specs.Worlds.{World, ready_at, happens}
 use Rattle.world_model.specs.Schedules.{Waiting, Progress, Told, tell, tell_all, progressed, targets_left, targets_in, newly_sent, may_mill, mill_events}
 use Rattle.world_safety.proofs.Tests.{both-of, le-test, lt-test, eq-of, eq-test}
 use Rattle.schedule_law.proofs.Stages.{at, Follows, Reached, follows-next, reached, reached-then}
-use Rattle.schedule_law.proofs.Calm.{AreZeroed, IsCalm, IsLike, calm-like, like-then, calm-grown}
+use Rattle.schedule_law.proofs.Calm.{AreZeroed, IsCalm, IsLike, calm-like, like-then, grown-longer, calm-grown}
 use Rattle.schedule_law.proofs.Targets.{AllMet, left-met, mill-at}
 use Rattle.schedule_law.proofs.Waits.{fresh_from, fresh-grown}
 
@@ -31,16 +30,11 @@ pub record IsDoing (script : Script) (p start : ℕ) (base : World) (ws : List W
 
 -- ---- a calm event
 
-pub calm-longer : (w v : World) → IsCalm w v → length w.envelopes ≤ length v.envelopes
-calm-longer w v c =
-    let many : length v.envelopes ≡ length (w.envelopes ++ c.more) = ap (λ (es : List Envelope). length es) c.sent in
-    let sum = length-append w.envelopes c.more in omega (arith, many, sum)
-
 pub calm-doing : (script : Script) (p start : ℕ) (base : World) (ws xs : List Waiting) (ts us tk : List ℕ) (y : Progress) (v : World) (mid : List Waiting) (targets : List (ℕ × ℕ)) → IsDoing script p start base ws ts y → IsCalm y.world v →
     mid ≡ xs ++ fresh_from start (length y.world.envelopes - start) → tk ≡ us →
     IsDoing script p start base xs us (record { world = v; phase = y.phase; todo = y.todo; waiting = mid ++ newly_sent y.world v; ticked = tk; targets = targets })
 calm-doing script p start base ws xs ts us tk y v mid targets d c e t =
-    let longer = calm-longer y.world v c in
+    let longer = grown-longer y.world v (calm-grown y.world v c) in
     let grown = d.grown in
     record {
       phase = d.phase;

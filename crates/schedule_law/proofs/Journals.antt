@@ -8,12 +8,17 @@ use Rattle.dpc_model.specs.declared.scripts.Script.{Script}
 use Rattle.node_model.specs.Nodes.{PlainNode}
 use Rattle.world_model.specs.Worlds.{World, Envelope, home_of, slot_of, run, ready_role, ready_in, all_settled}
 use Rattle.world_model.specs.Schedules.{Progress, opening, progressed, progress_from, progress, may, may_follow, follows_from, is_live_so_far, is_live, may_come, may_mill, may_deliver, is_phase_complete, phase_left, quiet_limit}
-use Rattle.world_safety.proofs.Tests.{both, both-of, eq-of, le-of, lt-of}
+use Rattle.world_safety.proofs.Tests.{both, both-of, eq-of, lt-of}
 use Rattle.schedule_law.specs.Journals.{phases_in, most_phases, Comes, Mills}
 use Rattle.schedule_law.proofs.Stages.{follows-append}
+use Rattle.schedule_law.proofs.Targets.{none-mills}
 use Rattle.schedule_law.proofs.Lockstep.{progress-world}
 
 -- ---- prefixes
+
+pub none-live : (script : Script) → is_live_so_far script [] ≡ true
+unfolding is_live_so_far
+none-live script = refl
 
 follows-part : (script : Script) (x : Progress) (es fs : List Event) → follows_from script x (es ++ fs) ≡ true → (follows_from script x es ≡ true) × (follows_from script (progress_from script x es) fs ≡ true)
 follows-part script x [] fs h = (refl, h)
@@ -152,20 +157,14 @@ delivers-so script es k h =
 mills-here : (w : World) (a r : ℕ) → may_mill w a r ≡ true → Mills w a r
 mills-here w a r h = by-role (role_of w.plan a) refl h
   where
-    nothing : (k : ℕ) → nat_le 1 r && nat_le r 16 && nat_le r k ≡ true → k ≡ 0 → ⊥
-    nothing k g e =
-        let p = both (nat_le 1 r && nat_le r 16) (nat_le r k) g in
-        let low = le-of 1 r (both (nat_le 1 r) (nat_le r 16) p.0).0 in
-        let high = le-of r k p.1 in absurd (omega (arith, low, high, e))
-
     by-role : (x : Role) → role_of w.plan a ≡ x → nat_le 1 r && nat_le r 16 && nat_le r (ready_role w a x) ≡ true → Mills w a r
-    by-role (IsSource s) e g = absurd (nothing 0 g refl)
-    by-role (IsClient c) e g = absurd (nothing 0 g refl)
-    by-role Nobody e g = absurd (nothing 0 g refl)
+    by-role (IsSource s) e g = absurd (none-mills r 0 g refl)
+    by-role (IsClient c) e g = absurd (none-mills r 0 g refl)
+    by-role Nobody e g = absurd (none-mills r 0 g refl)
     by-role (IsNode f q) e g = by-node (slot_of w a).node refl g
       where
         by-node : (o : Option PlainNode) → (slot_of w a).node ≡ o → nat_le 1 r && nat_le r 16 && nat_le r (ready_in (home_of w.plan (f, q)) o) ≡ true → Mills w a r
-        by-node None up k = absurd (nothing 0 k refl)
+        by-node None up k = absurd (none-mills r 0 k refl)
         by-node (Some n) up k = record { frag = f; replica = q; node = n; role = e; is_up = up; may = k }
 
 pub mills-so : (script : Script) (es : List Event) (a r : ℕ) → may script es (Mill a r) ≡ true → Mills (run script.plan es) a r

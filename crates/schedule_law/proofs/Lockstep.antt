@@ -1,6 +1,7 @@
 -- The one-thread journal of a script is live, and leads to the world of its one-thread run.
 use Rattle.std.proofs.Common.{◌≡◌, ℕ, zero, suc, ◌+◌, ◌-◌, ◌≤◌, Bool, true, false, not, cond, ◌&&◌, ◌||◌, nat_lt, List, [], ◌∷◌, map, length, refl, sym, ap, subst, ◌∙◌, arith, Option, Some, slice_get, unwrap_or}
 use Rattle.std.specs.Prelude.{reverse}
+use Rattle.std.proofs.lemmas.Option.{slice_get_past}
 use Rattle.dpc_model.specs.Lists.{nth}
 use Rattle.dpc_model.specs.Actors.{nodes_of}
 use Rattle.dpc_model.specs.declared.messages.Event.{Event}
@@ -14,6 +15,7 @@ use Rattle.world_safety.proofs.Tests.{both-of, lt-test, lt-of}
 use Rattle.schedule_law.proofs.Stages.{Reached, reached}
 use Rattle.schedule_law.proofs.Nodes.{IsZeroed}
 use Rattle.schedule_law.proofs.Calm.{IsZeroedAt, node_in}
+use Rattle.schedule_law.proofs.Waits.{or-right}
 use Rattle.schedule_law.proofs.Directing.{IsBetween}
 use Rattle.schedule_law.proofs.Phases.{phase-told}
 
@@ -43,10 +45,6 @@ phase-next script p first x r left =
 
 or-left : (a b : Bool) → a ≡ true → (a || b) ≡ true
 or-left a b e = rw e refl
-
-or-right : (a b : Bool) → b ≡ true → (a || b) ≡ true
-or-right true b e = refl
-or-right false b e = e
 
 -- ---- the script's phases
 
@@ -90,11 +88,6 @@ nothing-left script y h e = rw (not-below y.phase (length script.phases) h) e
 
 -- ---- the quiet phases
 
-nth-past : (d : PhaseSpec) (xs : List PhaseSpec) (i : ℕ) → length xs ≤ i → nth d xs i ≡ d
-nth-past d [] i h = refl
-nth-past d (x ∷ xs) zero h = absurd (omega (arith, h))
-nth-past d (x ∷ xs) (suc i) h = nth-past d xs i (omega (arith, h))
-
 quiet-told : (script : Script) (most q p first now : ℕ) (x : Told) → script.settle ≡ true → p ≡ length script.phases + 1 + q → now ≡ last_clock script + (p - length script.phases) → most + q ≡ quiet_limit script.plan →
     Reached script (IsBetween script p first) x → Reached script (IsEnded script) (tell_quiet most p first now x)
 quiet-told script zero q p first now x settles number clock limit r =
@@ -136,8 +129,8 @@ quiet-told script (suc most) q p first now x settles number clock limit r =
 
     is : phase_of script p ≡ record { directives = []; now = now }
     is =
-        nth-past (record { directives = []; now = last_clock script + (p - length script.phases) }) script.phases (p - 1) (omega (arith, number))
-        ∙ ap (λ (n : ℕ). record { directives = []; now = n }) (sym clock)
+        let behind : length script.phases ≤ p - 1 = omega (arith, number) in
+        rw (slice_get_past script.phases (p - 1) behind) (ap (λ (n : ℕ). record { directives = []; now = n }) (sym clock))
 
 -- ---- the whole
 

@@ -1,5 +1,5 @@
 -- What a node's steps make of its cursor, and of whether it recovers.
-use Rattle.std.proofs.Common.{◌≡◌, ℕ, ◌+◌, ◌-◌, ◌≤◌, min, true, false, not, cond, ◌&&◌, ◌==◌, List, [], ◌∷◌, refl, sym, ◌∙◌, arith, Option, Some, None, is_none}
+use Rattle.std.proofs.Common.{◌≡◌, ℕ, ◌+◌, ◌≤◌, true, false, not, cond, ◌&&◌, ◌==◌, List, [], ◌∷◌, refl, sym, ◌∙◌, arith, Option, Some, None, is_none}
 use Rattle.dpc_model.specs.Lists.{nth, list_all}
 use Rattle.dpc_model.specs.Inlets.{same_sess, Took, take_batch}
 use Rattle.dpc_model.specs.Granting.{own_key, grants, granted, may_enter_by, asking}
@@ -16,8 +16,8 @@ use Rattle.dpc_model.specs.declared.messages.Message.{Message}
 use Rattle.dpc_model.specs.declared.messages.Message.TheVariants as message
 use Rattle.node_model.specs.Mails.{Snap, Packet, Plain, SnapFor, mail, to_each, Stepped}
 use Rattle.dpc_model.specs.NodeStates.{is_up_failure, is_stabilization}
-use Rattle.node_model.specs.Nodes.{Home, streams_of, PlainNode, view_cursor, complete_buckets, due_at, wants_to_reconcile}
-use Rattle.node_model.specs.NodeSteps.{silently, then_do, on_snap_ask, asking_snapshots, announcing, peers_of, entered, recovering_again, adopted, fresh, stamped_by, took, on_batch, on_subscribe, with_port, on_truncation, on_upstream_beat, on_peer_beat, on_ack, on_ask, on_grant, on_message, on_snap, on_packet, with_marks_ended, delivered, replica_number, reader_place, advanced, milled, clocked, may_start_afresh, peer_watches, choosing, reconciling, closing, with_failure, processed_upto, processing, serving, going_on, ticked_at}
+use Rattle.node_model.specs.Nodes.{Home, streams_of, PlainNode, due_at, wants_to_reconcile}
+use Rattle.node_model.specs.NodeSteps.{silently, then_do, on_snap_ask, asking_snapshots, announcing, peers_of, entered, recovering_again, adopted, fresh, stamped_by, took, on_batch, on_subscribe, with_port, on_truncation, on_upstream_beat, on_peer_beat, on_ack, on_ask, on_grant, on_message, on_snap, on_packet, with_marks_ended, delivered, replica_number, reader_place, milled, clocked, may_start_afresh, peer_watches, choosing, reconciling, processed_upto, processing, serving, going_on, ticked_at}
 use Rattle.world_safety.proofs.Tests.{both}
 
 -- a node that recovers has no bucket done
@@ -36,10 +36,10 @@ pub record IsStill (n m : PlainNode) : Type 0 where
   pub clock : m.clock ≡ n.clock
 
 -- no bucket is undone
-pub record IsOnward (n m : PlainNode) : Type 0 where
-  pub grown : n.cursor ≤ m.cursor
-  pub also : m.recovering ≡ n.recovering
-  pub clock : m.clock ≡ n.clock
+record IsOnward (n m : PlainNode) : Type 0 where
+  grown : n.cursor ≤ m.cursor
+  also : m.recovering ≡ n.recovering
+  clock : m.clock ≡ n.clock
 
 pub still-calm : (n m : PlainNode) → IsStill n m → IsCalmNode n m
 still-calm n m s =
@@ -191,17 +191,8 @@ reconciling-still home n =
       | false ↦ itself n
     ]
 
-failure-still : (m : PlainNode) → IsStill m (with_failure m)
-failure-still m = record { same = refl; also = refl; clock = refl }
-
 processed-onward : (home : Home) (last : ℕ) (n : PlainNode) → IsOnward n (processed_upto home last n).after
-processed-onward home last n =
-    let count = last + 1 - view_cursor n in
-    let stably = min count (complete_buckets home n) in
-    let m = closing home (count - stably) (advanced home stably n) in
-    let s = failure-still m in
-    let same : (with_failure m).cursor ≡ n.cursor + stably = s.same in
-    record { grown = omega (arith, same); also = s.also; clock = s.clock }
+processed-onward home last n = record { grown = omega arith; also = refl; clock = refl }
 
 processing-onward : (home : Home) (n : PlainNode) → IsOnward n (processing home n).after
 processing-onward home n =

@@ -2,34 +2,30 @@
 use Rattle.std.proofs.Common.{◌≡◌, ℕ, zero, suc, ◌+◌, ◌-◌, ◌≤◌, ◌<◌, Bool, true, false, not, ◌&&◌, ◌||◌, ◌==◌, nat_lt, nat_le, List, [], ◌∷◌, ◌++◌, map, length, refl, sym, ap, subst, ◌∙◌, arith, Option, Some, None, slice_get}
 use Rattle.std.specs.Prelude.{fold, flat_map, replicate}
 use Rattle.std.specs.List.{filter}
-use Rattle.dpc_model.specs.Lists.{nth, list_all, range_with_len, is_nil, has}
-use Rattle.dpc_model.specs.Actors.{Role, Nobody, IsSource, IsNode, IsClient, role_of, roles_of}
+use Rattle.std.proofs.lemmas.Option.{slice_get_past}
+use Rattle.dpc_model.specs.Lists.{list_all, range_with_len, is_nil, has}
+use Rattle.dpc_model.specs.Actors.{roles_of}
 use Rattle.dpc_model.specs.declared.messages.Event.{Event}
 use Rattle.dpc_model.specs.declared.messages.Event.TheVariants.{Phase, Deliver, Tick}
 use Rattle.dpc_model.specs.declared.plans.Plan.{Plan}
 use Rattle.dpc_model.specs.declared.scripts.Directive.{Directive}
 use Rattle.dpc_model.specs.declared.scripts.Script.{Script}
 use Rattle.node_model.specs.Nodes.{PlainNode}
-use Rattle.world_model.specs.Worlds.{World, node_role, node_at, slot_of, ready_at, is_up}
+use Rattle.world_model.specs.Worlds.{World, node_at, ready_at, is_up}
 use Rattle.world_model.specs.Schedules.{Waiting, Progress, Told, tell_all, tell_directive, tell_phase, phase_events, mill_events, deliveries_of, progressed, may_come, all_ticked, all_delivered, all_milled, phase_left, phase_of, pending_in, actors_of}
 use Rattle.world_safety.proofs.Tests.{both-of, le-test, lt-of, not-lt}
 use Rattle.schedule_law.proofs.Stages.{at, Follows, Reached, reached, reached-then}
 use Rattle.schedule_law.proofs.Calm.{like-itself}
 use Rattle.schedule_law.proofs.Targets.{Meets, AllMet}
-use Rattle.schedule_law.proofs.Waits.{fresh_from, blocked-done, fresh-done, blocked-pending}
+use Rattle.schedule_law.proofs.Waits.{fresh_from, blocked-done, fresh-done, blocked-pending, or-right}
 use Rattle.schedule_law.proofs.Doing.{IsGoing, IsMilledUpto, mills-all, tell-append}
 use Rattle.schedule_law.proofs.Delivering.{IsDelivered, deliver-all, IsTicking, tick-all}
 use Rattle.schedule_law.proofs.Directing.{IsDirected, directives-told, IsBetween, phase-opened}
 
 -- ---- all is milled
 
-past-roles : (roles : List Role) (b : ℕ) → length roles ≤ b → nth Nobody roles b ≡ Nobody
-past-roles [] b h = refl
-past-roles (r ∷ roles) zero h = absurd (omega (arith, h))
-past-roles (r ∷ roles) (suc b) h = past-roles roles b (omega (arith, h))
-
 nobody-ready : (w : World) (b : ℕ) → length (roles_of w.plan) ≤ b → ready_at w b ≡ 0
-nobody-ready w b h = rw (past-roles (roles_of w.plan) b h) refl
+nobody-ready w b h = rw (slice_get_past (roles_of w.plan) b h) refl
 
 all-ready : (script : Script) (p start : ℕ) (base : World) (ws : List Waiting) (n : ℕ) (y : Progress) → n ≡ length (roles_of base.plan) → IsMilledUpto script p start base ws (0 + n) base y → (b : ℕ) → ready_at y.world b ≡ 0
 all-ready script p start base ws n y e m b =
@@ -40,21 +36,15 @@ all-ready script p start base ws n y e m b =
 
 met-without : (w : World) (f : ℕ → ℕ) (ts : List (ℕ × ℕ)) → ((b : ℕ) → f b ≡ 0) → AllMet w f ts → AllMet w (λ _. 0) ts
 met-without w f [] none h = tt
-met-without w f (t ∷ ts) none h = (subst (λ (n : ℕ). Meets (slot_of w t.0).node t.1 n) (none t.0) h.0, met-without w f ts none h.1)
+met-without w f (t ∷ ts) none h = (subst (λ (n : ℕ). Meets (node_at w t.0) t.1 n) (none t.0) h.0, met-without w f ts none h.1)
 
 met-milled : (w : World) (ts : List (ℕ × ℕ)) → AllMet w (λ _. 0) ts → list_all (λ (t : ℕ × ℕ). nat_le t.1 (elim (node_at w t.0) [ None ↦ t.1 | Some n ↦ n.cursor ])) ts ≡ true
 met-milled w [] h = refl
-met-milled w (t ∷ ts) h = both-of _ _ (by-role (role_of w.plan t.0)) (met-milled w ts h.1)
+met-milled w (t ∷ ts) h = both-of _ _ (by-node (node_at w t.0) h.0) (met-milled w ts h.1)
   where
     by-node : (o : Option PlainNode) → Meets o t.1 0 → nat_le t.1 (elim o [ None ↦ t.1 | Some n ↦ n.cursor ]) ≡ true
     by-node None k = le-test t.1 t.1 (omega arith)
     by-node (Some n) k = le-test t.1 n.cursor (omega (arith, k))
-
-    by-role : (x : Role) → nat_le t.1 (elim (node_role w t.0 x) [ None ↦ t.1 | Some n ↦ n.cursor ]) ≡ true
-    by-role (IsNode f r) = by-node (slot_of w t.0).node h.0
-    by-role (IsSource s) = le-test t.1 t.1 (omega arith)
-    by-role (IsClient c) = le-test t.1 t.1 (omega arith)
-    by-role Nobody = le-test t.1 t.1 (omega arith)
 
 -- ---- the phase is complete
 
@@ -84,10 +74,6 @@ phase-closed script p start base y t =
       plan = d.plan;
       zeroed = d.zeroed;
     }
-  where
-    or-right : (a b : Bool) → b ≡ true → (a || b) ≡ true
-    or-right true b e = refl
-    or-right false b e = e
 
 -- ---- the events behind the directives
 

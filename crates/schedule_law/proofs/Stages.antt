@@ -22,7 +22,7 @@ pub record Reached (script : Script) (P : Progress → Type 0) (x : Told) : Type
   pub follows : Follows script here x.events
   pub holds : P here
 
-pub progress-append : (script : Script) (x : Progress) (es fs : List Event) → progress_from script x (es ++ fs) ≡ progress_from script (progress_from script x es) fs
+progress-append : (script : Script) (x : Progress) (es fs : List Event) → progress_from script x (es ++ fs) ≡ progress_from script (progress_from script x es) fs
 progress-append script x [] fs = refl
 progress-append script x (e ∷ es) fs = progress-append script (progressed script x e) es fs
 

@@ -8,7 +8,7 @@ use Rattle.dpc_model.specs.declared.messages.Event.TheVariants.{Mill}
 use Rattle.dpc_model.specs.declared.plans.Plan.{Plan}
 use Rattle.node_model.specs.Nodes.{Home, PlainNode, complete_upto, ready}
 use Rattle.node_model.specs.NodeSteps.{milled}
-use Rattle.world_model.specs.Worlds.{World, Slot, home_of, node_place, slot_of, node_role, node_stepped, node_mills, mills, ready_in, ready_role, ready_at, happens}
+use Rattle.world_model.specs.Worlds.{World, Slot, home_of, node_place, slot_of, node_role, node_at, node_stepped, node_mills, mills, ready_in, ready_role, ready_at, happens}
 use Rattle.world_model.specs.Schedules.{target_of, is_recovering, targets_left, may_mill}
 use Rattle.world_safety.proofs.Tests.{both, le-of, eq-of, eq-test}
 use Rattle.schedule_law.proofs.Nodes.{IsMilled, milled-moves}
@@ -23,29 +23,19 @@ Meets (Some n) goal more = goal ≤ n.cursor + more
 
 abbrev pub AllMet : World → (ℕ → ℕ) → List (ℕ × ℕ) → Type 0
 AllMet w more [] = Unit {0}
-AllMet w more (t ∷ ts) = Meets (slot_of w t.0).node t.1 (more t.0) × AllMet w more ts
+AllMet w more (t ∷ ts) = Meets (node_at w t.0) t.1 (more t.0) × AllMet w more ts
 
 -- the targets of a world are met by what is ready in it
 pub targets-met : (w : World) (ids : List ℕ) → AllMet w (ready_at w) (map (target_of w) ids)
 targets-met w [] = tt
-targets-met w (a ∷ ids) = (by-role (role_of w.plan a), targets-met w ids)
+targets-met w (a ∷ ids) = (by-node (node_at w a), targets-met w ids)
   where
-    by-node : (o : Option PlainNode) (more : ℕ) → Meets o (elim o [ None ↦ 0 | Some n ↦ n.cursor + more ]) more
-    by-node None more = tt
-    by-node (Some n) more = omega arith
-
-    none : (o : Option PlainNode) → Meets o 0 (ready_at w a)
-    none None = tt
-    none (Some n) = omega arith
-
-    by-role : (x : Role) → Meets (slot_of w a).node (elim (node_role w a x) [ None ↦ 0 | Some n ↦ n.cursor + ready_at w a ]) (ready_at w a)
-    by-role (IsNode f r) = by-node (slot_of w a).node (ready_at w a)
-    by-role (IsSource s) = none (slot_of w a).node
-    by-role (IsClient c) = none (slot_of w a).node
-    by-role Nobody = none (slot_of w a).node
+    by-node : (o : Option PlainNode) → Meets o (elim o [ None ↦ 0 | Some n ↦ n.cursor + ready_at w a ]) (ready_at w a)
+    by-node None = tt
+    by-node (Some n) = omega arith
 
 -- a step that keeps each target of a node that does not recover keeps those that are left
-pub left-met : (w v : World) (f g : ℕ → ℕ) → ((b goal : ℕ) → is_recovering v b ≡ false → Meets (slot_of w b).node goal (f b) → Meets (slot_of v b).node goal (g b)) →
+pub left-met : (w v : World) (f g : ℕ → ℕ) → ((b goal : ℕ) → is_recovering v b ≡ false → Meets (node_at w b) goal (f b) → Meets (node_at v b) goal (g b)) →
     (ts : List (ℕ × ℕ)) → AllMet w f ts → AllMet v g (targets_left v ts)
 left-met w v f g keeps [] h = tt
 left-met w v f g keeps (t ∷ ts) h =
@@ -55,18 +45,27 @@ left-met w v f g keeps (t ∷ ts) h =
     ]) refl
 
 -- the node at an actor, before and behind a calm event
-pub calm-at : (w v : World) → IsCalm w v → (b : ℕ) → IsCalmAt (slot_of w b).node (slot_of v b).node
-calm-at w v c b = subst (λ (plan : Plan). IsCalmAt (slot_of w b).node (node_in v.nodes (node_place plan b))) (sym c.plan) (c.slots (node_place w.plan b))
-
-pub calm-meets : (w v : World) → AreZeroed w.nodes → IsCalm w v → (b goal : ℕ) → is_recovering v b ≡ false → Meets (slot_of w b).node goal 0 → Meets (slot_of v b).node goal 0
-calm-meets w v z c b goal up h = by-nodes (slot_of w b).node (slot_of v b).node (calm-at w v c b) (z (node_place w.plan b)) (by-role (role_of v.plan b) up) h
+calm-at : (w v : World) → IsCalm w v → (b : ℕ) → IsCalmAt (node_at w b) (node_at v b)
+calm-at w v c b = subst (λ (plan : Plan). IsCalmAt (node_at w b) (node_role v b (role_of plan b))) (sym c.plan) (by-role (role_of w.plan b))
   where
-    by-role : (x : Role) → (elim (node_role v b x) [ None ↦ true | Some n ↦ n.recovering ]) ≡ false → (elim (slot_of v b).node [ None ↦ true | Some n ↦ n.recovering ]) ≡ false
-    by-role (IsNode f r) e = e
-    by-role (IsSource s) e = cc
-    by-role (IsClient s) e = cc
-    by-role Nobody e = cc
+    by-role : (x : Role) → IsCalmAt (node_role w b x) (node_role v b x)
+    by-role (IsNode f r) = subst (λ (plan : Plan). IsCalmAt (slot_of w b).node (node_in v.nodes (node_place plan b))) (sym c.plan) (c.slots (node_place w.plan b))
+    by-role (IsSource s) = tt
+    by-role (IsClient d) = tt
+    by-role Nobody = tt
 
+zeroed-at : (w : World) → AreZeroed w.nodes → (b : ℕ) → IsZeroedAt (node_at w b)
+zeroed-at w z b = by-role (role_of w.plan b)
+  where
+    by-role : (x : Role) → IsZeroedAt (node_role w b x)
+    by-role (IsNode f r) = z (node_place w.plan b)
+    by-role (IsSource s) = tt
+    by-role (IsClient c) = tt
+    by-role Nobody = tt
+
+pub calm-meets : (w v : World) → AreZeroed w.nodes → IsCalm w v → (b goal : ℕ) → is_recovering v b ≡ false → Meets (node_at w b) goal 0 → Meets (node_at v b) goal 0
+calm-meets w v z c b goal up h = by-nodes (node_at w b) (node_at v b) (calm-at w v c b) (zeroed-at w z b) up h
+  where
     by-nodes : (o p : Option PlainNode) → IsCalmAt o p → IsZeroedAt o → (elim p [ None ↦ true | Some n ↦ n.recovering ]) ≡ false → Meets o goal 0 → Meets p goal 0
     by-nodes None None k y e g = tt
     by-nodes None (Some m) k y e g = absurd k
@@ -75,7 +74,7 @@ calm-meets w v z c b goal up h = by-nodes (slot_of w b).node (slot_of v b).node 
 
 -- ---- places
 
-pub node-past : (plan : Plan) (a f r : ℕ) → role_of plan a ≡ IsNode f r → length plan.sources ≤ a
+node-past : (plan : Plan) (a f r : ℕ) → role_of plan a ≡ IsNode f r → length plan.sources ≤ a
 node-past plan a f r e = skip 0 (length plan.sources) a (map (λ (n : ℕ × ℕ). IsNode n.0 n.1) (nodes_of plan)) (map IsClient (range_with_len 0 (length plan.clients))) e
   where
     skip : (k n b : ℕ) (xs ys : List Role) → nth Nobody (map IsSource (range_with_len k n) ++ xs ++ ys) b ≡ IsNode f r → n ≤ b
@@ -115,9 +114,9 @@ pub record IsMilledAt (w : World) (a r : ℕ) (v : World) : Type 0 where
   pub calm : IsCalm w v
   pub own : ready_at v a ≡ ready_at w a - r
   pub others : (b : ℕ) → (b ≡ a → ⊥) → ready_at v b ≡ ready_at w b
-  pub meets : (b goal : ℕ) → Meets (slot_of w b).node goal (ready_at w b) → Meets (slot_of v b).node goal (ready_at v b)
+  pub meets : (b goal : ℕ) → Meets (node_at w b) goal (ready_at w b) → Meets (node_at v b) goal (ready_at v b)
 
-none-mills : (r k : ℕ) → nat_le 1 r && nat_le r 16 && nat_le r k ≡ true → k ≡ 0 → ⊥
+pub none-mills : (r k : ℕ) → nat_le 1 r && nat_le r 16 && nat_le r k ≡ true → k ≡ 0 → ⊥
 none-mills r k h e =
     let p = both (nat_le 1 r && nat_le r 16) (nat_le r k) h in
     let low = le-of 1 r (both (nat_le 1 r) (nat_le r 16) p.0).0 in
@@ -161,49 +160,37 @@ stepped-at w a f q r n role up calm = record { calm = calm; own = own; others = 
         by-role (IsClient c) e = refl
         by-role Nobody e = refl
 
-    meets : (b goal : ℕ) → Meets (slot_of w b).node goal (ready_at w b) → Meets (slot_of v b).node goal (ready_at v b)
-    meets b goal h =
-        (elim (node_place w.plan a == node_place w.plan b) as (λ t. (node_place w.plan a == node_place w.plan b) ≡ t → Meets (slot_of v b).node goal (ready_at v b)) [
-          | false ↦ λ e. if-apart (role_of w.plan b) (apart b (λ same. differ (sym (eq-test _ _ same) ∙ e))) h
-          | true ↦ λ e. if-same (role_of w.plan b) (eq-of (node_place w.plan a) (node_place w.plan b) e) h
-        ]) refl
+    meets : (b goal : ℕ) → Meets (node_at w b) goal (ready_at w b) → Meets (node_at v b) goal (ready_at v b)
+    meets b goal = by-role (role_of w.plan b)
       where
-        differ : true ≡ false → ⊥
-        differ x = cc
-
-        if-apart : (x : Role) → slot_of v b ≡ slot_of w b → Meets (slot_of w b).node goal (ready_role w b x) → Meets (slot_of v b).node goal (ready_role v b x)
-        if-apart (IsSource s) e k = subst (λ (slot : Slot). Meets slot.node goal 0) (sym e) k
-        if-apart (IsNode g p) e k = subst (λ (slot : Slot). Meets slot.node goal (ready_in (home_of w.plan (g, p)) slot.node)) (sym e) k
-        if-apart (IsClient c) e k = subst (λ (slot : Slot). Meets slot.node goal 0) (sym e) k
-        if-apart Nobody e k = subst (λ (slot : Slot). Meets slot.node goal 0) (sym e) k
-
-        here-too : node_place w.plan a ≡ node_place w.plan b → (slot_of v b).node ≡ Some m
-        here-too same = ap (λ (i : ℕ). node_in v.nodes i) (sym same) ∙ here
-
-        up-too : node_place w.plan a ≡ node_place w.plan b → (slot_of w b).node ≡ Some n
-        up-too same = ap (λ (i : ℕ). node_in w.nodes i) (sym same) ∙ up
-
         moves : IsMilled r n m
         moves = milled-moves home r n
 
-        still : node_place w.plan a ≡ node_place w.plan b → Meets (slot_of w b).node goal 0 → Meets (slot_of v b).node goal 0
-        still same k =
-            let moved = moves.moved in
-            let old : goal ≤ n.cursor + 0 = subst (λ (o : Option PlainNode). Meets o goal 0) (up-too same) k in
-            let new : goal ≤ m.cursor + 0 = omega (arith, moved, old) in
-            subst (λ (o : Option PlainNode). Meets o goal 0) (sym (here-too same)) new
+        by-role : (x : Role) → Meets (node_role w b x) goal (ready_role w b x) → Meets (node_role v b x) goal (ready_role v b x)
+        by-role (IsSource s) k = tt
+        by-role (IsClient c) k = tt
+        by-role Nobody k = tt
+        by-role (IsNode g p) k =
+            (elim (node_place w.plan a == node_place w.plan b) as (λ t. (node_place w.plan a == node_place w.plan b) ≡ t → Meets (slot_of v b).node goal (ready_in other (slot_of v b).node)) [
+              | false ↦ λ e. subst (λ (slot : Slot). Meets slot.node goal (ready_in other slot.node)) (sym (apart b (λ same. differ (sym (eq-test _ _ same) ∙ e)))) k
+              | true ↦ λ e. same-place (eq-of (node_place w.plan a) (node_place w.plan b) e)
+            ]) refl
+          where
+            other : Home
+            other = home_of w.plan (g, p)
 
-        if-same : (x : Role) → node_place w.plan a ≡ node_place w.plan b → Meets (slot_of w b).node goal (ready_role w b x) → Meets (slot_of v b).node goal (ready_role v b x)
-        if-same (IsSource s) same k = still same k
-        if-same (IsNode g p) same k =
-            let moved = moves.moved in
-            let other = home_of w.plan (g, p) in
-            let old : goal ≤ n.cursor + ready other n = subst (λ (o : Option PlainNode). Meets o goal (ready_in other o)) (up-too same) k in
-            let less = milled-ready other r n m moves in
-            let new : goal ≤ m.cursor + ready other m = omega (arith, moved, old, less) in
-            subst (λ (o : Option PlainNode). Meets o goal (ready_in other o)) (sym (here-too same)) new
-        if-same (IsClient c) same k = still same k
-        if-same Nobody same k = still same k
+            differ : true ≡ false → ⊥
+            differ x = cc
+
+            same-place : node_place w.plan a ≡ node_place w.plan b → Meets (slot_of v b).node goal (ready_in other (slot_of v b).node)
+            same-place same =
+                let moved = moves.moved in
+                let before : (slot_of w b).node ≡ Some n = ap (λ (i : ℕ). node_in w.nodes i) (sym same) ∙ up in
+                let behind : (slot_of v b).node ≡ Some m = ap (λ (i : ℕ). node_in v.nodes i) (sym same) ∙ here in
+                let old : goal ≤ n.cursor + ready other n = subst (λ (o : Option PlainNode). Meets o goal (ready_in other o)) before k in
+                let less = milled-ready other r n m moves in
+                let new : goal ≤ m.cursor + ready other m = omega (arith, moved, old, less) in
+                subst (λ (o : Option PlainNode). Meets o goal (ready_in other o)) (sym behind) new
 
 pub mill-at : (w : World) (a r : ℕ) → may_mill w a r ≡ true → IsMilledAt w a r (happens w (Mill a r))
 mill-at w a r h = by-role (role_of w.plan a) refl h (mill-calm w a r)

@@ -1,6 +1,7 @@
 -- The clocks of a journal that is live so far, and how a live journal ends.
 use Rattle.std.proofs.Common.{◌≡◌, ℕ, zero, suc, ◌+◌, ◌-◌, ◌^◌, ◌≤◌, ◌<◌, Bool, true, false, not, cond, ◌&&◌, ◌||◌, ◌==◌, nat_lt, nat_le, List, [], ◌∷◌, map, length, refl, sym, ap, subst, ◌∙◌, arith, Option, Some, None, is_some, ◌⊎◌, inl, inr}
 use Rattle.std.specs.Prelude.{fold}
+use Rattle.std.proofs.lemmas.Option.{slice_get_past}
 use Rattle.dpc_model.specs.Lists.{nth, is_nil, has}
 use Rattle.dpc_model.specs.Actors.{Role, IsSource, IsNode, IsClient, Nobody, role_of}
 use Rattle.dpc_model.specs.declared.messages.Event.{Event}
@@ -41,11 +42,6 @@ rising-last low a d (x ∷ y ∷ ys) (suc i) h l =
     let p = both (nat_le low x.now) (nat_le x.now y.now && are_rising y.now ys) h in
     rising-last x.now x.now d (y ∷ ys) i p.1 (omega (arith, l))
 
-nth-past : (d : PhaseSpec) (xs : List PhaseSpec) (i : ℕ) → length xs ≤ i → nth d xs i ≡ d
-nth-past d [] i h = refl
-nth-past d (x ∷ xs) zero h = absurd (omega (arith, h))
-nth-past d (x ∷ xs) (suc i) h = nth-past d xs i (omega (arith, h))
-
 nth-default : (d e : PhaseSpec) (xs : List PhaseSpec) (i : ℕ) → i < length xs → nth d xs i ≡ nth e xs i
 nth-default d e [] i h = absurd (omega (arith, h))
 nth-default d e (x ∷ xs) zero h = refl
@@ -53,7 +49,7 @@ nth-default d e (x ∷ xs) (suc i) h = nth-default d e xs i (omega (arith, h))
 
 -- the clock that a quiet phase of this number has
 quiet-clock : (script : Script) (p : ℕ) → length script.phases ≤ p - 1 → (phase_of script p).now ≡ last_clock script + (p - length script.phases)
-quiet-clock script p h = ap (λ (s : PhaseSpec). s.now) (nth-past (record { directives = []; now = last_clock script + (p - length script.phases) }) script.phases (p - 1) h)
+quiet-clock script p h = rw (slice_get_past script.phases (p - 1) h) refl
 
 -- a phase's clock is at most the last one's, and one more for each quiet phase
 pub clock-within : (script : Script) (p : ℕ) → are_rising 0 script.phases ≡ true → (phase_of script p).now ≤ last_clock script + (p - length script.phases)
@@ -175,13 +171,18 @@ ticks-so script es a now clocked l h =
     let timely = timely-from script (opening script) es clocked.rising l (new-timely script.plan (now_of script (opening script))) in
     let here = clock-within script x.phase clocked.rising in
     let few = few-from script (opening script) es l (omega arith) in
-    let also = settled-few script in
     let within = clocked.within in
-    subst (λ (w : World). Ticks w a now) (progress-run script es) (ticks-here x.world a now (now_of script x) timely (omega (arith, same)) (omega (arith, same, here, few, also, within)) up)
+    subst (λ (w : World). Ticks w a now) (progress-run script es) (ticks-here x.world a now (now_of script x) timely (omega (arith, same)) (omega (arith, same, here, few, within)) up)
 
 -- ---- the end
 
 -- a live journal has all phases of the script; where it ends with settle, every client is settled or all quiet phases went by
+pub live-complete : (script : Script) (es : List Event) → is_live script es ≡ true → is_phase_complete (progress script es) ≡ true
+unfolding is_live
+live-complete script es h =
+    let x = progress script es in
+    let p = both (is_live_so_far script es && is_phase_complete x) (not (phase_left script x)) h in (both (is_live_so_far script es) (is_phase_complete x) p.0).1
+
 pub live-ends : (script : Script) (es : List Event) → is_live script es ≡ true →
     (length script.phases ≤ phases_in es) × (script.settle ≡ true → (all_settled (run script.plan es) ≡ true) ⊎ (phases_in es ≡ length script.phases + quiet_limit script.plan))
 unfolding is_live

@@ -65,6 +65,10 @@ blocked-kept w v k l (x ∷ xs) c few more h =
     both-of (is_blocked v l x) (list_all (is_blocked v l) xs)
     (both-of (x.pending && nat_lt x.number l) _ (both-of x.pending _ r.0 (lt-test x.number l (omega (arith, low)))) (rw same q.1)) (blocked-kept w v k l xs c few more p.1)
 
+pub or-right : (a b : Bool) → b ≡ true → (a || b) ≡ true
+or-right true b e = refl
+or-right false b e = e
+
 -- all has been delivered where these alone are pending
 pub blocked-done : (w : World) (k : ℕ) (xs ys : List Waiting) → list_all (is_blocked w k) xs ≡ true → list_all (λ (y : Waiting). not y.pending || not (may_come w (slice_get w.envelopes y.number))) ys ≡ true →
     list_all (λ (y : Waiting). not y.pending || not (may_come w (slice_get w.envelopes y.number))) (xs ++ ys) ≡ true
@@ -73,10 +77,6 @@ blocked-done w k (x ∷ xs) ys h g =
     let p = both (is_blocked w k x) (list_all (is_blocked w k) xs) h in
     let q = both (x.pending && nat_lt x.number k) (not (may_come w (slice_get w.envelopes x.number))) p.0 in
     both-of _ _ (or-right (not x.pending) _ q.1) (blocked-done w k xs ys p.1 g)
-  where
-    or-right : (a b : Bool) → b ≡ true → (a || b) ≡ true
-    or-right true b e = refl
-    or-right false b e = e
 
 pub fresh-done : (w : World) (k n : ℕ) → list_all (λ (y : Waiting). not y.pending || not (may_come w (slice_get w.envelopes y.number))) (fresh_from k n) ≡ true
 fresh-done w k zero = refl

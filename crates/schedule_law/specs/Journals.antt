@@ -1,5 +1,5 @@
 -- What the laws of live journals speak of.
-use Rattle.std.specs.Prelude.{◌≡◌, ℕ, ◌+◌, ◌^◌, ◌≤◌, Bool, true, ◌&&◌, nat_le, if◌then◌else◌, List, [], ◌∷◌, length, Option, Some, None, slice_get}
+use Rattle.std.specs.Prelude.{◌≡◌, ℕ, ◌+◌, ◌-◌, ◌^◌, ◌≤◌, Bool, true, ◌&&◌, nat_le, if◌then◌else◌, List, [], ◌∷◌, length, Option, Some, None, slice_get}
 use Rattle.dpc_model.specs.Actors.{Role, IsSource, IsNode, IsClient, Nobody, role_of}
 use Rattle.dpc_model.specs.declared.messages.Event.{Event}
 use Rattle.dpc_model.specs.declared.messages.Event.TheVariants.{Phase, Emit, Release, Cut, Heal, Crash, Restart, Deliver, Tick, Mill}
@@ -73,7 +73,7 @@ abbrev pub are_rising : ℕ → List PhaseSpec → Bool
 are_rising low [] = true
 are_rising low (spec ∷ rest) = nat_le low spec.now && are_rising spec.now rest
 
--- clocks that do not fall, and that stay in range through the quiet phases
+-- clocks that do not fall, and that stay in range through the quiet phases, where the script ends with settle
 pub record IsClocked (script : Script) : Type 0 where
   pub rising : are_rising 0 script.phases ≡ true
-  pub within : last_clock script + quiet_limit script.plan ≤ 2 ^ 40
+  pub within : last_clock script + (most_phases script - length script.phases) ≤ 2 ^ 40

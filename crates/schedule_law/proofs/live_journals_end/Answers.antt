@@ -1,5 +1,5 @@
-use Rattle.schedule_law.proofs.Timely.{live-ends}
+use Rattle.schedule_law.proofs.Timely.{live-complete, live-ends}
 use Rattle.schedule_law.proofs.live_journals_end.Goals as goal
 
 pub returns : goal.returns
-returns c = live-ends
+returns c = record { complete = live-complete; whole = live-ends }
