@@ -9,7 +9,7 @@ use Rattle.std.proofs.lemmas.List.{map-append}
 use Rattle.std.proofs.lemmas.List.Folds.{list_any-append}
 use Rattle.std.proofs.lemmas.Map.Keys.{IsDistinct-push, IsDistinct-head, IsDistinct-tail}
 use Rattle.dpc_model.specs.Lists.{last_below}
-use Rattle.dpc_model.specs.Due.{Stamps, stamp_of, stamped, stamped_all, waited_long}
+use Rattle.dpc_model.specs.Due.{Stamps, stamp_of, with_stamp, with_stamps, waited_long}
 use Rattle.dpc_model.specs.declared.tuples.Tuple.{Tuple}
 
 -- ---- stamps
@@ -45,9 +45,9 @@ push-distinct stamps k clock none h =
 
 -- stamps after one tuple more
 pub stamped_all-push : (width cursor clock : ℕ) (stamps : Stamps) (ts : List Tuple) (t : Tuple) →
-    stamped_all width cursor clock stamps (ts ++ t ∷ []) ≡ stamped cursor clock (stamped_all width cursor clock stamps ts) (t.stime / width)
+    with_stamps width cursor clock stamps (ts ++ t ∷ []) ≡ with_stamp cursor clock (with_stamps width cursor clock stamps ts) (t.stime / width)
 stamped_all-push width cursor clock stamps [] t = refl
-stamped_all-push width cursor clock stamps (u ∷ ts) t = stamped_all-push width cursor clock (stamped cursor clock stamps (u.stime / width)) ts t
+stamped_all-push width cursor clock stamps (u ∷ ts) t = stamped_all-push width cursor clock (with_stamp cursor clock stamps (u.stime / width)) ts t
 
 -- ---- buckets that waited too long
 

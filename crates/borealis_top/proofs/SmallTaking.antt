@@ -1,7 +1,7 @@
 -- What the node holds, stamps and knows after a batch.
 use Rattle.std.proofs.Common.{◌≡◌, ℕ, ◌+◌, ◌-◌, ◌*◌, ◌≤◌, ◌<◌, true, false, cond, List, [], ◌∷◌, ◌++◌, length, drop, refl, sym, ap, ◌∙◌, arith, nat_lt, max, Option, Some, None, slice_get}
 use Rattle.std.proofs.lemmas.List.{append-nil}
-use Rattle.dpc_model.specs.Due.{stamped_all}
+use Rattle.dpc_model.specs.Due.{with_stamps}
 use Rattle.dpc_model.specs.Streams.{cut}
 use Rattle.dpc_model.specs.Fragments.{serial, fragment_value}
 use Rattle.dpc_model.specs.Reading.{Reader, Folded, fold_items, tuples_in}
@@ -23,7 +23,7 @@ use Rattle.borealis_top.proofs.SmallBatches.{fold_batch, fold_batch-missing, tup
 -- a node that took tuples, and then has this bound
 pub record Took (n m : SmallNode) (ts : List Tuple) (upto : ℕ) : Type 0 where
   pub held : m.held.items ≡ n.held.items ++ ts
-  pub stamps : m.stamps.items ≡ stamped_all n.timing.width n.cursor n.clock n.stamps.items ts
+  pub stamps : m.stamps.items ≡ with_stamps n.timing.width n.cursor n.clock n.stamps.items ts
   pub bound : m.bound ≡ upto
   pub timing : m.timing ≡ n.timing
   pub milled : m.milled ≡ n.milled

@@ -4,7 +4,7 @@ use Rattle.dpc_model.specs.Lists.{nth, is_nil}
 use Rattle.dpc_model.specs.Streams.{cut, count_below}
 use Rattle.dpc_model.specs.Fragments.{serial, fragment_value, log_of}
 use Rattle.dpc_model.specs.Reading.{Reader, empty_reader, Folded, fold_items, tuples_in}
-use Rattle.dpc_model.specs.Due.{Stamps, stamped_all, waited_long, stamp_of}
+use Rattle.dpc_model.specs.Due.{Stamps, with_stamps, waited_long, stamp_of}
 use Rattle.dpc_model.specs.Lists.{last_below}
 use Rattle.dpc_model.specs.Sessions.{Given, given_items}
 use Rattle.dpc_model.specs.declared.tuples.Tuple.{Tuple}
@@ -143,7 +143,7 @@ may_tick a now w = a == 1 && nat_le w.clock now
 abbrev pub node_takes : Option Folded → SmallWorld → SmallWorld
 node_takes None w = w
 node_takes (Some f) w =
-    record w { node = f.after; stamps = stamped_all w.plan.width w.cursor w.clock w.stamps (tuples_in f.taken) }
+    record w { node = f.after; stamps = with_stamps w.plan.width w.cursor w.clock w.stamps (tuples_in f.taken) }
 
 abbrev pub client_takes : Option Folded → SmallWorld → SmallWorld
 client_takes None w = w

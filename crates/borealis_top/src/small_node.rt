@@ -3,7 +3,7 @@ ghost use Rattle.std.specs.Prelude.{◌≡◌, ℕ, ◌+◌, ◌-◌, ◌*◌, �
 ghost use Rattle.std.specs.Map.{keys_of};
 ghost use Rattle.std.specs.List.{IsDistinct};
 ghost use Rattle.std.proofs.Props.{props};
-ghost use Rattle.dpc_model.specs.Due.{stamp_of, stamped};
+ghost use Rattle.dpc_model.specs.Due.{stamp_of, with_stamp};
 ghost use Rattle.dpc_model.specs.Fragments.{tag};
 ghost use Rattle.dpc_model.specs.Streams.{InOrder, count_below};
 ghost use Rattle.dpc_model.specs.Operators.{filtered};
@@ -113,7 +113,7 @@ fn is_stamped(stamps: &[(u64, u64)], bucket: u64) -> bool
 /// A tuple of a bucket came. The first one stamps the bucket, unless that is milled.
 fn stamp(stamps: &mut Vec<(u64, u64)>, bucket: u64, cursor: u64, clock: u64) -> Result<(), NoMemory>
     requires { IsDistinct nat_eq (keys_of stamps.old.items) }
-    ensures stamped { OnOk result (stamps.new.items ≡ stamped cursor clock stamps.old.items bucket) }
+    ensures with_stamp { OnOk result (stamps.new.items ≡ with_stamp cursor clock stamps.old.items bucket) }
     ensures distinct { IsDistinct nat_eq (keys_of stamps.new.items) }
 {
     if bucket >= cursor && !is_stamped(stamps.as_slice(), bucket) {

@@ -35,7 +35,7 @@ abbrev pub restarted_inlet : Reader → Sess → InletState
 restarted_inlet r s = record { held = r; sess = s; next = 0; answered = false; broken = true }
 
 -- what a batch leaves, and the answer to it
-pub record Took : Type 0 where
+pub record AfterBatch : Type 0 where
   pub after : InletState
   pub answer : Taken
 
@@ -43,32 +43,32 @@ pub record Took : Type 0 where
 abbrev pub is_old : InletState → Sess → ℕ → Bool
 is_old inlet s index = not (same_sess s inlet.sess) || nat_lt index inlet.next
 
-abbrev pub broken_by : InletState → Took
-broken_by inlet = record { after = record inlet { broken = true }; answer = Broken }
+abbrev pub after_missing_batch : InletState → AfterBatch
+after_missing_batch inlet = record { after = record inlet { broken = true }; answer = Broken }
 
 -- a batch that is next, after its items were read
-abbrev pub used : InletState → Option Folded → Took
-used inlet None = broken_by inlet
-used inlet (Some f) =
+abbrev pub after_next_batch : InletState → Option Folded → AfterBatch
+after_next_batch inlet None = after_missing_batch inlet
+after_next_batch inlet (Some f) =
     record { after = record inlet { held = f.after; next = inlet.next + 1; answered = inlet.answered || inlet.next == 0 }; answer = Used f.taken }
 
 -- taking a batch
-unfoldable pub take_batch : InletState → Sess → ℕ → List Item → Took
+unfoldable pub take_batch : InletState → Sess → ℕ → List Item → AfterBatch
 take_batch inlet s index items =
     if is_old inlet s index then record { after = inlet; answer = Old }
-    else (if inlet.broken || nat_lt inlet.next index then broken_by inlet else used inlet (fold_items inlet.held items))
+    else (if inlet.broken || nat_lt inlet.next index then after_missing_batch inlet else after_next_batch inlet (fold_items inlet.held items))
 
 -- whether what the sender tells of the session shows that a batch is missing
 abbrev pub shows_loss : InletState → Option (Sess × ℕ) → Bool
 shows_loss inlet None = inlet.answered
 shows_loss inlet (Some l) = inlet.answered && (not (same_sess l.0 inlet.sess) || nat_lt inlet.next l.1)
 
-abbrev pub heard : InletState → Option (Sess × ℕ) → InletState
-heard inlet link = record inlet { broken = inlet.broken || shows_loss inlet link }
+abbrev pub after_link : InletState → Option (Sess × ℕ) → InletState
+after_link inlet link = record inlet { broken = inlet.broken || shows_loss inlet link }
 
 -- the next session is asked for
-abbrev pub reopened : InletState → InletState
-reopened inlet = record inlet { sess = sess_of inlet.sess.inc (inlet.sess.number + 1); next = 0; answered = false; broken = false }
+abbrev pub with_next_session : InletState → InletState
+with_next_session inlet = record inlet { sess = sess_of inlet.sess.inc (inlet.sess.number + 1); next = 0; answered = false; broken = false }
 
 -- what a reader asks for
 abbrev pub asked_by : InletState → Subscribe

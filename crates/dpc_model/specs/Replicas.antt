@@ -6,7 +6,7 @@ use Rattle.dpc_model.specs.declared.messages.NodeState.TheVariants as state
 use Rattle.dpc_model.specs.declared.messages.Rank.{Rank}
 use Rattle.dpc_model.specs.declared.messages.Rank.TheVariants.{Stable, UpFailure, Stabilizing, Silent}
 
--- what is known of one replica: the newest incarnation, the lesser of 4 and the ticks since the last beat noted, what that beat said,
+-- what is known of one replica: the newest incarnation, the lesser of 4 and the ticks since the last beat after_beat, what that beat said,
 -- and the base of a truncation
 pub record Watch : Type 0 where
   pub inc : ℕ
@@ -18,23 +18,23 @@ abbrev pub new_watch : Watch
 new_watch = record { inc = 0; ticks = 0; said = None; truncated = None }
 
 -- a beat comes; that of an earlier incarnation is ignored
-abbrev pub noted : ℕ → NodeState → Bool → Watch → Watch
-noted i s recovering w = if nat_lt i w.inc then w else record w { inc = i; ticks = 0; said = Some (s, recovering) }
+abbrev pub after_beat : ℕ → NodeState → Bool → Watch → Watch
+after_beat i s recovering w = if nat_lt i w.inc then w else record w { inc = i; ticks = 0; said = Some (s, recovering) }
 
 -- one tick is counted: the third is told from later ones, and those not from one another
-abbrev pub ticked : Watch → Watch
-ticked w = record w { ticks = min 4 (w.ticks + 1) }
+abbrev pub after_tick : Watch → Watch
+after_tick w = record w { ticks = min 4 (w.ticks + 1) }
 
-abbrev pub marked : ℕ → Watch → Watch
-marked base w = record w { truncated = Some base }
+abbrev pub with_mark : ℕ → Watch → Watch
+with_mark base w = record w { truncated = Some base }
 
 -- a mark ends once the count of tuples is at least its base
 abbrev pub unmarked_at : ℕ → Option ℕ → Option ℕ
 unmarked_at n None = None
 unmarked_at n (Some base) = if nat_le base n then None else Some base
 
-abbrev pub reached : ℕ → Watch → Watch
-reached n w = record w { truncated = unmarked_at n w.truncated }
+abbrev pub after_count : ℕ → Watch → Watch
+after_count n w = record w { truncated = unmarked_at n w.truncated }
 
 abbrev pub rank_said : NodeState → Rank
 rank_said state.Stable = Stable
@@ -52,7 +52,7 @@ is_silent w = nat_le 3 w.ticks || is_some w.truncated
 abbrev pub rank_of : Watch → Rank
 rank_of w = if is_silent w then Silent else rank_by w.said
 
--- the last beat noted says recovering
+-- the last beat after_beat says recovering
 abbrev pub says_recovering : Watch → Bool
 says_recovering w = elim w.said [ None ↦ false | Some s ↦ s.1 ]
 

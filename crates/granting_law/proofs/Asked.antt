@@ -9,7 +9,7 @@ use Rattle.dpc_model.specs.declared.messages.Message.TheVariants as message
 use Rattle.dpc_model.specs.declared.plans.Plan.{Plan}
 use Rattle.node_model.specs.Mails.{Packet, Plain, SnapFor, Mail, Stepped}
 use Rattle.node_model.specs.Nodes.{Home, PlainNode, spec_of, restarted_node}
-use Rattle.node_model.specs.NodeSteps.{replica_number, delivered, milled, ticked_at}
+use Rattle.node_model.specs.NodeSteps.{replica_number, packet_step, mill_step, tick_step}
 use Rattle.world_model.specs.Worlds.{World, Envelope, Slot, home_of, node_place, slot_of, from, node_stepped, restart_slot, happens}
 use Rattle.world_model.specs.Orderly.{is_fitting, packet_way, carries_fitting}
 use Rattle.world_safety.proofs.Tests.{both, eq-of, eq-test}
@@ -240,7 +240,7 @@ asking-cases w most fine h =
           let home = home_of w.plan (f, r) in
           let fits = all-at (is_fitting w.plan) w.envelopes k e fine.fits there in
           let way = (both (packet_way w.plan (role_of w.plan e.sender) (role_of w.plan e.to) e.packet) (carries_fitting w.plan (role_of w.plan e.sender) e.packet) fits).0 in
-          step-asking-world (Hears home e.sender e.packet) (Asks home e.sender e.packet) (Ends home e.sender e.packet) w most e.to f r n (delivered home e.sender e.packet n) fine role up (own-delivered home e.sender e.packet n)
+          step-asking-world (Hears home e.sender e.packet) (Asks home e.sender e.packet) (Ends home e.sender e.packet) w most e.to f r n (packet_step home e.sender e.packet n) fine role up (own-delivered home e.sender e.packet n)
           (delivered-asking home e.to most e.sender e.packet n (actor-at w.plan e.to f r fine.checked role) (rw role at way) (node-here w most e.to f r n fine role up) (h.nodes e.to f r n role up).asking)
           (λ c q key here told. let same = sender-is w.plan f r e.sender c q told.0 here in
           subst (λ (x : ℕ). IsOver (slot_of w x) key) (sym same) (told-so (slot_of w e.sender) e.packet key told.1 (h.sent k f q e there (subst (λ (x : ℕ). role_of w.plan x ≡ IsNode f q) same here))))
@@ -248,11 +248,11 @@ asking-cases w most fine h =
           subst (λ (x : ℕ). WasAsked (slot_of w x) key) (sym same) (asked-so (slot_of w e.sender) e.packet key asked.1 (h.sent k f q e there (subst (λ (x : ℕ). role_of w.plan x ≡ IsNode f q) same here)))) h;
       node_ticked = λ a now f r n role up clock.
           let home = home_of w.plan (f, r) in
-          step-asking-world Never Never (FoundSilent now n) w most a f r n (ticked_at home now n) fine role up (own-ticked home now n)
+          step-asking-world Never Never (FoundSilent now n) w most a f r n (tick_step home now n) fine role up (own-ticked home now n)
           (ticked-asking home a most now n (actor-at w.plan a f r fine.checked role) (node-here w most a f r n fine role up) (h.nodes a f r n role up).asking) (λ c q key here x. absurd x) (λ c q key here x. absurd x) h;
       node_milled = λ a r f q n role up can.
           let home = home_of w.plan (f, q) in
-          step-asking-world Never Never Never w most a f q n (milled home r n) fine role up (own-milled home r n)
+          step-asking-world Never Never Never w most a f q n (mill_step home r n) fine role up (own-milled home r n)
           (milled-asking home most r n (actor-at w.plan a f q fine.checked role).place (may-mill home r n can) (node-here w most a f q n fine role up) (h.nodes a f q n role up).asking) (λ c p key here x. absurd x) (λ c p key here x. absurd x) h;
       client_took = λ k c e there can role. quiet-asking w _ refl refl (λ k f q e there role. inl there) h;
       client_ticks = λ a c now role. client-sent w _ a c _ role refl refl refl h;

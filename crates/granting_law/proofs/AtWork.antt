@@ -1,15 +1,15 @@
--- A node's own order of asking: who asks has a complete first bucket, who reconciles promised nobody, and promises are proper.
+-- A node's own order of with_ask: who asks has a complete first bucket, who reconciles promised nobody, and promises are proper.
 use Rattle.std.proofs.Common.{◌≡◌, ℕ, zero, suc, ◌+◌, ◌-◌, ◌*◌, ◌<◌, ◌≤◌, Bool, true, false, cond, not, ◌&&◌, ◌==◌, nat_lt, nat_le, min, List, [], ◌∷◌, map, length, refl, sym, ap, subst, ◌∙◌, arith, Option, Some, None, slice_get, ◌⊎◌, inl, inr}
 use Rattle.std.specs.Prelude.{is_none}
 use Rattle.std.proofs.lemmas.Grind.{common_steps}
 use Rattle.dpc_model.specs.Lists.{nth, changed, list_all, is_nil}
 use Rattle.dpc_model.specs.Reading.{Reader}
-use Rattle.dpc_model.specs.Inlets.{heard, take_batch, same_sess}
+use Rattle.dpc_model.specs.Inlets.{after_link, take_batch, same_sess}
 use Rattle.dpc_model.specs.Due.{is_complete}
 use Rattle.dpc_model.specs.Replicas.{is_silent}
-use Rattle.dpc_model.specs.Granting.{Key, key_le, greater_key, Grants, own_key, grants, granted, promise_to, over_by, known_over, heard_more, told, promise_after, promise_kept, may_enter_by, asking, finished}
+use Rattle.dpc_model.specs.Granting.{Key, key_le, greater_key, Grants, own_key, grants, with_promise, promise_to, over_by, known_over, later_key, after_peer_beat, promise_after, promise_kept, may_enter_by, with_ask, with_ask_over}
 use Rattle.dpc_model.specs.Actors.{IsNode, role_of, are_peers, replicas_of}
-use Rattle.dpc_model.specs.Ports.{Port, no_port, held_at, sender_at, on_beat, on_truncated, all_truncated, marks_ended, port_ticked, port_chosen}
+use Rattle.dpc_model.specs.Ports.{Port, no_port, held_at, sender_at, on_beat, on_truncated, all_truncated, without_ended_marks, port_after_tick, port_after_choice}
 use Rattle.dpc_model.specs.declared.batches.Taken.{Taken}
 use Rattle.dpc_model.specs.declared.batches.Taken.TheVariants.{Used, Old, Broken}
 use Rattle.dpc_model.specs.declared.tuples.Item.{Item}
@@ -24,7 +24,7 @@ use Rattle.dpc_model.specs.Sessions.{given_items}
 use Rattle.node_model.specs.Mails.{Snap, Packet, Plain, SnapFor, mail, to_each, Stepped}
 use Rattle.dpc_model.specs.NodeStates.{is_stable, is_up_failure, is_stabilization}
 use Rattle.node_model.specs.Nodes.{Home, PlainNode, streams_of, held_by, view_cursor, out_stable, complete_upto, complete_buckets, ready, due_at, wants_to_reconcile}
-use Rattle.node_model.specs.NodeSteps.{silently, then_do, peers_of, peer_watches, replica_number, with_port, give, given_stable, entered, recovering_again, adopted, took, stamped_by, on_batch, on_subscribe, on_truncation, on_upstream_beat, on_peer_beat, on_ack, on_ask, on_grant, on_snap_ask, on_snap, reader_place, on_message, on_packet, with_marks_ended, delivered, advanced, reconciled, milled, clocked, may_start_afresh, choosing, reconciling, closing, with_failure, processed_upto, processing, announcing, serving, asking_snapshots, going_on, fresh, ticked_at}
+use Rattle.node_model.specs.NodeSteps.{silent_step, then_do, peers_of, peer_watches, replica_number, with_port, give, given_stable, enter_step, after_loss, after_adoption, after_taking, with_stamps_of, on_batch, on_subscribe, on_truncation, on_upstream_beat, on_peer_beat, on_ack, on_ask, on_grant, on_snap_ask, on_snap, reader_place, on_message, on_packet, with_marks_ended, packet_step, after_stable_buckets, after_last_correction, mill_step, after_clock, may_start_afresh, choice_step, ask_step, with_closed, with_failure, processing_upto, processing_step, announcing_step, serving_step, snapshot_ask_step, rest_of_tick, with_fresh_start, tick_step}
 use Rattle.world_model.specs.Safe.{EachReaches}
 use Rattle.world_model.specs.Orderly.{has_state_of_closed, packet_way}
 use Rattle.world_safety.proofs.Milling.{reaches_least}
@@ -87,7 +87,7 @@ reaches-same n m e b h = rw e h
 pub idle : (home : Home) (m : PlainNode) → m.grants.running ≡ false → (m.recovering ≡ false → is_stabilization m.state ≡ true → ⊥) → ((p : ℕ × Key) → m.grants.promise ≡ Some p → IsProper home m.grants p) → IsAsking home m
 idle home m e calm h = record { runs = λ f. let clash : true ≡ false = sym f ∙ e in cc; busy = λ up f. absurd (calm up f); promise = h }
 
-finished-proper : (home : Home) (g : Grants) → ((p : ℕ × Key) → g.promise ≡ Some p → IsProper home g p) → (p : ℕ × Key) → (finished g).promise ≡ Some p → IsProper home (finished g) p
+finished-proper : (home : Home) (g : Grants) → ((p : ℕ × Key) → g.promise ≡ Some p → IsProper home g p) → (p : ℕ × Key) → (with_ask_over g).promise ≡ Some p → IsProper home (with_ask_over g) p
 finished-proper home g h p e = let k = h p e in record { other = k.other; lower = λ d. cc; going_on = k.going_on }
 
 -- ---- a packet
@@ -95,7 +95,7 @@ finished-proper home g h p e = let k = h p e in record { other = k.other; lower 
 nth-there : (ports : List Port) (p : ℕ) (q : Port) → slice_get ports p ≡ Some q → nth no_port ports p ≡ q
 nth-there ports p q e = rw e refl
 
-took-asking : (home : Home) (p : ℕ) (u : Sess) (index : ℕ) (items : List Item) (n : PlainNode) → IsAsking home n → IsAsking home (took home p (take_batch (nth no_port n.ports p).inlet u index items) n)
+took-asking : (home : Home) (p : ℕ) (u : Sess) (index : ℕ) (items : List Item) (n : PlainNode) → IsAsking home n → IsAsking home (after_taking home p (take_batch (nth no_port n.ports p).inlet u index items) n)
 took-asking home p u index items n h =
     let t = take_batch (nth no_port n.ports p).inlet u index items in
     by-answer t.answer
@@ -104,7 +104,7 @@ took-asking home p u index items n h =
     (λ q e. let same = nth-there n.ports p q e in subst (λ (x : Port). (held_at x).bound ≤ t.after.held.bound) same (take_batch-bound (nth no_port n.ports p).inlet u index items)) r) h)
   where
     by-answer : (x : Taken) → IsAsking home (with_port p (λ q. record q { inlet = (take_batch (nth no_port n.ports p).inlet u index items).after }) n) →
-        IsAsking home (stamped_by home x (with_port p (λ q. record q { inlet = (take_batch (nth no_port n.ports p).inlet u index items).after }) n))
+        IsAsking home (with_stamps_of home x (with_port p (λ q. record q { inlet = (take_batch (nth no_port n.ports p).inlet u index items).after }) n))
     by-answer (Used taken) k = record { runs = λ e. let w = k.runs e in record { up = w.up; unstable = w.unstable; first = w.first }; busy = λ up e. let b = k.busy up e in record { asks = b.asks; promised = b.promised }; promise = k.promise }
     by-answer Old k = k
     by-answer Broken k = k
@@ -113,7 +113,7 @@ batch-asking : (home : Home) (u : Sess) (index : ℕ) (items : List Item) (o : O
 batch-asking home u index items None n h = h
 batch-asking home u index items (Some pr) n h =
     let port = nth no_port n.ports pr.0 in
-    elim (port.chosen == pr.1) as (λ b. IsAsking home (cond b (took home pr.0 (take_batch port.inlet u index items) n) n)) [
+    elim (port.chosen == pr.1) as (λ b. IsAsking home (cond b (after_taking home pr.0 (take_batch port.inlet u index items) n) n)) [
       | true ↦ took-asking home pr.0 u index items n h
       | false ↦ h
     ]
@@ -126,9 +126,9 @@ held-changed (suc p) f (q ∷ ports) same = ap (λ (rs : List Reader). held_at q
 port-asking : (home : Home) (p : ℕ) (f : Port → Port) (n : PlainNode) → ((q : Port) → slice_get n.ports p ≡ Some q → held_at (f q) ≡ held_at q) → IsAsking home n → IsAsking home (with_port p f n)
 port-asking home p f n same h = asking-same home n (with_port p f n) refl refl refl refl (reaches-same n (with_port p f n) (held-changed p f n.ports same)) h
 
-again-asking : (home : Home) (n : PlainNode) → IsAsking home n → IsAsking home (recovering_again home n)
-unfolding recovering_again
-again-asking home n h = idle home (recovering_again home n) refl (λ up e. cc) (finished-proper home n.grants h.promise)
+again-asking : (home : Home) (n : PlainNode) → IsAsking home n → IsAsking home (after_loss home n)
+unfolding after_loss
+again-asking home n h = idle home (after_loss home n) refl (λ up e. cc) (finished-proper home n.grants h.promise)
 
 truncation-asking : (home : Home) (u : Sess) (base : ℕ) (o : Option (ℕ × ℕ)) (n : PlainNode) → IsAsking home n → IsAsking home (on_truncation home u base o n)
 truncation-asking home u base None n h = h
@@ -137,27 +137,27 @@ truncation-asking home u base (Some pr) n h =
     let port = on_truncated pr.1 u base old in
     let m = with_port pr.0 (λ _. port) n in
     let k = port-asking home pr.0 (λ _. port) n (λ q e. ap held_at (nth-there n.ports pr.0 q e)) h in
-    elim (same_sess u old.inlet.sess && all_truncated port) as (λ b. IsAsking home (cond b (recovering_again home m) m)) [
+    elim (same_sess u old.inlet.sess && all_truncated port) as (λ b. IsAsking home (cond b (after_loss home m) m)) [
       | true ↦ again-asking home m k
       | false ↦ k
     ]
 
 beat-held : (r : ℕ) (b : Beat) (q : Port) → held_at (on_beat r b q) ≡ held_at q
-beat-held r b q = elim (r == q.chosen) as (λ c. (cond c (heard q.inlet b.link) q.inlet).held ≡ q.inlet.held) [ true ↦ refl | false ↦ refl ]
+beat-held r b q = elim (r == q.chosen) as (λ c. (cond c (after_link q.inlet b.link) q.inlet).held ≡ q.inlet.held) [ true ↦ refl | false ↦ refl ]
 
 upstream-asking : (home : Home) (b : Beat) (o : Option (ℕ × ℕ)) (n : PlainNode) → IsAsking home n → IsAsking home (on_upstream_beat b o n)
 upstream-asking home b None n h = h
 upstream-asking home b (Some pr) n h = port-asking home pr.0 (on_beat pr.1 b) n (λ q e. beat-held pr.1 b q) h
 
 -- a promise that is left is not known to be over
-told-proper : (home : Home) (g : Grants) (r : ℕ) (k : Key) → ((p : ℕ × Key) → g.promise ≡ Some p → IsProper home g p) → (p : ℕ × Key) → (told g r k).promise ≡ Some p → IsProper home (told g r k) p
+told-proper : (home : Home) (g : Grants) (r : ℕ) (k : Key) → ((p : ℕ × Key) → g.promise ≡ Some p → IsProper home g p) → (p : ℕ × Key) → (after_peer_beat g r k).promise ≡ Some p → IsProper home (after_peer_beat g r k) p
 told-proper home g r k h p e = by-old g.promise refl e
   where
-    still : (x : ℕ × Key) → IsProper home g x → (x.0 == r && key_le x.1 k) ≡ false → IsProper home (told g r k) x
-    still x y out = record { other = y.other; lower = y.lower; going_on = by-place (nth-changed None r (heard_more k) g.heard x.0) }
+    still : (x : ℕ × Key) → IsProper home g x → (x.0 == r && key_le x.1 k) ≡ false → IsProper home (after_peer_beat g r k) x
+    still x y out = record { other = y.other; lower = y.lower; going_on = by-place (nth-changed None r (later_key k) g.heard x.0) }
       where
-        by-place : (nth None (told g r k).heard x.0 ≡ nth None g.heard x.0) ⊎ ((x.0 ≡ r) × (nth None (told g r k).heard x.0 ≡ heard_more k (nth None g.heard x.0))) →
-            known_over (told g r k) x.0 x.1 ≡ false
+        by-place : (nth None (after_peer_beat g r k).heard x.0 ≡ nth None g.heard x.0) ⊎ ((x.0 ≡ r) × (nth None (after_peer_beat g r k).heard x.0 ≡ later_key k (nth None g.heard x.0))) →
+            known_over (after_peer_beat g r k) x.0 x.1 ≡ false
         by-place (inl same) = ap (λ (z : Option Key). over_by x.1 z) same ∙ y.going_on
         by-place (inr here) = ap (λ (z : Option Key). over_by x.1 z) here.1 ∙ more (nth None g.heard x.0) y.going_on
           where
@@ -168,7 +168,7 @@ told-proper home g r k h p e = by-old g.promise refl e
             late : key_le x.1 k ≡ false
             late = not-second (x.0 == r) (key_le x.1 k) (eq-test x.0 r here.0) out
 
-            more : (o : Option Key) → over_by x.1 o ≡ false → over_by x.1 (heard_more k o) ≡ false
+            more : (o : Option Key) → over_by x.1 o ≡ false → over_by x.1 (later_key k o) ≡ false
             more None f = late
             more (Some z) f =
                 elim (greater-one z k) [
@@ -176,15 +176,15 @@ told-proper home g r k h p e = by-old g.promise refl e
                   | inr new ↦ ap (λ (u : Key). key_le x.1 u) new ∙ late
                 ]
 
-    by-old : (o : Option (ℕ × Key)) → g.promise ≡ o → promise_after o r k ≡ Some p → IsProper home (told g r k) p
+    by-old : (o : Option (ℕ × Key)) → g.promise ≡ o → promise_after o r k ≡ Some p → IsProper home (after_peer_beat g r k) p
     by-old None f d = cc
     by-old (Some x) f d =
-        (elim (x.0 == r && key_le x.1 k) as (λ b. (x.0 == r && key_le x.1 k) ≡ b → cond {A = Option (ℕ × Key)} b None (Some x) ≡ Some p → IsProper home (told g r k) p) [
+        (elim (x.0 == r && key_le x.1 k) as (λ b. (x.0 == r && key_le x.1 k) ≡ b → cond {A = Option (ℕ × Key)} b None (Some x) ≡ Some p → IsProper home (after_peer_beat g r k) p) [
           | true ↦ λ c d'. cc
-          | false ↦ λ c d'. let same : x ≡ p = cc in subst (λ (z : ℕ × Key). IsProper home (told g r k) z) same (still x (h x f) c)
+          | false ↦ λ c d'. let same : x ≡ p = cc in subst (λ (z : ℕ × Key). IsProper home (after_peer_beat g r k) z) same (still x (h x f) c)
         ]) refl d
 
-gone-promise : (home : Home) (g : Grants) (r : ℕ) (k : Key) → g.promise ≡ None → (told g r k).promise ≡ None
+gone-promise : (home : Home) (g : Grants) (r : ℕ) (k : Key) → g.promise ≡ None → (after_peer_beat g r k).promise ≡ None
 gone-promise home g r k e = rw e refl
 
 peer-asking : (home : Home) (b : Beat) (o : Option ℕ) (n : PlainNode) → IsAsking home n → IsAsking home (on_peer_beat b o n)
@@ -204,8 +204,8 @@ subscribe-asking : (home : Home) (asked : Subscribe) (o : Option ℕ) (n : Plain
 subscribe-asking home asked None n h = h
 subscribe-asking home asked (Some k) n h = record { runs = λ e. let w = h.runs e in record { up = w.up; unstable = w.unstable; first = w.first }; busy = λ up e. let b = h.busy up e in record { asks = b.asks; promised = b.promised }; promise = h.promise }
 
--- an ask is granted to another replica
-ask-asking : (home : Home) (i ask r : ℕ) (n : PlainNode) → n.grants.me ≡ home.replica → (r ≡ home.replica → ⊥) → IsGranted n.grants n.state r (i, ask) → IsAsking home n → IsAsking home (record n { grants = granted n.grants r (i, ask) })
+-- an ask is with_promise to another replica
+ask-asking : (home : Home) (i ask r : ℕ) (n : PlainNode) → n.grants.me ≡ home.replica → (r ≡ home.replica → ⊥) → IsGranted n.grants n.state r (i, ask) → IsAsking home n → IsAsking home (record n { grants = with_promise n.grants r (i, ask) })
 ask-asking home i ask r n me other may h =
     record {
       runs = λ e. let w = h.runs e in record { up = w.up; unstable = w.unstable; first = w.first };
@@ -238,19 +238,19 @@ ask-asking home i ask r n me other may h =
             let most = not-lt n.grants.me r least_of in
             let same : r ≡ home.replica = omega (arith, more, most, me) in absurd (other same)
 
-    proper : (key : Key) → known_over n.grants r key ≡ false → IsProper home (granted n.grants r (i, ask)) (r, key)
+    proper : (key : Key) → known_over n.grants r key ≡ false → IsProper home (with_promise n.grants r (i, ask)) (r, key)
     proper key out = record { other = other; lower = low; going_on = out }
 
     some-is : (x y : ℕ × Key) → ◌≡◌ {A = Option (ℕ × Key)} (Some x) (Some y) → x ≡ y
     some-is x y e = cc
 
-    by-old : (o : Option (ℕ × Key)) → n.grants.promise ≡ o → (p : ℕ × Key) → (granted n.grants r (i, ask)).promise ≡ Some p → IsProper home (granted n.grants r (i, ask)) p
+    by-old : (o : Option (ℕ × Key)) → n.grants.promise ≡ o → (p : ℕ × Key) → (with_promise n.grants r (i, ask)).promise ≡ Some p → IsProper home (with_promise n.grants r (i, ask)) p
     by-old None f p e =
         let now : promise_to n.grants r (i, ask) ≡ (r, (i, ask)) = rw f refl in
-        subst (λ (z : ℕ × Key). IsProper home (granted n.grants r (i, ask)) z) (sym now ∙ some-is (promise_to n.grants r (i, ask)) p e) (proper (i, ask) may.going_on)
+        subst (λ (z : ℕ × Key). IsProper home (with_promise n.grants r (i, ask)) z) (sym now ∙ some-is (promise_to n.grants r (i, ask)) p e) (proper (i, ask) may.going_on)
     by-old (Some x) f p e =
         let now : promise_to n.grants r (i, ask) ≡ (r, greater_key x.1 (i, ask)) = rw f refl in
-        subst (λ (z : ℕ × Key). IsProper home (granted n.grants r (i, ask)) z) (sym now ∙ some-is (promise_to n.grants r (i, ask)) p e)
+        subst (λ (z : ℕ × Key). IsProper home (with_promise n.grants r (i, ask)) z) (sym now ∙ some-is (promise_to n.grants r (i, ask)) p e)
         (proper (greater_key x.1 (i, ask)) (going (greater-one x.1 (i, ask))))
       where
         same-place : x.0 ≡ r
@@ -277,15 +277,15 @@ on_ask-asking : (home : Home) (i ask : ℕ) (o : Option ℕ) (n : PlainNode) →
 on_ask-asking home i ask None n me other h = h
 on_ask-asking home i ask (Some r) n me other h =
     (elim (grants n.grants n.state r (i, ask)) as (λ b. grants n.grants n.state r (i, ask) ≡ b → IsAsking home (cond {A = Stepped PlainNode} b
-    (record { after = record n { grants = granted n.grants r (i, ask) }; sends = mail (nth 0 (replicas_of home.plan home.frag) r) (message.Grant i ask) ∷ [] }) (silently n)).after) [
+    (record { after = record n { grants = with_promise n.grants r (i, ask) }; sends = mail (nth 0 (replicas_of home.plan home.frag) r) (message.Grant i ask) ∷ [] }) (silent_step n)).after) [
       | true ↦ λ e. ask-asking home i ask r n me (other r refl) (granted-of n.grants n.state r (i, ask) e) h
       | false ↦ λ e. h
     ]) refl
 
 -- ---- entering
 
-entered-asking : (home : Home) (n : PlainNode) → n.recovering ≡ false → EachReaches ((n.cursor + 1) * home.plan.width) (held_by n) → n.grants.promise ≡ None → IsAsking home (entered home n).after
-unfolding entered
+entered-asking : (home : Home) (n : PlainNode) → n.recovering ≡ false → EachReaches ((n.cursor + 1) * home.plan.width) (held_by n) → n.grants.promise ≡ None → IsAsking home (enter_step home n).after
+unfolding enter_step
 entered-asking home n up first none =
     record {
       runs = λ e. record { up = up; unstable = refl; first = first };
@@ -299,8 +299,8 @@ none-of (Some p) e = cc
 
 on_grant-asking : (home : Home) (i ask : ℕ) (n : PlainNode) → IsAsking home n → IsAsking home (on_grant home i ask n).after
 on_grant-asking home i ask n h =
-    (elim (is_up_failure n.state) as (λ c. IsAsking home (cond {A = Stepped PlainNode} (c && may_enter_by n.grants (i, ask)) (entered home n) (silently n)).after) [
-      | true ↦ (elim (may_enter_by n.grants (i, ask)) as (λ b. may_enter_by n.grants (i, ask) ≡ b → IsAsking home (cond {A = Stepped PlainNode} b (entered home n) (silently n)).after) [
+    (elim (is_up_failure n.state) as (λ c. IsAsking home (cond {A = Stepped PlainNode} (c && may_enter_by n.grants (i, ask)) (enter_step home n) (silent_step n)).after) [
+      | true ↦ (elim (may_enter_by n.grants (i, ask)) as (λ b. may_enter_by n.grants (i, ask) ≡ b → IsAsking home (cond {A = Stepped PlainNode} b (enter_step home n) (silent_step n)).after) [
         | true ↦ λ e.
             let x = both (n.grants.running && i == n.grants.inc && ask == n.grants.over + 1) (is_none n.grants.promise) e in
             let y = both (n.grants.running && i == n.grants.inc) (ask == n.grants.over + 1) x.0 in
@@ -314,15 +314,15 @@ on_grant-asking home i ask n h =
 
 -- ---- snapshots
 
-adopted-asking : (home : Home) (s : Snap) (n : PlainNode) → n.grants.running ≡ false → IsAsking home n → IsAsking home (adopted home s n)
-unfolding adopted
-adopted-asking home s n idle_one h = idle home (adopted home s n) idle_one (λ up e. cc) h.promise
+adopted-asking : (home : Home) (s : Snap) (n : PlainNode) → n.grants.running ≡ false → IsAsking home n → IsAsking home (after_adoption home s n)
+unfolding after_adoption
+adopted-asking home s n idle_one h = idle home (after_adoption home s n) idle_one (λ up e. cc) h.promise
 
 on_snap-asking : (home : Home) (most i try : ℕ) (s : Snap) (n : PlainNode) → IsGood home most n → IsAsking home n → IsAsking home (on_snap home i try s n)
 on_snap-asking home most i try s n g h =
-    (elim n.recovering as (λ c. n.recovering ≡ c → IsAsking home (cond (c && i == n.grants.inc && try == n.tries) (adopted home s n) n)) [
+    (elim n.recovering as (λ c. n.recovering ≡ c → IsAsking home (cond (c && i == n.grants.inc && try == n.tries) (after_adoption home s n) n)) [
       | false ↦ λ e. h
-      | true ↦ λ down. elim (true && i == n.grants.inc && try == n.tries) as (λ b. IsAsking home (cond b (adopted home s n) n)) [
+      | true ↦ λ down. elim (true && i == n.grants.inc && try == n.tries) as (λ b. IsAsking home (cond b (after_adoption home s n) n)) [
         | true ↦ adopted-asking home s n (emptied-of n down g.orderly.recovering).running h
         | false ↦ h
       ]
@@ -330,8 +330,8 @@ on_snap-asking home most i try s n g h =
 
 -- ---- any packet
 
-unless-asking : (home : Home) (n : PlainNode) (s : Stepped PlainNode) → IsAsking home n → IsAsking home s.after → IsAsking home (cond n.recovering (silently n) s).after
-unless-asking home n s h k = elim n.recovering as (λ b. IsAsking home (cond b (silently n) s).after) [ true ↦ h | false ↦ k ]
+unless-asking : (home : Home) (n : PlainNode) (s : Stepped PlainNode) → IsAsking home n → IsAsking home s.after → IsAsking home (cond n.recovering (silent_step n) s).after
+unless-asking home n s h k = elim n.recovering as (λ b. IsAsking home (cond b (silent_step n) s).after) [ true ↦ h | false ↦ k ]
 
 message-asking : (home : Home) (me most a : ℕ) (m : Message) (n : PlainNode) → IsActor home me → packet_way home.plan (role_of home.plan a) (IsNode home.frag home.replica) (Plain m) ≡ true →
     IsGood home most n → IsAsking home n → IsAsking home (on_message home a m n).after
@@ -348,7 +348,7 @@ message-asking home me most a (message.Grant i ask) n actor way g h = on_grant-a
 message-asking home me most a (message.SnapAsk i try) n actor way g h = unless-asking home n (on_snap_ask home a i try n) h h
 
 marks-asking : (home : Home) (n : PlainNode) → IsAsking home n → IsAsking home (with_marks_ended n)
-marks-asking home n h = asking-same home n (with_marks_ended n) refl refl refl refl (reaches-same n (with_marks_ended n) (held-map marks_ended (λ p. refl) n.ports)) h
+marks-asking home n h = asking-same home n (with_marks_ended n) refl refl refl refl (reaches-same n (with_marks_ended n) (held-map without_ended_marks (λ p. refl) n.ports)) h
 
 packet-asking : (home : Home) (me most a : ℕ) (packet : Packet) (n : PlainNode) → IsActor home me → packet_way home.plan (role_of home.plan a) (IsNode home.frag home.replica) packet ≡ true →
     IsGood home most n → IsAsking home n → IsAsking home (on_packet home a packet n).after
@@ -356,16 +356,16 @@ packet-asking home me most a (Plain m) n actor way g h = message-asking home me 
 packet-asking home me most a (SnapFor i try s) n actor way g h = on_snap-asking home most i try s n g h
 
 pub delivered-asking : (home : Home) (me most a : ℕ) (packet : Packet) (n : PlainNode) → IsActor home me → packet_way home.plan (role_of home.plan a) (IsNode home.frag home.replica) packet ≡ true →
-    IsGood home most n → IsAsking home n → IsAsking home (delivered home a packet n).after
-unfolding delivered
+    IsGood home most n → IsAsking home n → IsAsking home (packet_step home a packet n).after
+unfolding packet_step
 delivered-asking home me most a packet n actor way g h = packet-asking home me most a packet (with_marks_ended n) actor way (marks-good home most n g) (marks-asking home n h)
 
 -- ---- a tick
 
-clocked-asking : (home : Home) (now : ℕ) (n : PlainNode) → IsAsking home n → IsAsking home (clocked now n)
+clocked-asking : (home : Home) (now : ℕ) (n : PlainNode) → IsAsking home n → IsAsking home (after_clock now n)
 clocked-asking home now n h =
-    let m = clocked now n in
-    let held = reaches-same n m (held-map port_ticked (λ p. refl) n.ports) in
+    let m = after_clock now n in
+    let held = reaches-same n m (held-map port_after_tick (λ p. refl) n.ports) in
     record {
       runs = λ e. let w = h.runs e in record { up = w.up; unstable = w.unstable; first = held ((n.cursor + 1) * home.plan.width) w.first };
       busy = λ up e. let b = h.busy up e in record { asks = b.asks; promised = gone b.promised };
@@ -373,7 +373,7 @@ clocked-asking home now n h =
     }
   where
     silent : List Bool
-    silent = map is_silent (clocked now n).peers
+    silent = map is_silent (after_clock now n).peers
 
     gone : n.grants.promise ≡ None → promise_kept n.grants.promise silent ≡ None
     gone e = rw e refl
@@ -382,8 +382,8 @@ clocked-asking home now n h =
     left None e p f = cc
     left (Some x) e p f = (elim (nth false silent x.0) as (λ b. cond {A = Option (ℕ × Key)} b None (Some x) ≡ Some p → n.grants.promise ≡ Some p) [ true ↦ λ d. cc | false ↦ λ d. e ∙ d ]) f
 
-choosing-asking : (home : Home) (n : PlainNode) → IsAsking home n → IsAsking home (choosing home n).after
-choosing-asking home n h = asking-same home n (record n { ports = map port_chosen n.ports }) refl refl refl refl (reaches-same n (record n { ports = map port_chosen n.ports }) (held-map port_chosen chosen-held n.ports)) h
+choosing-asking : (home : Home) (n : PlainNode) → IsAsking home n → IsAsking home (choice_step home n).after
+choosing-asking home n h = asking-same home n (record n { ports = map port_after_choice n.ports }) refl refl refl refl (reaches-same n (record n { ports = map port_after_choice n.ports }) (held-map port_after_choice chosen-held n.ports)) h
 
 complete-reaches : (width k : ℕ) (rs : List Reader) → is_complete width rs k ≡ true → EachReaches ((k + 1) * width) rs
 complete-reaches width k [] h = tt
@@ -399,24 +399,24 @@ failure-calm Stable e f = cc
 failure-calm UpFailure e f = cc
 failure-calm Stabilization e f = cc
 
-reconciling-asking : (home : Home) (n : PlainNode) → n.recovering ≡ false → IsAsking home n → IsAsking home (reconciling home n).after
+reconciling-asking : (home : Home) (n : PlainNode) → n.recovering ≡ false → IsAsking home n → IsAsking home (ask_step home n).after
 reconciling-asking home n up h =
-    (elim (wants_to_reconcile home n) as (λ c. wants_to_reconcile home n ≡ c → IsAsking home (cond {A = Stepped PlainNode} (c && is_none n.grants.promise) (cond (list_all is_silent (peer_watches home n)) (entered home n)
-    (record { after = record n { grants = asking n.grants }; sends = to_each (message.Ask (own_key n.grants).0 (own_key n.grants).1) (peers_of home) })) (silently n)).after) [
+    (elim (wants_to_reconcile home n) as (λ c. wants_to_reconcile home n ≡ c → IsAsking home (cond {A = Stepped PlainNode} (c && is_none n.grants.promise) (cond (list_all is_silent (peer_watches home n)) (enter_step home n)
+    (record { after = record n { grants = with_ask n.grants }; sends = to_each (message.Ask (own_key n.grants).0 (own_key n.grants).1) (peers_of home) })) (silent_step n)).after) [
       | false ↦ λ e. h
-      | true ↦ λ wants. (elim (is_none n.grants.promise) as (λ c. is_none n.grants.promise ≡ c → IsAsking home (cond {A = Stepped PlainNode} c (cond (list_all is_silent (peer_watches home n)) (entered home n)
-          (record { after = record n { grants = asking n.grants }; sends = to_each (message.Ask (own_key n.grants).0 (own_key n.grants).1) (peers_of home) })) (silently n)).after) [
+      | true ↦ λ wants. (elim (is_none n.grants.promise) as (λ c. is_none n.grants.promise ≡ c → IsAsking home (cond {A = Stepped PlainNode} c (cond (list_all is_silent (peer_watches home n)) (enter_step home n)
+          (record { after = record n { grants = with_ask n.grants }; sends = to_each (message.Ask (own_key n.grants).0 (own_key n.grants).1) (peers_of home) })) (silent_step n)).after) [
             | false ↦ λ e. h
             | true ↦ λ none. asks (both (is_up_failure n.state) (is_complete home.plan.width (held_by n) n.cursor) wants) (none-of n.grants.promise none)
           ]) refl
     ]) refl
   where
-    asks : (is_up_failure n.state ≡ true) × (is_complete home.plan.width (held_by n) n.cursor ≡ true) → n.grants.promise ≡ None → IsAsking home (cond {A = Stepped PlainNode} (list_all is_silent (peer_watches home n)) (entered home n)
-        (record { after = record n { grants = asking n.grants }; sends = to_each (message.Ask (own_key n.grants).0 (own_key n.grants).1) (peers_of home) })).after
+    asks : (is_up_failure n.state ≡ true) × (is_complete home.plan.width (held_by n) n.cursor ≡ true) → n.grants.promise ≡ None → IsAsking home (cond {A = Stepped PlainNode} (list_all is_silent (peer_watches home n)) (enter_step home n)
+        (record { after = record n { grants = with_ask n.grants }; sends = to_each (message.Ask (own_key n.grants).0 (own_key n.grants).1) (peers_of home) })).after
     asks w none =
         let first = complete-reaches home.plan.width n.cursor (held_by n) w.1 in
-        elim (list_all is_silent (peer_watches home n)) as (λ b. IsAsking home (cond {A = Stepped PlainNode} b (entered home n)
-        (record { after = record n { grants = asking n.grants }; sends = to_each (message.Ask (own_key n.grants).0 (own_key n.grants).1) (peers_of home) })).after) [
+        elim (list_all is_silent (peer_watches home n)) as (λ b. IsAsking home (cond {A = Stepped PlainNode} b (enter_step home n)
+        (record { after = record n { grants = with_ask n.grants }; sends = to_each (message.Ask (own_key n.grants).0 (own_key n.grants).1) (peers_of home) })).after) [
           | true ↦ entered-asking home n up first none
           | false ↦ record {
             runs = λ e. record { up = up; unstable = failure-unstable n.state w.0; first = first };
@@ -425,7 +425,7 @@ reconciling-asking home n up h =
           }
         ]
 
--- ---- processing
+-- ---- processing_step
 
 failure-state : (m : PlainNode) → ((with_failure m).state ≡ m.state) ⊎ ((with_failure m).state ≡ UpFailure)
 failure-state m = elim (is_nil m.closed) as (λ b. (cond b m.state UpFailure ≡ m.state) ⊎ (cond b m.state UpFailure ≡ UpFailure)) [ true ↦ inl refl | false ↦ inr refl ]
@@ -444,12 +444,12 @@ failed-closed n up h e = by-value (is_nil n.closed) refl
     by-value true f = let gone : not (is_up_failure n.state) ≡ true = rw (up, f) at h in let none : not true ≡ true = rw e at gone in cc
 
 -- where buckets are closed, the cursor stays and the node is UP_FAILURE
-processed-asking : (home : Home) (last : ℕ) (n : PlainNode) → n.recovering ≡ false → is_stabilization n.state ≡ false → has_state_of_closed n ≡ true → IsAsking home n → IsAsking home (processed_upto home last n).after
+processed-asking : (home : Home) (last : ℕ) (n : PlainNode) → n.recovering ≡ false → is_stabilization n.state ≡ false → has_state_of_closed n ≡ true → IsAsking home n → IsAsking home (processing_upto home last n).after
 processed-asking home last n up calm closed h =
     let count = last + 1 - view_cursor n in
     let stably = min count (complete_buckets home n) in
-    let m = closing home (count - stably) (advanced home stably n) in
-    let after = (processed_upto home last n).after in
+    let m = with_closed home (count - stably) (after_stable_buckets home stably n) in
+    let after = (processing_upto home last n).after in
     record {
       runs = λ e.
           let w = h.runs e in
@@ -463,7 +463,7 @@ processed-asking home last n up calm closed h =
     }
   where
     m1 : PlainNode
-    m1 = closing home (last + 1 - view_cursor n - min (last + 1 - view_cursor n) (complete_buckets home n)) (advanced home (min (last + 1 - view_cursor n) (complete_buckets home n)) n)
+    m1 = with_closed home (last + 1 - view_cursor n - min (last + 1 - view_cursor n) (complete_buckets home n)) (after_stable_buckets home (min (last + 1 - view_cursor n) (complete_buckets home n)) n)
 
     unstable : ((with_failure m1).state ≡ n.state) ⊎ ((with_failure m1).state ≡ UpFailure) → is_stable n.state ≡ false → is_stable (with_failure m1).state ≡ false
     unstable (inl e) f = ap is_stable e ∙ f
@@ -476,11 +476,11 @@ processed-asking home last n up calm closed h =
 abbrev IsAskingAfter : Home → Stepped PlainNode → Type 0
 IsAskingAfter home s = IsAsking home s.after
 
-processing-asking : (home : Home) (n : PlainNode) → n.recovering ≡ false → has_state_of_closed n ≡ true → IsAsking home n → IsAsking home (processing home n).after
+processing-asking : (home : Home) (n : PlainNode) → n.recovering ≡ false → has_state_of_closed n ≡ true → IsAsking home n → IsAsking home (processing_step home n).after
 processing-asking home n up closed h =
-    (elim (is_stabilization n.state) as (λ b. is_stabilization n.state ≡ b → IsAskingAfter home (cond b (silently n) (elim (due_at home n n.clock) [ None ↦ silently n | Some last ↦ processed_upto home last n ]))) [
+    (elim (is_stabilization n.state) as (λ b. is_stabilization n.state ≡ b → IsAskingAfter home (cond b (silent_step n) (elim (due_at home n n.clock) [ None ↦ silent_step n | Some last ↦ processing_upto home last n ]))) [
       | true ↦ λ e. h
-      | false ↦ λ e. elim (due_at home n n.clock) as (λ o. IsAskingAfter home (elim o [ None ↦ silently n | Some last ↦ processed_upto home last n ])) [
+      | false ↦ λ e. elim (due_at home n n.clock) as (λ o. IsAskingAfter home (elim o [ None ↦ silent_step n | Some last ↦ processing_upto home last n ])) [
         | None ↦ h
         | Some last ↦ processed-asking home last n up e closed h
       ]
@@ -488,37 +488,37 @@ processing-asking home n up closed h =
 
 -- ---- the whole tick
 
-serving-asking : (home : Home) (me most : ℕ) (n : PlainNode) → IsActor home me → n.recovering ≡ false → IsGood home most n → IsAsking home n → IsAsking home (serving home n).after
+serving-asking : (home : Home) (me most : ℕ) (n : PlainNode) → IsActor home me → n.recovering ≡ false → IsGood home most n → IsAsking home n → IsAsking home (serving_step home n).after
 serving-asking home me most n actor up g h =
-    let a = choosing home n in
-    let b = reconciling home a.after in
+    let a = choice_step home n in
+    let b = ask_step home a.after in
     let one = choosing-good home me most n actor up g in
     let two = reconciling-good home me (most + 1) a.after actor up one.after in
     processing-asking home b.after (reconciling-recovering home a.after ∙ up) two.after.orderly.state (reconciling-asking home a.after up (choosing-asking home n h))
 
-going_on-asking : (home : Home) (me most : ℕ) (n : PlainNode) → IsActor home me → IsGood home most n → IsAsking home n → IsAsking home (going_on home n).after
+going_on-asking : (home : Home) (me most : ℕ) (n : PlainNode) → IsActor home me → IsGood home most n → IsAsking home n → IsAsking home (rest_of_tick home n).after
 going_on-asking home me most n actor g h =
-    (elim n.recovering as (λ b. n.recovering ≡ b → IsAsking home (cond {A = Stepped PlainNode} (not b) (serving home n) (cond (may_start_afresh home n) (serving home (fresh n)) (then_do (asking_snapshots home n) (announcing home)))).after) [
+    (elim n.recovering as (λ b. n.recovering ≡ b → IsAsking home (cond {A = Stepped PlainNode} (not b) (serving_step home n) (cond (may_start_afresh home n) (serving_step home (with_fresh_start n)) (then_do (snapshot_ask_step home n) (announcing_step home)))).after) [
       | false ↦ λ up. serving-asking home me most n actor up g h
-      | true ↦ λ down. elim (may_start_afresh home n) as (λ b. IsAsking home (cond {A = Stepped PlainNode} b (serving home (fresh n)) (then_do (asking_snapshots home n) (announcing home))).after) [
-        | true ↦ serving-asking home me most (fresh n) actor refl (fresh-good home most n actor.place down g)
-            (idle home (fresh n) (emptied-of n down g.orderly.recovering).running (λ up e. cc) h.promise)
+      | true ↦ λ down. elim (may_start_afresh home n) as (λ b. IsAsking home (cond {A = Stepped PlainNode} b (serving_step home (with_fresh_start n)) (then_do (snapshot_ask_step home n) (announcing_step home))).after) [
+        | true ↦ serving-asking home me most (with_fresh_start n) actor refl (fresh-good home most n actor.place down g)
+            (idle home (with_fresh_start n) (emptied-of n down g.orderly.recovering).running (λ up e. cc) h.promise)
         | false ↦ h
       ]
     ]) refl
 
-pub ticked-asking : (home : Home) (me most now : ℕ) (n : PlainNode) → IsActor home me → IsGood home most n → IsAsking home n → IsAsking home (ticked_at home now n).after
-unfolding ticked_at
+pub ticked-asking : (home : Home) (me most now : ℕ) (n : PlainNode) → IsActor home me → IsGood home most n → IsAsking home n → IsAsking home (tick_step home now n).after
+unfolding tick_step
 ticked-asking home me most now n actor g h =
-    going_on-asking home me most (clocked now (with_marks_ended n)) actor (clocked-good home most now (with_marks_ended n) (marks-good home most n g)) (clocked-asking home now (with_marks_ended n) (marks-asking home n h))
+    going_on-asking home me most (after_clock now (with_marks_ended n)) actor (clocked-good home most now (with_marks_ended n) (marks-good home most n g)) (clocked-asking home now (with_marks_ended n) (marks-asking home n h))
 
 -- ---- milling
 
 -- a bucket is ready still
-more-ready : (home : Home) (r : ℕ) (n : PlainNode) → MayMill home r n → (ready home (advanced home r n) == 0) ≡ false → n.cursor + r + 1 ≤ complete_upto home n
+more-ready : (home : Home) (r : ℕ) (n : PlainNode) → MayMill home r n → (ready home (after_stable_buckets home r n) == 0) ≡ false → n.cursor + r + 1 ≤ complete_upto home n
 unfolding ready
 more-ready home r n may e =
-    let many : ready home (advanced home r n) ≡ complete_upto home n - (n.cursor + r) = rw (may.up, may.none) refl in
+    let many : ready home (after_stable_buckets home r n) ≡ complete_upto home n - (n.cursor + r) = rw (may.up, may.none) refl in
     let some : (complete_upto home n - (n.cursor + r) == 0) ≡ false = rw many at e in
     let positive : 1 ≤ complete_upto home n - (n.cursor + r) = not-zero (complete_upto home n - (n.cursor + r)) some in
     omega (arith, positive)
@@ -526,16 +526,16 @@ more-ready home r n may e =
     not-zero : (k : ℕ) → (k == 0) ≡ false → 1 ≤ k
     not-zero k d = grind (arith, common_steps)
 
-pub milled-asking : (home : Home) (most r : ℕ) (n : PlainNode) → IsPlace home → MayMill home r n → IsGood home most n → IsAsking home n → IsAsking home (milled home r n).after
-unfolding milled
+pub milled-asking : (home : Home) (most r : ℕ) (n : PlainNode) → IsPlace home → MayMill home r n → IsGood home most n → IsAsking home n → IsAsking home (mill_step home r n).after
+unfolding mill_step
 milled-asking home most r n place may g h =
-    (elim (is_stabilization n.state) as (λ c. is_stabilization n.state ≡ c → IsAsking home (give home (given_items (length (out_stable home n)) (given_stable home n m (c && ready home m == 0))) (reconciled (c && ready home m == 0) m)).after) [
+    (elim (is_stabilization n.state) as (λ c. is_stabilization n.state ≡ c → IsAsking home (give home (given_items (length (out_stable home n)) (given_stable home n m (c && ready home m == 0))) (after_last_correction (c && ready home m == 0) m)).after) [
       | false ↦ λ calm. record {
         runs = λ e. let w = h.runs e in absurd (unclosed w.unstable calm);
         busy = λ up e. let clash : true ≡ false = sym e ∙ calm in cc;
         promise = h.promise;
       }
-      | true ↦ λ busy. (elim (ready home m == 0) as (λ d. (ready home m == 0) ≡ d → IsAsking home (give home (given_items (length (out_stable home n)) (given_stable home n m d)) (reconciled d m)).after) [
+      | true ↦ λ busy. (elim (ready home m == 0) as (λ d. (ready home m == 0) ≡ d → IsAsking home (give home (given_items (length (out_stable home n)) (given_stable home n m d)) (after_last_correction d m)).after) [
         | true ↦ λ e. record { runs = λ f. cc; busy = λ up f. cc; promise = finished-proper home n.grants h.promise }
         | false ↦ λ e. record {
           runs = λ f. let w = h.runs f in record { up = w.up; unstable = w.unstable; first = reaches_least home.plan.width (n.cursor + r + 1) (held_by n) place.checked.width (more-ready home r n may e) };
@@ -546,7 +546,7 @@ milled-asking home most r n place may g h =
     ]) refl
   where
     m : PlainNode
-    m = advanced home r n
+    m = after_stable_buckets home r n
 
     unclosed : is_stable n.state ≡ false → is_stabilization n.state ≡ false → ⊥
     unclosed e f =

@@ -2,7 +2,7 @@
 use Rattle.std.proofs.Common.{ℕ, ◌+◌, true, false, cond, nat_lt, List, [], ◌∷◌, ◌++◌, map, Option, Some, None}
 use Rattle.std.specs.Prelude.{zip}
 use Rattle.dpc_model.specs.Lists.{nth, insert_by}
-use Rattle.dpc_model.specs.Inlets.{reopened, asked_by}
+use Rattle.dpc_model.specs.Inlets.{with_next_session, asked_by}
 use Rattle.dpc_model.specs.Actors.{senders_of}
 use Rattle.dpc_model.specs.Ports.{Port, choice_at, must_reopen, subscriptions}
 use Rattle.dpc_model.specs.Sessions.{Sub, link_of, batches_from, batches_of}
@@ -61,8 +61,8 @@ module _ (P : Mail → Type 0) where
   each-subscription plan [] ss h = tt
   each-subscription plan (p ∷ ports) [] h = tt
   each-subscription plan (p ∷ ports) (s ∷ ss) h =
-      elim (must_reopen p) as (λ b. Each P (mails (cond b (record { to = nth 0 (senders_of plan s) (choice_at p); message = message.Subscribe (asked_by (reopened p.inlet)) } ∷ []) [] ++ subscriptions plan ports ss))) [
-        | true ↦ (h (nth 0 (senders_of plan s) (choice_at p)) (asked_by (reopened p.inlet)), each-subscription plan ports ss h)
+      elim (must_reopen p) as (λ b. Each P (mails (cond b (record { to = nth 0 (senders_of plan s) (choice_at p); message = message.Subscribe (asked_by (with_next_session p.inlet)) } ∷ []) [] ++ subscriptions plan ports ss))) [
+        | true ↦ (h (nth 0 (senders_of plan s) (choice_at p)) (asked_by (with_next_session p.inlet)), each-subscription plan ports ss h)
         | false ↦ each-subscription plan ports ss h
       ]
 

@@ -6,9 +6,9 @@ use Rattle.dpc_model.specs.declared.messages.Event.{Event}
 use Rattle.dpc_model.specs.declared.messages.Event.TheVariants.{Phase, Emit, Release, Cut, Heal, Crash, Restart, Deliver, Tick, Mill}
 use Rattle.dpc_model.specs.Lists.{push}
 use Rattle.node_model.specs.Nodes.{PlainNode}
-use Rattle.node_model.specs.NodeSteps.{delivered, milled, ticked_at}
-use Rattle.node_model.specs.Sources.{source_emits, source_releases, source_delivered, source_ticked}
-use Rattle.node_model.specs.Clients.{client_delivered, client_ticked}
+use Rattle.node_model.specs.NodeSteps.{packet_step, mill_step, tick_step}
+use Rattle.node_model.specs.Sources.{source_emits, source_releases, source_packet_step, source_tick_step}
+use Rattle.node_model.specs.Clients.{client_after_packet, client_tick_step}
 use Rattle.world_model.specs.Worlds.{World, Envelope, Slot, home_of, node_place, slot_of, source_at, client_at, node_stepped, source_stepped, client_stepped, is_release_time, is_clock, emits, releases, link_up, cuts_link, crashes, restart_slot, restarts, node_takes, taken_by, can_come, comes, node_ticks, ticks, can_mill, node_mills, mills, happens}
 
 pub record AreCases (w : World) (P : Event → World → Type 0) : Type 0 where
@@ -17,17 +17,17 @@ pub record AreCases (w : World) (P : Event → World → Type 0) : Type 0 where
   pub emitted : (a s t : ℕ) → role_of w.plan a ≡ IsSource s → P (Emit a t) (source_stepped a (source_emits w.plan s t (source_at w s)) w)
   pub released : (a s t : ℕ) → role_of w.plan a ≡ IsSource s → P (Release a t) (source_stepped a (source_releases w.plan s t (source_at w s)) w)
   pub source_took : (k s : ℕ) (e : Envelope) → slice_get w.envelopes k ≡ Some e → can_come w e ≡ true → role_of w.plan e.to ≡ IsSource s →
-      P (Deliver k) (source_stepped e.to (source_delivered w.plan s e.sender e.packet (source_at w s)) w)
-  pub source_ticks : (a s now : ℕ) → role_of w.plan a ≡ IsSource s → P (Tick a now) (source_stepped a (source_ticked w.plan s now (source_at w s)) w)
+      P (Deliver k) (source_stepped e.to (source_packet_step w.plan s e.sender e.packet (source_at w s)) w)
+  pub source_ticks : (a s now : ℕ) → role_of w.plan a ≡ IsSource s → P (Tick a now) (source_stepped a (source_tick_step w.plan s now (source_at w s)) w)
   pub crashed : (a f r : ℕ) → role_of w.plan a ≡ IsNode f r → P (Crash a) (record w { nodes = changed (node_place w.plan a) (λ (slot : Slot). record slot { node = None }) w.nodes })
   pub restarted : (a i f r : ℕ) → role_of w.plan a ≡ IsNode f r → P (Restart a i) (record w { nodes = changed (node_place w.plan a) (restart_slot (home_of w.plan (f, r)) i) w.nodes })
   pub node_took : (k f r : ℕ) (e : Envelope) (n : PlainNode) → slice_get w.envelopes k ≡ Some e → can_come w e ≡ true → role_of w.plan e.to ≡ IsNode f r → (slot_of w e.to).node ≡ Some n →
-      P (Deliver k) (node_stepped e.to (delivered (home_of w.plan (f, r)) e.sender e.packet n) w)
-  pub node_ticked : (a now f r : ℕ) (n : PlainNode) → role_of w.plan a ≡ IsNode f r → (slot_of w a).node ≡ Some n → is_clock n.clock now ≡ true → P (Tick a now) (node_stepped a (ticked_at (home_of w.plan (f, r)) now n) w)
-  pub node_milled : (a r f q : ℕ) (n : PlainNode) → role_of w.plan a ≡ IsNode f q → (slot_of w a).node ≡ Some n → can_mill (home_of w.plan (f, q)) r n ≡ true → P (Mill a r) (node_stepped a (milled (home_of w.plan (f, q)) r n) w)
+      P (Deliver k) (node_stepped e.to (packet_step (home_of w.plan (f, r)) e.sender e.packet n) w)
+  pub node_ticked : (a now f r : ℕ) (n : PlainNode) → role_of w.plan a ≡ IsNode f r → (slot_of w a).node ≡ Some n → is_clock n.clock now ≡ true → P (Tick a now) (node_stepped a (tick_step (home_of w.plan (f, r)) now n) w)
+  pub node_milled : (a r f q : ℕ) (n : PlainNode) → role_of w.plan a ≡ IsNode f q → (slot_of w a).node ≡ Some n → can_mill (home_of w.plan (f, q)) r n ≡ true → P (Mill a r) (node_stepped a (mill_step (home_of w.plan (f, q)) r n) w)
   pub client_took : (k c : ℕ) (e : Envelope) → slice_get w.envelopes k ≡ Some e → can_come w e ≡ true → role_of w.plan e.to ≡ IsClient c →
-      P (Deliver k) (record w { clients = changed c (client_delivered w.plan c e.sender e.packet) w.clients })
-  pub client_ticks : (a c now : ℕ) → role_of w.plan a ≡ IsClient c → P (Tick a now) (client_stepped a c (client_ticked w.plan c now (client_at w c)) w)
+      P (Deliver k) (record w { clients = changed c (client_after_packet w.plan c e.sender e.packet) w.clients })
+  pub client_ticks : (a c now : ℕ) → role_of w.plan a ≡ IsClient c → P (Tick a now) (client_stepped a c (client_tick_step w.plan c now (client_at w c)) w)
 
 module _ (w : World) (P : Event → World → Type 0) (c : AreCases w P) where
   by-emit : (a t : ℕ) (role : Role) → role_of w.plan a ≡ role → P (Emit a t) (emits w a t role)
@@ -78,17 +78,17 @@ module _ (w : World) (P : Event → World → Type 0) (c : AreCases w P) where
       ]) refl
 
   by-tick : (a now : ℕ) (role : Role) → role_of w.plan a ≡ role → P (Tick a now) (ticks w a now role)
-  by-tick a now (IsSource s) e = elim (is_clock (source_at w s).clock now) as (λ b. P (Tick a now) (cond b (source_stepped a (source_ticked w.plan s now (source_at w s)) w) w)) [ true ↦ c.source_ticks a s now e | false ↦ c.still (Tick a now) ]
+  by-tick a now (IsSource s) e = elim (is_clock (source_at w s).clock now) as (λ b. P (Tick a now) (cond b (source_stepped a (source_tick_step w.plan s now (source_at w s)) w) w)) [ true ↦ c.source_ticks a s now e | false ↦ c.still (Tick a now) ]
   by-tick a now (IsNode f r) e = by-node (slot_of w a).node refl
     where
       by-node : (o : Option PlainNode) → (slot_of w a).node ≡ o → P (Tick a now) (node_ticks w a now (home_of w.plan (f, r)) o)
       by-node None up = c.still (Tick a now)
       by-node (Some n) up =
-          (elim (is_clock n.clock now) as (λ b. is_clock n.clock now ≡ b → P (Tick a now) (cond b (node_stepped a (ticked_at (home_of w.plan (f, r)) now n) w) w)) [
+          (elim (is_clock n.clock now) as (λ b. is_clock n.clock now ≡ b → P (Tick a now) (cond b (node_stepped a (tick_step (home_of w.plan (f, r)) now n) w) w)) [
             | true ↦ λ clock. c.node_ticked a now f r n e up clock
             | false ↦ λ clock. c.still (Tick a now)
           ]) refl
-  by-tick a now (IsClient x) e = elim (is_clock (client_at w x).clock now) as (λ b. P (Tick a now) (cond b (client_stepped a x (client_ticked w.plan x now (client_at w x)) w) w)) [ true ↦ c.client_ticks a x now e | false ↦ c.still (Tick a now) ]
+  by-tick a now (IsClient x) e = elim (is_clock (client_at w x).clock now) as (λ b. P (Tick a now) (cond b (client_stepped a x (client_tick_step w.plan x now (client_at w x)) w) w)) [ true ↦ c.client_ticks a x now e | false ↦ c.still (Tick a now) ]
   by-tick a now Nobody e = c.still (Tick a now)
 
   by-mill : (a r : ℕ) (role : Role) → role_of w.plan a ≡ role → P (Mill a r) (mills w a r role)
@@ -97,7 +97,7 @@ module _ (w : World) (P : Event → World → Type 0) (c : AreCases w P) where
       by-node : (o : Option PlainNode) → (slot_of w a).node ≡ o → P (Mill a r) (node_mills w a r (home_of w.plan (f, q)) o)
       by-node None up = c.still (Mill a r)
       by-node (Some n) up =
-          (elim (can_mill (home_of w.plan (f, q)) r n) as (λ b. can_mill (home_of w.plan (f, q)) r n ≡ b → P (Mill a r) (cond b (node_stepped a (milled (home_of w.plan (f, q)) r n) w) w)) [
+          (elim (can_mill (home_of w.plan (f, q)) r n) as (λ b. can_mill (home_of w.plan (f, q)) r n ≡ b → P (Mill a r) (cond b (node_stepped a (mill_step (home_of w.plan (f, q)) r n) w) w)) [
             | true ↦ λ can. c.node_milled a r f q n e up can
             | false ↦ λ can. c.still (Mill a r)
           ]) refl

@@ -15,7 +15,7 @@ use Rattle.node_model.specs.Mails.{Packet, Plain, SnapFor}
 use Rattle.node_model.specs.Sources.{SourceState, source_readers, new_source}
 use Rattle.world_model.specs.Worlds.{Envelope, source_at, no_source, run_from, run, new_world}
 use Rattle.world_model.specs.Orderly.{is_fitting, packet_way, carries_fitting}
-use Rattle.world_model.specs.SessionLaw.{Line}
+use Rattle.world_model.specs.SessionLaw.{Channel}
 use Rattle.world_safety.specs.Plans.{IsCheckedPlan}
 use Rattle.world_safety.proofs.Tests.{both, eq-of, eq-test}
 use Rattle.world_safety.proofs.Numbering.{all-at, role-split, source-at as source-number, length-range}
@@ -110,7 +110,7 @@ batch-way plan from to s (Plain (message.Grant i n)) v e way = cc
 batch-way plan from to s (Plain (message.SnapAsk i n)) v e way = cc
 batch-way plan from to s (SnapFor i try snap) v e way = cc
 
-index-parts : (l : Line) (e : Envelope) (v : ℕ) → index_of l e ≡ Some v → (e.sender ≡ l.sender) × (e.to ≡ l.reader) × (index_in l.sess e.packet ≡ Some v)
+index-parts : (l : Channel) (e : Envelope) (v : ℕ) → index_of l e ≡ Some v → (e.sender ≡ l.sender) × (e.to ≡ l.reader) × (index_in l.sess e.packet ≡ Some v)
 index-parts l e v h =
     (elim (e.sender == l.sender && e.to == l.reader) as (λ b. (e.sender == l.sender && e.to == l.reader) ≡ b → cond {A = Option ℕ} b (index_in l.sess e.packet) None ≡ Some v → (e.sender ≡ l.sender) × (e.to ≡ l.reader) × (index_in l.sess e.packet ≡ Some v)) [
       | true ↦ λ c d. let p = both (e.sender == l.sender) (e.to == l.reader) c in (eq-of e.sender l.sender p.0, eq-of e.to l.reader p.1, d)
@@ -164,7 +164,7 @@ sent-in-order plan events a x i s checked reads answered = by-role (role_of plan
 
 -- ---- the law
 
-sender-reads : (plan : Plan) (events : List Event) (l : Line) (k v : ℕ) → IsCheckedPlan plan → IsBatchAt l (run plan events).envelopes k v → reads_from plan (role_of plan l.reader) (role_of plan l.sender) ≡ true
+sender-reads : (plan : Plan) (events : List Event) (l : Channel) (k v : ℕ) → IsCheckedPlan plan → IsBatchAt l (run plan events).envelopes k v → reads_from plan (role_of plan l.reader) (role_of plan l.sender) ≡ true
 unfolding run
 sender-reads plan events l k v checked b =
     let w = run_from (new_world plan) events in

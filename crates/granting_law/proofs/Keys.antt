@@ -2,7 +2,7 @@
 use Rattle.std.proofs.Common.{◌≡◌, ℕ, zero, suc, ◌+◌, ◌<◌, ◌≤◌, Bool, true, false, cond, not, ◌&&◌, ◌==◌, List, [], ◌∷◌, refl, sym, ap, subst, ◌∙◌, arith, Option, Some, None, ◌⊎◌, inl, inr}
 use Rattle.std.proofs.lemmas.Grind.{common_steps}
 use Rattle.dpc_model.specs.Lists.{nth, changed}
-use Rattle.dpc_model.specs.Granting.{Key, key_le, greater_key, Grants, granted, promise_to, told, heard_more, promise_after, after_silence, promise_kept, asking, finished, promised_other}
+use Rattle.dpc_model.specs.Granting.{Key, key_le, greater_key, Grants, with_promise, promise_to, after_peer_beat, later_key, promise_after, after_silence, promise_kept, with_ask, with_ask_over, promised_other}
 use Rattle.world_safety.proofs.Tests.{both, eq-of}
 
 -- ---- keys
@@ -53,11 +53,11 @@ module _ (Hears Asks Ends : ℕ → Key → Type 0) where
         holds = λ q key p ends. (key, p, key-refl key);
       })
 
-  pub step-asking : (g h : Grants) → IsAskStep Hears Asks Ends g h → IsAskStep Hears Asks Ends g (asking h)
+  pub step-asking : (g h : Grants) → IsAskStep Hears Asks Ends g h → IsAskStep Hears Asks Ends g (with_ask h)
   step-asking g h s =
       record { me = s.me; inc = s.inc; over = s.over; runs = λ r. inl refl; heard = s.heard; promise = s.promise; holds = s.holds }
 
-  pub step-finished : (g h : Grants) → IsAskStep Hears Asks Ends g h → IsAskStep Hears Asks Ends g (finished h)
+  pub step-finished : (g h : Grants) → IsAskStep Hears Asks Ends g h → IsAskStep Hears Asks Ends g (with_ask_over h)
   step-finished g h s =
       (elim h.running as (λ b. h.running ≡ b → IsAskStep Hears Asks Ends g (record h { running = false; over = cond b (h.over + 1) h.over })) [
         | true ↦ λ e.
@@ -94,28 +94,28 @@ nth-changed d (suc i) f (x ∷ xs) (suc j) =
     ]
 
 module _ (Hears Asks Ends : ℕ → Key → Type 0) where
-  -- what a beat told
-  pub step-told : (g : Grants) (r : ℕ) (k : Key) → Hears r k → ((key : Key) → key_le key k ≡ true → Ends r key) → IsAskStep Hears Asks Ends g (told g r k)
+  -- what a beat after_peer_beat
+  pub step-told : (g : Grants) (r : ℕ) (k : Key) → Hears r k → ((key : Key) → key_le key k ≡ true → Ends r key) → IsAskStep Hears Asks Ends g (after_peer_beat g r k)
   step-told g r k hears ends =
       record {
         me = refl;
         inc = refl;
         over = omega arith;
         runs = λ e. inl e;
-        heard = λ q key e. heard q key (nth-changed None r (heard_more k) g.heard q) e;
+        heard = λ q key e. heard q key (nth-changed None r (later_key k) g.heard q) e;
         promise = λ q key e. inl (kept q key g.promise refl e);
         holds = λ q key e not_over. (key, still q key e not_over, key-refl key);
       }
     where
-      heard : (q : ℕ) (key : Key) → (nth None (told g r k).heard q ≡ nth None g.heard q) ⊎ ((q ≡ r) × (nth None (told g r k).heard q ≡ heard_more k (nth None g.heard q))) →
-          nth None (told g r k).heard q ≡ Some key → (nth None g.heard q ≡ Some key) ⊎ Hears q key
+      heard : (q : ℕ) (key : Key) → (nth None (after_peer_beat g r k).heard q ≡ nth None g.heard q) ⊎ ((q ≡ r) × (nth None (after_peer_beat g r k).heard q ≡ later_key k (nth None g.heard q))) →
+          nth None (after_peer_beat g r k).heard q ≡ Some key → (nth None g.heard q ≡ Some key) ⊎ Hears q key
       heard q key (inl same) e = inl (sym same ∙ e)
       heard q key (inr here) e = by-old (nth None g.heard q) refl (sym here.1 ∙ e)
         where
           now : k ≡ key → Hears q key
           now same = subst (λ (x : Key). Hears q x) same (subst (λ (x : ℕ). Hears x k) (sym here.0) hears)
 
-          by-old : (o : Option Key) → nth None g.heard q ≡ o → heard_more k o ≡ Some key → (nth None g.heard q ≡ Some key) ⊎ Hears q key
+          by-old : (o : Option Key) → nth None g.heard q ≡ o → later_key k o ≡ Some key → (nth None g.heard q ≡ Some key) ⊎ Hears q key
           by-old None f d = inr (now (some-key k key d))
           by-old (Some x) f d =
               let name : greater_key x k ≡ key = some-key (greater_key x k) key d in
@@ -140,7 +140,7 @@ module _ (Hears Asks Ends : ℕ → Key → Type 0) where
           ]) refl)
 
   -- a promise
-  pub step-granted : (g : Grants) (r : ℕ) (k : Key) → Asks r k → promised_other g r ≡ false → IsAskStep Hears Asks Ends g (granted g r k)
+  pub step-granted : (g : Grants) (r : ℕ) (k : Key) → Asks r k → promised_other g r ≡ false → IsAskStep Hears Asks Ends g (with_promise g r k)
   step-granted g r k asks same =
       record {
         me = refl;
@@ -177,7 +177,7 @@ module _ (Hears Asks Ends : ℕ → Key → Type 0) where
           pair-same : (x y : ℕ) (u v : Key) → x ≡ y → u ≡ v → ◌≡◌ {A = ℕ × Key} (x, u) (y, v)
           pair-same x y u v c d = rw (c, d) refl
 
-      held : (q : ℕ) (key : Key) → g.promise ≡ Some (q, key) → (granted g r k).promise ≡ Some (q, greater_key key k)
+      held : (q : ℕ) (key : Key) → g.promise ≡ Some (q, key) → (with_promise g r k).promise ≡ Some (q, greater_key key k)
       held q key e =
           let place : q ≡ r = same-place (q, key) e in
           let now : promise_to g r k ≡ (r, greater_key key k) = rw e refl in

@@ -4,11 +4,11 @@ use Rattle.std.specs.Prelude.{is_none}
 use Rattle.std.proofs.lemmas.Grind.{common_steps}
 use Rattle.dpc_model.specs.Lists.{nth, changed, list_all}
 use Rattle.dpc_model.specs.Reading.{Folded, fold_items}
-use Rattle.dpc_model.specs.Inlets.{InletState, Took, reopened, take_batch, same_sess, broken_by, used, heard, shows_loss}
+use Rattle.dpc_model.specs.Inlets.{InletState, AfterBatch, with_next_session, take_batch, same_sess, after_missing_batch, after_next_batch, after_link, shows_loss}
 use Rattle.dpc_model.specs.Replicas.{is_silent}
-use Rattle.dpc_model.specs.Granting.{own_key, asking, may_enter_by, grants, granted}
+use Rattle.dpc_model.specs.Granting.{own_key, with_ask, may_enter_by, grants, with_promise}
 use Rattle.dpc_model.specs.Actors.{replicas_of}
-use Rattle.dpc_model.specs.Ports.{Port, no_port, sender_at, marks_ended, on_beat, on_truncated, all_truncated, port_ticked, port_chosen, choice_at, must_reopen}
+use Rattle.dpc_model.specs.Ports.{Port, no_port, sender_at, without_ended_marks, on_beat, on_truncated, all_truncated, port_after_tick, port_after_choice, choice_at, must_reopen}
 use Rattle.dpc_model.specs.declared.batches.Taken.{Taken}
 use Rattle.dpc_model.specs.declared.batches.Taken.TheVariants.{Used, Old, Broken}
 use Rattle.dpc_model.specs.declared.tuples.Item.{Item}
@@ -21,7 +21,7 @@ use Rattle.dpc_model.specs.declared.messages.Message.TheVariants as message
 use Rattle.node_model.specs.Mails.{Snap, Packet, Plain, SnapFor, mail, to_each, Stepped}
 use Rattle.dpc_model.specs.NodeStates.{is_up_failure, is_stabilization}
 use Rattle.node_model.specs.Nodes.{Home, PlainNode, streams_of, due_at, wants_to_reconcile}
-use Rattle.node_model.specs.NodeSteps.{silently, then_do, peers_of, peer_watches, replica_number, reader_place, with_port, port_emptied, ports_adopted, entered, recovering_again, adopted, took, stamped_by, on_batch, on_subscribe, on_truncation, on_upstream_beat, on_peer_beat, on_ack, on_ask, on_grant, on_snap_ask, on_snap, on_message, on_packet, with_marks_ended, delivered, milled, clocked, may_start_afresh, choosing, reconciling, processed_upto, processing, announcing, serving, asking_snapshots, going_on, fresh, ticked_at}
+use Rattle.node_model.specs.NodeSteps.{silent_step, then_do, peers_of, peer_watches, replica_number, reader_place, with_port, emptied_port, adopted_ports, enter_step, after_loss, after_adoption, after_taking, with_stamps_of, on_batch, on_subscribe, on_truncation, on_upstream_beat, on_peer_beat, on_ack, on_ask, on_grant, on_snap_ask, on_snap, on_message, on_packet, with_marks_ended, packet_step, mill_step, after_clock, may_start_afresh, choice_step, ask_step, processing_upto, processing_step, announcing_step, serving_step, snapshot_ask_step, rest_of_tick, with_fresh_start, tick_step}
 use Rattle.world_safety.proofs.Tests.{not-lt, eq-of}
 use Rattle.granting_law.specs.Taken.{index_in}
 
@@ -108,18 +108,18 @@ ports-changed T i f ps h p r e =
 
 -- ---- taking a batch
 
--- a batch that is used is the next one of the session
+-- a batch that is after_next_batch is the next one of the session
 pub took-moves : (T : ℕ → Sess → ℕ → Type 0) (q : Port) (u : Sess) (index : ℕ) (items : List Item) → (same_sess u q.inlet.sess ≡ true → index ≡ q.inlet.next → T q.chosen q.inlet.sess q.inlet.next) →
     Moves T q (record q { inlet = (take_batch q.inlet u index items).after })
 unfolding take_batch
 took-moves T q u index items h =
-    (elim (same_sess u q.inlet.sess) as (λ c. same_sess u q.inlet.sess ≡ c → Moves T q (record q { inlet = (cond {A = Took} (not c || nat_lt index q.inlet.next) (record { after = q.inlet; answer = Old }) (cond (q.inlet.broken || nat_lt q.inlet.next index) (broken_by q.inlet) (used q.inlet (fold_items q.inlet.held items)))).after })) [
+    (elim (same_sess u q.inlet.sess) as (λ c. same_sess u q.inlet.sess ≡ c → Moves T q (record q { inlet = (cond {A = AfterBatch} (not c || nat_lt index q.inlet.next) (record { after = q.inlet; answer = Old }) (cond (q.inlet.broken || nat_lt q.inlet.next index) (after_missing_batch q.inlet) (after_next_batch q.inlet (fold_items q.inlet.held items)))).after })) [
       | false ↦ λ e. inl (stays-same q q refl refl refl refl)
-      | true ↦ λ e. (elim (nat_lt index q.inlet.next) as (λ c. nat_lt index q.inlet.next ≡ c → Moves T q (record q { inlet = (cond {A = Took} c (record { after = q.inlet; answer = Old }) (cond (q.inlet.broken || nat_lt q.inlet.next index) (broken_by q.inlet) (used q.inlet (fold_items q.inlet.held items)))).after })) [
+      | true ↦ λ e. (elim (nat_lt index q.inlet.next) as (λ c. nat_lt index q.inlet.next ≡ c → Moves T q (record q { inlet = (cond {A = AfterBatch} c (record { after = q.inlet; answer = Old }) (cond (q.inlet.broken || nat_lt q.inlet.next index) (after_missing_batch q.inlet) (after_next_batch q.inlet (fold_items q.inlet.held items)))).after })) [
         | true ↦ λ f. inl (stays-same q q refl refl refl refl)
-        | false ↦ λ f. (elim q.inlet.broken as (λ c. q.inlet.broken ≡ c → Moves T q (record q { inlet = (cond {A = Took} (c || nat_lt q.inlet.next index) (broken_by q.inlet) (used q.inlet (fold_items q.inlet.held items))).after })) [
+        | false ↦ λ f. (elim q.inlet.broken as (λ c. q.inlet.broken ≡ c → Moves T q (record q { inlet = (cond {A = AfterBatch} (c || nat_lt q.inlet.next index) (after_missing_batch q.inlet) (after_next_batch q.inlet (fold_items q.inlet.held items))).after })) [
           | true ↦ λ g. inl broke
-          | false ↦ λ g. (elim (nat_lt q.inlet.next index) as (λ c. nat_lt q.inlet.next index ≡ c → Moves T q (record q { inlet = (cond {A = Took} c (broken_by q.inlet) (used q.inlet (fold_items q.inlet.held items))).after })) [
+          | false ↦ λ g. (elim (nat_lt q.inlet.next index) as (λ c. nat_lt q.inlet.next index ≡ c → Moves T q (record q { inlet = (cond {A = AfterBatch} c (after_missing_batch q.inlet) (after_next_batch q.inlet (fold_items q.inlet.held items))).after })) [
             | true ↦ λ d. inl broke
             | false ↦ λ d.
                 let low = not-lt index q.inlet.next f in
@@ -130,16 +130,16 @@ took-moves T q u index items h =
       ]) refl
     ]) refl
   where
-    broke : Stays q (record q { inlet = (broken_by q.inlet).after })
+    broke : Stays q (record q { inlet = (after_missing_batch q.inlet).after })
     broke = record { sess = refl; chosen = refl; next = λ e. cc; none = λ e. absurd (omega (arith, e)) }
 
-    by-folded : (o : Option Folded) → q.inlet.broken ≡ false → T q.chosen q.inlet.sess q.inlet.next → Moves T q (record q { inlet = (used q.inlet o).after })
+    by-folded : (o : Option Folded) → q.inlet.broken ≡ false → T q.chosen q.inlet.sess q.inlet.next → Moves T q (record q { inlet = (after_next_batch q.inlet o).after })
     by-folded None g it = inl broke
     by-folded (Some f) g it = inr (inr (record { sess = refl; chosen = refl; sound = g; next = refl; it = it }))
 
 pub beat-moves : (T : ℕ → Sess → ℕ → Type 0) (q : Port) (r : ℕ) (b : Beat) → Moves T q (on_beat r b q)
 beat-moves T q r b =
-    elim (r == q.chosen) as (λ c. Moves T q (record { inlet = cond c (heard q.inlet b.link) q.inlet; chosen = q.chosen; watches = (on_beat r b q).watches; ticks = q.ticks })) [
+    elim (r == q.chosen) as (λ c. Moves T q (record { inlet = cond c (after_link q.inlet b.link) q.inlet; chosen = q.chosen; watches = (on_beat r b q).watches; ticks = q.ticks })) [
       | true ↦ inl (record { sess = refl; chosen = refl; next = λ e. (first q.inlet.broken (shows_loss q.inlet b.link) e, refl); none = λ e. absurd (omega (arith, e)) })
       | false ↦ inl (record { sess = refl; chosen = refl; next = λ e. (e, refl); none = λ e. absurd (omega (arith, e)) })
     ]
@@ -151,12 +151,12 @@ beat-moves T q r b =
 pub truncated-moves : (T : ℕ → Sess → ℕ → Type 0) (q : Port) (r : ℕ) (u : Sess) (base : ℕ) → Moves T q (on_truncated r u base q)
 truncated-moves T q r u base = inl (stays-same q (on_truncated r u base q) refl refl refl refl)
 
-pub emptied-moves : (T : ℕ → Sess → ℕ → Type 0) (q : Port) (ts : List Tuple) (b : ℕ) → Moves T q (port_emptied ts b q)
+pub emptied-moves : (T : ℕ → Sess → ℕ → Type 0) (q : Port) (ts : List Tuple) (b : ℕ) → Moves T q (emptied_port ts b q)
 emptied-moves T q ts b = inl (record { sess = refl; chosen = refl; next = λ e. cc; none = λ e. absurd (omega (arith, e)) })
 
-pub chosen-moves : (T : ℕ → Sess → ℕ → Type 0) (q : Port) → Moves T q (port_chosen q)
+pub chosen-moves : (T : ℕ → Sess → ℕ → Type 0) (q : Port) → Moves T q (port_after_choice q)
 chosen-moves T q =
-    (elim (must_reopen q) as (λ c. must_reopen q ≡ c → Moves T q (record q { inlet = cond c (reopened q.inlet) q.inlet; chosen = choice_at q; ticks = cond c 0 q.ticks })) [
+    (elim (must_reopen q) as (λ c. must_reopen q ≡ c → Moves T q (record q { inlet = cond c (with_next_session q.inlet) q.inlet; chosen = choice_at q; ticks = cond c 0 q.ticks })) [
       | true ↦ λ e. inr (inl (record { sess = other q.inlet.sess; next = refl }))
       | false ↦ λ e. inl (stays-same q (record q { chosen = choice_at q }) refl (eq-of (choice_at q) q.chosen (first (choice_at q == q.chosen) q.inlet.broken (not q.inlet.answered && nat_le 3 q.ticks) e)) refl refl)
     ]) refl
@@ -174,7 +174,7 @@ chosen-moves T q =
 abbrev pub DeliversNext : Home → ℕ → Packet → ℕ → ℕ → Sess → ℕ → Type 0
 DeliversNext home a packet p r s i = (sender_at home.plan (streams_of home) a ≡ Some (p, r)) × (index_in s packet ≡ Some i)
 
-stamped-ports : (home : Home) (x : Taken) (n : PlainNode) → (stamped_by home x n).ports ≡ n.ports
+stamped-ports : (home : Home) (x : Taken) (n : PlainNode) → (with_stamps_of home x n).ports ≡ n.ports
 stamped-ports home (Used items) n = refl
 stamped-ports home Old n = refl
 stamped-ports home Broken n = refl
@@ -190,7 +190,7 @@ module _ (home : Home) (a : ℕ) (packet : Packet) where
   batch-ports u index items None n e same = ports-stay (DeliversNext home a packet) n.ports n.ports refl
   batch-ports u index items (Some pr) n e same =
       let port = nth no_port n.ports pr.0 in
-      (elim (port.chosen == pr.1) as (λ c. (port.chosen == pr.1) ≡ c → NodeMoves n (cond c (took home pr.0 (take_batch port.inlet u index items) n) n)) [
+      (elim (port.chosen == pr.1) as (λ c. (port.chosen == pr.1) ≡ c → NodeMoves n (cond c (after_taking home pr.0 (take_batch port.inlet u index items) n) n)) [
         | false ↦ λ f. ports-stay (DeliversNext home a packet) n.ports n.ports refl
         | true ↦ λ f. subst (λ (ps : List Port). PortsMove (DeliversNext home a packet) n.ports ps)
             (sym (stamped-ports home (take_batch port.inlet u index items).answer (with_port pr.0 (λ q. record q { inlet = (take_batch port.inlet u index items).after }) n)))
@@ -209,13 +209,13 @@ module _ (home : Home) (a : ℕ) (packet : Packet) where
           named s i x = rw (same, s, i) refl
 
   truncation-ports : (u : Sess) (base : ℕ) (o : Option (ℕ × ℕ)) (n : PlainNode) → NodeMoves n (on_truncation home u base o n)
-  unfolding recovering_again
+  unfolding after_loss
   truncation-ports u base None n = ports-stay (DeliversNext home a packet) n.ports n.ports refl
   truncation-ports u base (Some pr) n =
       let old = nth no_port n.ports pr.0 in
       let port = on_truncated pr.1 u base old in
       let m = with_port pr.0 (λ _. port) n in
-      elim (same_sess u old.inlet.sess && all_truncated port) as (λ b. NodeMoves n (cond b (recovering_again home m) m)) [
+      elim (same_sess u old.inlet.sess && all_truncated port) as (λ b. NodeMoves n (cond b (after_loss home m) m)) [
         | true ↦ gone
         | false ↦ ports-changed (DeliversNext home a packet) pr.0 (λ _. port) n.ports (λ q there. marked-port q there)
       ]
@@ -223,20 +223,20 @@ module _ (home : Home) (a : ℕ) (packet : Packet) where
       marked-port : (q : Port) → slice_get n.ports pr.0 ≡ Some q → Moves (DeliversNext home a packet pr.0) q (on_truncated pr.1 u base (nth no_port n.ports pr.0))
       marked-port q there = subst (λ (x : Port). Moves (DeliversNext home a packet pr.0) q (on_truncated pr.1 u base x)) (sym (nth-is n.ports pr.0 q there)) (truncated-moves (DeliversNext home a packet pr.0) q pr.1 u base)
 
-      emptied-after : (p : ℕ) (q m : Port) → m.inlet.sess ≡ q.inlet.sess → m.chosen ≡ q.chosen → Moves (DeliversNext home a packet p) q (port_emptied [] 0 m)
+      emptied-after : (p : ℕ) (q m : Port) → m.inlet.sess ≡ q.inlet.sess → m.chosen ≡ q.chosen → Moves (DeliversNext home a packet p) q (emptied_port [] 0 m)
       emptied-after p q m s c = inl (record { sess = s; chosen = c; next = λ e. cc; none = λ e. absurd (omega (arith, e)) })
 
-      gone : PortsMove (DeliversNext home a packet) n.ports (map (port_emptied [] 0) (changed pr.0 (λ _. on_truncated pr.1 u base (nth no_port n.ports pr.0)) n.ports))
+      gone : PortsMove (DeliversNext home a packet) n.ports (map (emptied_port [] 0) (changed pr.0 (λ _. on_truncated pr.1 u base (nth no_port n.ports pr.0)) n.ports))
       gone p r e =
-          let found = get-mapped (port_emptied [] 0) (changed pr.0 (λ _. on_truncated pr.1 u base (nth no_port n.ports pr.0)) n.ports) p r e in
+          let found = get-mapped (emptied_port [] 0) (changed pr.0 (λ _. on_truncated pr.1 u base (nth no_port n.ports pr.0)) n.ports) p r e in
           let was = get-was pr.0 (λ _. on_truncated pr.1 u base (nth no_port n.ports pr.0)) n.ports p found.0 found.1 in (
             was.0,
             was.1,
             subst (λ (x : Port). Moves (DeliversNext home a packet p) was.0 x) found.2 (elim was.2 [
-              | inl same ↦ subst (λ (x : Port). Moves (DeliversNext home a packet p) was.0 (port_emptied [] 0 x)) same (emptied-after p was.0 was.0 refl refl)
+              | inl same ↦ subst (λ (x : Port). Moves (DeliversNext home a packet p) was.0 (emptied_port [] 0 x)) same (emptied-after p was.0 was.0 refl refl)
               | inr here ↦
                   let it = nth-is n.ports pr.0 was.0 (subst (λ (x : ℕ). slice_get n.ports x ≡ Some was.0) here.0 was.1) in
-                  subst (λ (x : Port). Moves (DeliversNext home a packet p) was.0 (port_emptied [] 0 x)) (ap (λ (x : Port). on_truncated pr.1 u base x) (sym it) ∙ here.1)
+                  subst (λ (x : Port). Moves (DeliversNext home a packet p) was.0 (emptied_port [] 0 x)) (ap (λ (x : Port). on_truncated pr.1 u base x) (sym it) ∙ here.1)
                   (emptied-after p was.0 (on_truncated pr.1 u base was.0) refl refl)
             ]),
           )
@@ -259,45 +259,45 @@ module _ (home : Home) (a : ℕ) (packet : Packet) where
 
   ask-ports : (i ask : ℕ) (o : Option ℕ) (n : PlainNode) → (on_ask home i ask o n).after.ports ≡ n.ports
   ask-ports i ask None n = refl
-  ask-ports i ask (Some r) n = elim (grants n.grants n.state r (i, ask)) as (λ b. (cond {A = Stepped PlainNode} b (record { after = record n { grants = granted n.grants r (i, ask) }; sends = mail (nth 0 (replicas_of home.plan home.frag) r) (message.Grant i ask) ∷ [] }) (silently n)).after.ports ≡ n.ports) [
+  ask-ports i ask (Some r) n = elim (grants n.grants n.state r (i, ask)) as (λ b. (cond {A = Stepped PlainNode} b (record { after = record n { grants = with_promise n.grants r (i, ask) }; sends = mail (nth 0 (replicas_of home.plan home.frag) r) (message.Grant i ask) ∷ [] }) (silent_step n)).after.ports ≡ n.ports) [
     | true ↦ refl
     | false ↦ refl
   ]
 
-  adopted-ports : (s : Snap) (n : PlainNode) → NodeMoves n (adopted home s n)
-  unfolding adopted
+  adopted-ports : (s : Snap) (n : PlainNode) → NodeMoves n (after_adoption home s n)
+  unfolding after_adoption
   adopted-ports s n = among (s.cursor * home.plan.width) s.inputs n.ports
     where
-      among : (b : ℕ) (tss : List (List Tuple)) (ps : List Port) → PortsMove (DeliversNext home a packet) ps (ports_adopted b tss ps)
+      among : (b : ℕ) (tss : List (List Tuple)) (ps : List Port) → PortsMove (DeliversNext home a packet) ps (adopted_ports b tss ps)
       among b [] ps p r e = cc
       among b (ts ∷ tss) [] p r e = cc
-      among b (ts ∷ tss) (q ∷ ps) zero r e = (q, refl, subst (λ (x : Port). Moves (DeliversNext home a packet 0) q x) (some-port (port_emptied ts b q) r e) (emptied-moves (DeliversNext home a packet 0) q ts b))
+      among b (ts ∷ tss) (q ∷ ps) zero r e = (q, refl, subst (λ (x : Port). Moves (DeliversNext home a packet 0) q x) (some-port (emptied_port ts b q) r e) (emptied-moves (DeliversNext home a packet 0) q ts b))
         where
           some-port : (x y : Port) → ◌≡◌ {A = Option Port} (Some x) (Some y) → x ≡ y
           some-port x y f = cc
       among b (ts ∷ tss) (q ∷ ps) (suc p) r e = let k = shifted b tss ps p r e in k
         where
-          stays-any : (p : ℕ) (x : Port) (ts : List Tuple) (b : ℕ) → Moves (DeliversNext home a packet p) x (port_emptied ts b x)
+          stays-any : (p : ℕ) (x : Port) (ts : List Tuple) (b : ℕ) → Moves (DeliversNext home a packet p) x (emptied_port ts b x)
           stays-any p x ts b = emptied-moves (DeliversNext home a packet p) x ts b
 
-          shifted : (b : ℕ) (tss : List (List Tuple)) (ps : List Port) (i : ℕ) (r : Port) → slice_get (ports_adopted b tss ps) i ≡ Some r → (x : Port) × (slice_get ps i ≡ Some x) × Moves (DeliversNext home a packet (suc p)) x r
+          shifted : (b : ℕ) (tss : List (List Tuple)) (ps : List Port) (i : ℕ) (r : Port) → slice_get (adopted_ports b tss ps) i ≡ Some r → (x : Port) × (slice_get ps i ≡ Some x) × Moves (DeliversNext home a packet (suc p)) x r
           shifted b [] ps i r e = cc
           shifted b (ts ∷ tss) [] i r e = cc
-          shifted b (ts ∷ tss) (x ∷ ps) zero r e = (x, refl, subst (λ (y : Port). Moves (DeliversNext home a packet (suc p)) x y) (some-port (port_emptied ts b x) r e) (stays-any (suc p) x ts b))
+          shifted b (ts ∷ tss) (x ∷ ps) zero r e = (x, refl, subst (λ (y : Port). Moves (DeliversNext home a packet (suc p)) x y) (some-port (emptied_port ts b x) r e) (stays-any (suc p) x ts b))
             where
               some-port : (x y : Port) → ◌≡◌ {A = Option Port} (Some x) (Some y) → x ≡ y
               some-port x y f = cc
           shifted b (ts ∷ tss) (x ∷ ps) (suc i) r e = shifted b tss ps i r e
 
-entered-ports : (home : Home) (n : PlainNode) → (entered home n).after.ports ≡ n.ports
-unfolding entered
+entered-ports : (home : Home) (n : PlainNode) → (enter_step home n).after.ports ≡ n.ports
+unfolding enter_step
 entered-ports home n = refl
 
 grant-ports : (home : Home) (i ask : ℕ) (n : PlainNode) → (on_grant home i ask n).after.ports ≡ n.ports
-grant-ports home i ask n = elim (is_up_failure n.state && may_enter_by n.grants (i, ask)) as (λ b. (cond {A = Stepped PlainNode} b (entered home n) (silently n)).after.ports ≡ n.ports) [ true ↦ entered-ports home n | false ↦ refl ]
+grant-ports home i ask n = elim (is_up_failure n.state && may_enter_by n.grants (i, ask)) as (λ b. (cond {A = Stepped PlainNode} b (enter_step home n) (silent_step n)).after.ports ≡ n.ports) [ true ↦ entered-ports home n | false ↦ refl ]
 
-unless-ports : (home : Home) (n : PlainNode) (s : Stepped PlainNode) → s.after.ports ≡ n.ports → (cond {A = Stepped PlainNode} n.recovering (silently n) s).after.ports ≡ n.ports
-unless-ports home n s h = elim n.recovering as (λ b. (cond {A = Stepped PlainNode} b (silently n) s).after.ports ≡ n.ports) [ true ↦ refl | false ↦ h ]
+unless-ports : (home : Home) (n : PlainNode) (s : Stepped PlainNode) → s.after.ports ≡ n.ports → (cond {A = Stepped PlainNode} n.recovering (silent_step n) s).after.ports ≡ n.ports
+unless-ports home n s h = elim n.recovering as (λ b. (cond {A = Stepped PlainNode} b (silent_step n) s).after.ports ≡ n.ports) [ true ↦ refl | false ↦ h ]
 
 message-ports : (home : Home) (a : ℕ) (m : Message) (n : PlainNode) → PortsMove (DeliversNext home a (Plain m)) n.ports (on_message home a m n).after.ports
 message-ports home a (message.Batch u index items) n = batch-ports home a (Plain (message.Batch u index items)) u index items (sender_at home.plan (streams_of home) a) n refl refl
@@ -320,7 +320,7 @@ message-ports home a (message.SnapAsk i try) n =
     ports-stay (DeliversNext home a (Plain (message.SnapAsk i try))) n.ports (on_message home a (message.SnapAsk i try) n).after.ports (unless-ports home n (on_snap_ask home a i try n) refl)
 
 snap-ports : (home : Home) (a i try : ℕ) (s : Snap) (n : PlainNode) → PortsMove (DeliversNext home a (SnapFor i try s)) n.ports (on_snap home i try s n).ports
-snap-ports home a i try s n = elim (n.recovering && i == n.grants.inc && try == n.tries) as (λ b. PortsMove (DeliversNext home a (SnapFor i try s)) n.ports (cond b (adopted home s n) n).ports) [
+snap-ports home a i try s n = elim (n.recovering && i == n.grants.inc && try == n.tries) as (λ b. PortsMove (DeliversNext home a (SnapFor i try s)) n.ports (cond b (after_adoption home s n) n).ports) [
   | true ↦ adopted-ports home a (SnapFor i try s) s n
   | false ↦ ports-stay (DeliversNext home a (SnapFor i try s)) n.ports n.ports refl
 ]
@@ -338,64 +338,64 @@ behind-map T f ps rs inlet chosen h p r e =
     let same : k.0.inlet ≡ q.inlet = ap (λ (x : Port). x.inlet) (sym found.2) ∙ inlet q in
     (q, found.1, stays-then (T p) q k.0 r (ap (λ (x : InletState). x.sess) same) (ap (λ (x : Port). x.chosen) (sym found.2) ∙ chosen q) (ap (λ (x : InletState). x.next) same) (ap (λ (x : InletState). x.broken) same) k.2)
 
-pub delivered-ports : (home : Home) (a : ℕ) (packet : Packet) (n : PlainNode) → PortsMove (DeliversNext home a packet) n.ports (delivered home a packet n).after.ports
-unfolding delivered
-delivered-ports home a packet n = behind-map (DeliversNext home a packet) marks_ended n.ports (delivered home a packet n).after.ports (λ q. refl) (λ q. refl) (packet-ports home a packet (with_marks_ended n))
+pub delivered-ports : (home : Home) (a : ℕ) (packet : Packet) (n : PlainNode) → PortsMove (DeliversNext home a packet) n.ports (packet_step home a packet n).after.ports
+unfolding packet_step
+delivered-ports home a packet n = behind-map (DeliversNext home a packet) without_ended_marks n.ports (packet_step home a packet n).after.ports (λ q. refl) (λ q. refl) (packet-ports home a packet (with_marks_ended n))
 
 -- ---- milling, and a tick
 
 abbrev pub NoneTaken : ℕ → ℕ → Sess → ℕ → Type 0
 NoneTaken p r s i = ⊥
 
-pub milled-ports : (home : Home) (r : ℕ) (n : PlainNode) → PortsMove NoneTaken n.ports (milled home r n).after.ports
-unfolding milled
+pub milled-ports : (home : Home) (r : ℕ) (n : PlainNode) → PortsMove NoneTaken n.ports (mill_step home r n).after.ports
+unfolding mill_step
 milled-ports home r n =
-    ports-stay NoneTaken n.ports (milled home r n).after.ports refl
+    ports-stay NoneTaken n.ports (mill_step home r n).after.ports refl
 
 abbrev HasPorts : List Port → Stepped PlainNode → Type 0
 HasPorts ps s = s.after.ports ≡ ps
 
-reconciling-ports : (home : Home) (n : PlainNode) → HasPorts n.ports (reconciling home n)
+reconciling-ports : (home : Home) (n : PlainNode) → HasPorts n.ports (ask_step home n)
 reconciling-ports home n =
-    elim (wants_to_reconcile home n && is_none n.grants.promise) as (λ b. HasPorts n.ports (cond b (cond (list_all is_silent (peer_watches home n)) (entered home n)
-    (record { after = record n { grants = asking n.grants }; sends = to_each (message.Ask (own_key n.grants).0 (own_key n.grants).1) (peers_of home) })) (silently n))) [
-      | true ↦ elim (list_all is_silent (peer_watches home n)) as (λ b. HasPorts n.ports (cond b (entered home n)
-          (record { after = record n { grants = asking n.grants }; sends = to_each (message.Ask (own_key n.grants).0 (own_key n.grants).1) (peers_of home) }))) [
+    elim (wants_to_reconcile home n && is_none n.grants.promise) as (λ b. HasPorts n.ports (cond b (cond (list_all is_silent (peer_watches home n)) (enter_step home n)
+    (record { after = record n { grants = with_ask n.grants }; sends = to_each (message.Ask (own_key n.grants).0 (own_key n.grants).1) (peers_of home) })) (silent_step n))) [
+      | true ↦ elim (list_all is_silent (peer_watches home n)) as (λ b. HasPorts n.ports (cond b (enter_step home n)
+          (record { after = record n { grants = with_ask n.grants }; sends = to_each (message.Ask (own_key n.grants).0 (own_key n.grants).1) (peers_of home) }))) [
             | true ↦ entered-ports home n
             | false ↦ refl
           ]
       | false ↦ refl
     ]
 
-processing-ports : (home : Home) (n : PlainNode) → HasPorts n.ports (processing home n)
+processing-ports : (home : Home) (n : PlainNode) → HasPorts n.ports (processing_step home n)
 processing-ports home n =
-    elim (is_stabilization n.state) as (λ b. HasPorts n.ports (cond b (silently n) (elim (due_at home n n.clock) [ None ↦ silently n | Some last ↦ processed_upto home last n ]))) [
+    elim (is_stabilization n.state) as (λ b. HasPorts n.ports (cond b (silent_step n) (elim (due_at home n n.clock) [ None ↦ silent_step n | Some last ↦ processing_upto home last n ]))) [
       | true ↦ refl
-      | false ↦ elim (due_at home n n.clock) as (λ o. HasPorts n.ports (elim o [ None ↦ silently n | Some last ↦ processed_upto home last n ])) [
+      | false ↦ elim (due_at home n n.clock) as (λ o. HasPorts n.ports (elim o [ None ↦ silent_step n | Some last ↦ processing_upto home last n ])) [
         | None ↦ refl
         | Some last ↦ refl
       ]
     ]
 
-serving-ports : (home : Home) (n : PlainNode) → PortsMove NoneTaken n.ports (serving home n).after.ports
+serving-ports : (home : Home) (n : PlainNode) → PortsMove NoneTaken n.ports (serving_step home n).after.ports
 serving-ports home n =
-    let a = choosing home n in
-    let b = reconciling home a.after in
+    let a = choice_step home n in
+    let b = ask_step home a.after in
     subst (λ (ps : List Port). PortsMove NoneTaken n.ports ps) (sym (processing-ports home b.after ∙ reconciling-ports home a.after))
-    (ports-map NoneTaken port_chosen n.ports (λ p q. chosen-moves (NoneTaken p) q))
+    (ports-map NoneTaken port_after_choice n.ports (λ p q. chosen-moves (NoneTaken p) q))
 
-going_on-ports : (home : Home) (n : PlainNode) → PortsMove NoneTaken n.ports (going_on home n).after.ports
+going_on-ports : (home : Home) (n : PlainNode) → PortsMove NoneTaken n.ports (rest_of_tick home n).after.ports
 going_on-ports home n =
-    elim n.recovering as (λ b. PortsMove NoneTaken n.ports (cond {A = Stepped PlainNode} (not b) (serving home n) (cond (may_start_afresh home n) (serving home (fresh n)) (then_do (asking_snapshots home n) (announcing home)))).after.ports) [
+    elim n.recovering as (λ b. PortsMove NoneTaken n.ports (cond {A = Stepped PlainNode} (not b) (serving_step home n) (cond (may_start_afresh home n) (serving_step home (with_fresh_start n)) (then_do (snapshot_ask_step home n) (announcing_step home)))).after.ports) [
       | false ↦ serving-ports home n
-      | true ↦ elim (may_start_afresh home n) as (λ b. PortsMove NoneTaken n.ports (cond {A = Stepped PlainNode} b (serving home (fresh n)) (then_do (asking_snapshots home n) (announcing home))).after.ports) [
-        | true ↦ serving-ports home (fresh n)
+      | true ↦ elim (may_start_afresh home n) as (λ b. PortsMove NoneTaken n.ports (cond {A = Stepped PlainNode} b (serving_step home (with_fresh_start n)) (then_do (snapshot_ask_step home n) (announcing_step home))).after.ports) [
+        | true ↦ serving-ports home (with_fresh_start n)
         | false ↦ ports-stay NoneTaken n.ports n.ports refl
       ]
     ]
 
-pub ticked-ports : (home : Home) (now : ℕ) (n : PlainNode) → PortsMove NoneTaken n.ports (ticked_at home now n).after.ports
-unfolding ticked_at
+pub ticked-ports : (home : Home) (now : ℕ) (n : PlainNode) → PortsMove NoneTaken n.ports (tick_step home now n).after.ports
+unfolding tick_step
 ticked-ports home now n =
-    behind-map NoneTaken marks_ended n.ports (ticked_at home now n).after.ports (λ q. refl) (λ q. refl)
-    (behind-map NoneTaken port_ticked (map marks_ended n.ports) (ticked_at home now n).after.ports (λ q. refl) (λ q. refl) (going_on-ports home (clocked now (with_marks_ended n))))
+    behind-map NoneTaken without_ended_marks n.ports (tick_step home now n).after.ports (λ q. refl) (λ q. refl)
+    (behind-map NoneTaken port_after_tick (map without_ended_marks n.ports) (tick_step home now n).after.ports (λ q. refl) (λ q. refl) (going_on-ports home (after_clock now (with_marks_ended n))))

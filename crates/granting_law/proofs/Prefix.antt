@@ -13,7 +13,7 @@ use Rattle.dpc_model.specs.declared.plans.StreamRef.TheVariants.{Frag}
 use Rattle.node_model.specs.Nodes.{Home, PlainNode, own_readers, first_session, new_node}
 use Rattle.world_model.specs.Worlds.{World, Envelope, Slot, home_of, happens, run_from, run, new_world}
 use Rattle.world_model.specs.Safe.{EachStep}
-use Rattle.world_model.specs.SessionLaw.{Line}
+use Rattle.world_model.specs.SessionLaw.{Channel}
 use Rattle.world_safety.specs.Plans.{IsCheckedPlan}
 use Rattle.world_safety.proofs.Histories.{AreDistinct}
 use Rattle.world_safety.proofs.Happening.{IsFine, happens-next}
@@ -33,7 +33,7 @@ range-at k (suc n) zero v e = let same : k ≡ v = cc in omega (arith, same)
 range-at k (suc n) (suc j) v e = let far = range-at (k + 1) n j v e in omega (arith, far)
 
 -- a batch stands at the place of its index among the indices
-batch-found : (l : Line) (k : ℕ) (es : List Envelope) (d v : ℕ) (e : Envelope) → slice_get es d ≡ Some e → index_of l e ≡ Some v → (j : ℕ) × (slice_get (batches_in l k es) j ≡ Some (k + d)) × (slice_get (indexes l es) j ≡ Some v)
+batch-found : (l : Channel) (k : ℕ) (es : List Envelope) (d v : ℕ) (e : Envelope) → slice_get es d ≡ Some e → index_of l e ≡ Some v → (j : ℕ) × (slice_get (batches_in l k es) j ≡ Some (k + d)) × (slice_get (indexes l es) j ≡ Some v)
 batch-found l k [] d v e there index = cc
 batch-found l k (x ∷ es) zero v e there index =
     let same : x ≡ e = cc in
@@ -62,7 +62,7 @@ agreeing (k ∷ ks) (n ∷ ns) h =
     some-is x y e = cc
 
 -- what is taken in order of what is sent in order is its beginning
-pub taken-first : (l : Line) (es : List Envelope) (many : ℕ) (ks : List ℕ) → indexes l es ≡ range_with_len 0 many → ((j k : ℕ) → slice_get ks j ≡ Some k → IsBatchAt l es k j) → IsPrefixOf ks (batches_in l 0 es)
+pub taken-first : (l : Channel) (es : List Envelope) (many : ℕ) (ks : List ℕ) → indexes l es ≡ range_with_len 0 many → ((j k : ℕ) → slice_get ks j ≡ Some k → IsBatchAt l es k j) → IsPrefixOf ks (batches_in l 0 es)
 taken-first l es many ks order h =
     agreeing ks (batches_in l 0 es) (λ j k e.
     let b = h j k e in

@@ -2,12 +2,12 @@
 use Rattle.std.proofs.Common.{◌≡◌, ℕ, ◌+◌, ◌-◌, Bool, true, false, cond, not, ◌&&◌, ◌||◌, ◌==◌, nat_lt, min, List, [], ◌∷◌, ◌++◌, map, length, refl, sym, subst, Option, Some, None}
 use Rattle.std.specs.Prelude.{is_none}
 use Rattle.dpc_model.specs.Lists.{nth, list_all}
-use Rattle.dpc_model.specs.Inlets.{Took, take_batch, same_sess}
+use Rattle.dpc_model.specs.Inlets.{AfterBatch, take_batch, same_sess}
 use Rattle.dpc_model.specs.Replicas.{is_silent}
-use Rattle.dpc_model.specs.Granting.{Key, key_le, Grants, own_key, grants, granted, promise_to, promised_other, known_over, may_enter_by, asking}
+use Rattle.dpc_model.specs.Granting.{Key, key_le, Grants, own_key, grants, with_promise, promise_to, promised_other, known_over, may_enter_by, with_ask}
 use Rattle.dpc_model.specs.Actors.{replicas_of}
 use Rattle.dpc_model.specs.Ports.{subscriptions, no_port, sender_at, on_truncated, all_truncated}
-use Rattle.dpc_model.specs.Sessions.{Sub, Shown, Answered, answered, is_newer_than_kept, first_batch, given_items}
+use Rattle.dpc_model.specs.Sessions.{Sub, Shown, Answered, answer_to, is_newer_than_kept, first_batch, given_items}
 use Rattle.dpc_model.specs.declared.batches.Taken.{Taken}
 use Rattle.dpc_model.specs.declared.batches.Taken.TheVariants.{Used, Old, Broken}
 use Rattle.dpc_model.specs.declared.tuples.Item.{Item}
@@ -22,7 +22,7 @@ use Rattle.dpc_model.specs.declared.messages.Message.TheVariants as message
 use Rattle.node_model.specs.Mails.{Snap, Packet, Plain, SnapFor, Mail, mail, mails, in_actor_order, to_each, Stepped}
 use Rattle.dpc_model.specs.NodeStates.{is_up_failure, is_stabilization}
 use Rattle.node_model.specs.Nodes.{Home, PlainNode, streams_of, own_readers, view_cursor, out_stable, shown, complete_buckets, ready, due_at, wants_to_reconcile}
-use Rattle.node_model.specs.NodeSteps.{silently, then_do, peers_of, peer_watches, replica_number, with_port, give, given_by, given_stable, entered, recovering_again, adopted, took, stamped_by, on_batch, on_subscribe, on_truncation, on_upstream_beat, on_peer_beat, on_ack, on_ask, on_grant, on_snap_ask, on_snap, reader_place, on_message, on_packet, with_marks_ended, delivered, advanced, reconciled, milled, clocked, may_start_afresh, choosing, reconciling, closing, with_failure, processed_upto, processing, acks_from, beats, announcing, serving, asking_snapshots, going_on, fresh, ticked_at}
+use Rattle.node_model.specs.NodeSteps.{silent_step, then_do, peers_of, peer_watches, replica_number, with_port, give, given_by, given_stable, enter_step, after_loss, after_adoption, after_taking, with_stamps_of, on_batch, on_subscribe, on_truncation, on_upstream_beat, on_peer_beat, on_ack, on_ask, on_grant, on_snap_ask, on_snap, reader_place, on_message, on_packet, with_marks_ended, packet_step, after_stable_buckets, after_last_correction, mill_step, after_clock, may_start_afresh, choice_step, ask_step, with_closed, with_failure, processing_upto, processing_step, acks_from, beats, announcing_step, serving_step, snapshot_ask_step, rest_of_tick, with_fresh_start, tick_step}
 use Rattle.world_safety.proofs.Delivered.{place-nth}
 use Rattle.granting_law.proofs.Each.{Each, each-append, each-sorted, each-to, each-batches, each-subscription, each-acks, each-beats}
 use Rattle.granting_law.proofs.Keys.{key-refl, greater-second, IsAskStep, step-same, step-asking, step-finished, step-told, step-granted, step-silent}
@@ -87,10 +87,10 @@ pub record IsOwnStep (H A E : ℕ → Key → Type 0) (home : Home) (n : PlainNo
   pub grants : IsAskStep H A E n.grants s.after.grants
   pub mails : Each (Says home s.after.grants) s.sends
 
-took-grants : (home : Home) (p : ℕ) (t : Took) (n : PlainNode) → (took home p t n).grants ≡ n.grants
+took-grants : (home : Home) (p : ℕ) (t : AfterBatch) (n : PlainNode) → (after_taking home p t n).grants ≡ n.grants
 took-grants home p t n = by-answer t.answer
   where
-    by-answer : (x : Taken) → (stamped_by home x (with_port p (λ q. record q { inlet = t.after }) n)).grants ≡ n.grants
+    by-answer : (x : Taken) → (with_stamps_of home x (with_port p (λ q. record q { inlet = t.after }) n)).grants ≡ n.grants
     by-answer (Used items) = refl
     by-answer Old = refl
     by-answer Broken = refl
@@ -99,7 +99,7 @@ batch-grants : (home : Home) (u : Sess) (index : ℕ) (items : List Item) (o : O
 batch-grants home u index items None n = refl
 batch-grants home u index items (Some pr) n =
     let port = nth no_port n.ports pr.0 in
-    elim (port.chosen == pr.1) as (λ b. (cond b (took home pr.0 (take_batch port.inlet u index items) n) n).grants ≡ n.grants) [
+    elim (port.chosen == pr.1) as (λ b. (cond b (after_taking home pr.0 (take_batch port.inlet u index items) n) n).grants ≡ n.grants) [
       | true ↦ took-grants home pr.0 (take_batch port.inlet u index items) n
       | false ↦ refl
     ]
@@ -113,23 +113,23 @@ ack-grants home i count None n = refl
 ack-grants home i count (Some k) n = refl
 
 snap-grants : (home : Home) (i try : ℕ) (s : Snap) (n : PlainNode) → (on_snap home i try s n).grants ≡ n.grants
-unfolding adopted
+unfolding after_adoption
 snap-grants home i try s n =
-    elim (n.recovering && i == n.grants.inc && try == n.tries) as (λ b. (cond b (adopted home s n) n).grants ≡ n.grants) [ true ↦ refl | false ↦ refl ]
+    elim (n.recovering && i == n.grants.inc && try == n.tries) as (λ b. (cond b (after_adoption home s n) n).grants ≡ n.grants) [ true ↦ refl | false ↦ refl ]
 
 give-says : (home : Home) (g : Grants) (items : List Item) (n : PlainNode) → Each (Says home g) (give home items n).sends
 give-says home g items n = each-batches (Says home g) (own_readers home) items n.subs (λ to u index. tt)
 
-entered-grants : (home : Home) (n : PlainNode) → (entered home n).after.grants ≡ asking n.grants
-unfolding entered
+entered-grants : (home : Home) (n : PlainNode) → (enter_step home n).after.grants ≡ with_ask n.grants
+unfolding enter_step
 entered-grants home n = refl
 
-entered-says : (home : Home) (g : Grants) (n : PlainNode) → Each (Says home g) (entered home n).sends
-unfolding entered
-entered-says home g n = give-says home g (item.Undo (length (out_stable home n)) ∷ []) (record n { closed = []; state = Stabilization; grants = asking n.grants })
+entered-says : (home : Home) (g : Grants) (n : PlainNode) → Each (Says home g) (enter_step home n).sends
+unfolding enter_step
+entered-says home g n = give-says home g (item.Undo (length (out_stable home n)) ∷ []) (record n { closed = []; state = Stabilization; grants = with_ask n.grants })
 
 subscribed-says : (home : Home) (g : Grants) (k : ℕ) (x : Shown) (sub : Sub) (asked : Subscribe) →
-    Each (Says home g) (elim (answered x sub asked).answer [ None ↦ [] | Some m ↦ mail (nth 0 (own_readers home) k) m ∷ [] ])
+    Each (Says home g) (elim (answer_to x sub asked).answer [ None ↦ [] | Some m ↦ mail (nth 0 (own_readers home) k) m ∷ [] ])
 subscribed-says home g k x sub asked =
     elim (not (is_newer_than_kept asked.sess sub.kept)) as (λ b. Each (Says home g) (elim (cond {A = Answered} b (record { after = sub; answer = None })
     (cond {A = Answered} (nat_lt asked.n x.base)
@@ -170,7 +170,7 @@ module _ (home : Home) (a : ℕ) (packet : Packet) where
   own n s = IsOwnStep (Hears home a packet) (Asks home a packet) (Ends home a packet) home n s
 
   -- the grants stay
-  own-silent : (n m : PlainNode) → m.grants ≡ n.grants → own n (silently m)
+  own-silent : (n m : PlainNode) → m.grants ≡ n.grants → own n (silent_step m)
   own-silent n m e = record { grants = step-same (Hears home a packet) (Asks home a packet) (Ends home a packet) n.grants m.grants e; mails = tt }
 
   own-subscribed : (asked : Subscribe) (o : Option ℕ) (n : PlainNode) → own n (on_subscribe home asked o n)
@@ -181,14 +181,14 @@ module _ (home : Home) (a : ℕ) (packet : Packet) where
         mails = subscribed-says home n.grants k (shown home n) (nth (record { kept = None; is_open = false; batches = 0 }) n.subs k) asked;
       }
 
-  own-truncated : (u : Sess) (base : ℕ) (o : Option (ℕ × ℕ)) (n : PlainNode) → own n (silently (on_truncation home u base o n))
-  unfolding recovering_again
+  own-truncated : (u : Sess) (base : ℕ) (o : Option (ℕ × ℕ)) (n : PlainNode) → own n (silent_step (on_truncation home u base o n))
+  unfolding after_loss
   own-truncated u base None n = own-silent n n refl
   own-truncated u base (Some pr) n =
       let old = nth no_port n.ports pr.0 in
       let port = on_truncated pr.1 u base old in
       let m = with_port pr.0 (λ _. port) n in
-      elim (same_sess u old.inlet.sess && all_truncated port) as (λ b. own n (silently (cond b (recovering_again home m) m))) [
+      elim (same_sess u old.inlet.sess && all_truncated port) as (λ b. own n (silent_step (cond b (after_loss home m) m))) [
         | true ↦ record {
           grants = step-finished (Hears home a packet) (Asks home a packet) (Ends home a packet) n.grants n.grants (step-same (Hears home a packet) (Asks home a packet) (Ends home a packet) n.grants n.grants refl);
           mails = tt;
@@ -196,7 +196,7 @@ module _ (home : Home) (a : ℕ) (packet : Packet) where
         | false ↦ own-silent n m refl
       ]
 
-  own-heard : (b : Beat) (o : Option ℕ) (n m : PlainNode) → replica_number home a ≡ o → told_key packet ≡ Some (b.inc, b.over) → m.grants ≡ n.grants → own n (silently (on_peer_beat b o m))
+  own-heard : (b : Beat) (o : Option ℕ) (n m : PlainNode) → replica_number home a ≡ o → told_key packet ≡ Some (b.inc, b.over) → m.grants ≡ n.grants → own n (silent_step (on_peer_beat b o m))
   own-heard b None n m e told same = own-silent n m same
   own-heard b (Some r) n m e told same =
       record {
@@ -209,7 +209,7 @@ module _ (home : Home) (a : ℕ) (packet : Packet) where
   own-asked i ask None n e asked = own-silent n n refl
   own-asked i ask (Some r) n e asked =
       (elim (grants n.grants n.state r (i, ask)) as (λ b. grants n.grants n.state r (i, ask) ≡ b → own n (cond b
-      (record { after = record n { grants = granted n.grants r (i, ask) }; sends = mail (nth 0 (replicas_of home.plan home.frag) r) (message.Grant i ask) ∷ [] }) (silently n))) [
+      (record { after = record n { grants = with_promise n.grants r (i, ask) }; sends = mail (nth 0 (replicas_of home.plan home.frag) r) (message.Grant i ask) ∷ [] }) (silent_step n))) [
         | true ↦ λ h. record {
           grants = step-granted (Hears home a packet) (Asks home a packet) (Ends home a packet) n.grants r (i, ask) (e, asked) (granted-of n.grants n.state r (i, ask) h).same;
           mails = (record { replica = r; more = (promise_to n.grants r (i, ask)).1; number = subst (λ (x : ℕ). replica_number home x ≡ Some r) (sym (place-nth a (replicas_of home.plan home.frag) r e)) e; promise = promise-is n.grants.promise refl; most = most-is n.grants.promise refl }, tt);
@@ -227,18 +227,18 @@ module _ (home : Home) (a : ℕ) (packet : Packet) where
 
   own-granted : (i ask : ℕ) (n : PlainNode) → own n (on_grant home i ask n)
   own-granted i ask n =
-      elim (is_up_failure n.state && may_enter_by n.grants (i, ask)) as (λ b. own n (cond b (entered home n) (silently n))) [
+      elim (is_up_failure n.state && may_enter_by n.grants (i, ask)) as (λ b. own n (cond b (enter_step home n) (silent_step n))) [
         | true ↦ record {
           grants = subst (λ (g : Grants). IsAskStep (Hears home a packet) (Asks home a packet) (Ends home a packet) n.grants g) (sym (entered-grants home n))
               (step-asking (Hears home a packet) (Asks home a packet) (Ends home a packet) n.grants n.grants (step-same (Hears home a packet) (Asks home a packet) (Ends home a packet) n.grants n.grants refl));
-          mails = entered-says home (entered home n).after.grants n;
+          mails = entered-says home (enter_step home n).after.grants n;
         }
         | false ↦ own-silent n n refl
       ]
 
   -- unless the node recovers
-  own-unless : (n : PlainNode) (s : Stepped PlainNode) → own n s → own n (cond n.recovering (silently n) s)
-  own-unless n s h = elim n.recovering as (λ b. own n (cond b (silently n) s)) [ true ↦ own-silent n n refl | false ↦ h ]
+  own-unless : (n : PlainNode) (s : Stepped PlainNode) → own n s → own n (cond n.recovering (silent_step n) s)
+  own-unless n s h = elim n.recovering as (λ b. own n (cond b (silent_step n) s)) [ true ↦ own-silent n n refl | false ↦ h ]
 
 own-message : (home : Home) (a : ℕ) (m : Message) (n : PlainNode) → IsOwnStep (Hears home a (Plain m)) (Asks home a (Plain m)) (Ends home a (Plain m)) home n (on_message home a m n)
 own-message home a (message.Batch u index items) n =
@@ -261,8 +261,8 @@ own-packet : (home : Home) (a : ℕ) (packet : Packet) (n : PlainNode) → IsOwn
 own-packet home a (Plain m) n = own-message home a m n
 own-packet home a (SnapFor i try s) n = own-silent home a (SnapFor i try s) n (on_snap home i try s n) (snap-grants home i try s n)
 
-pub own-delivered : (home : Home) (a : ℕ) (packet : Packet) (n : PlainNode) → IsOwnStep (Hears home a packet) (Asks home a packet) (Ends home a packet) home n (delivered home a packet n)
-unfolding delivered
+pub own-delivered : (home : Home) (a : ℕ) (packet : Packet) (n : PlainNode) → IsOwnStep (Hears home a packet) (Asks home a packet) (Ends home a packet) home n (packet_step home a packet n)
+unfolding packet_step
 own-delivered home a packet n = let k = own-packet home a packet (with_marks_ended n) in record { grants = k.grants; mails = k.mails }
 
 -- ---- milling
@@ -270,37 +270,37 @@ own-delivered home a packet n = let k = own-packet home a packet (with_marks_end
 abbrev pub Never : ℕ → Key → Type 0
 Never q key = ⊥
 
-pub own-milled : (home : Home) (r : ℕ) (n : PlainNode) → IsOwnStep Never Never Never home n (milled home r n)
-unfolding milled
+pub own-milled : (home : Home) (r : ℕ) (n : PlainNode) → IsOwnStep Never Never Never home n (mill_step home r n)
+unfolding mill_step
 own-milled home r n =
-    let m = advanced home r n in
+    let m = after_stable_buckets home r n in
     let done = is_stabilization n.state && ready home m == 0 in
     let items = given_items (length (out_stable home n)) (given_stable home n m done) in
     record {
-      grants = elim done as (λ b. IsAskStep Never Never Never n.grants (reconciled b m).grants) [
+      grants = elim done as (λ b. IsAskStep Never Never Never n.grants (after_last_correction b m).grants) [
         | true ↦ step-finished Never Never Never n.grants n.grants (step-same Never Never Never n.grants n.grants refl)
         | false ↦ step-same Never Never Never n.grants n.grants refl
       ];
-      mails = give-says home (reconciled done m).grants items (reconciled done m);
+      mails = give-says home (after_last_correction done m).grants items (after_last_correction done m);
     }
 
 -- ---- a tick
 
 -- a replica that this tick finds silent
 abbrev pub FoundSilent : ℕ → PlainNode → ℕ → Key → Type 0
-FoundSilent now n q key = nth false (map is_silent (clocked now n).peers) q ≡ true
+FoundSilent now n q key = nth false (map is_silent (after_clock now n).peers) q ≡ true
 
-processed-grants : (home : Home) (last : ℕ) (n : PlainNode) → (processed_upto home last n).after.grants ≡ n.grants
+processed-grants : (home : Home) (last : ℕ) (n : PlainNode) → (processing_upto home last n).after.grants ≡ n.grants
 processed-grants home last n = refl
 
 abbrev HasGrants : Grants → Stepped PlainNode → Type 0
 HasGrants g s = s.after.grants ≡ g
 
-processing-grants : (home : Home) (n : PlainNode) → HasGrants n.grants (processing home n)
+processing-grants : (home : Home) (n : PlainNode) → HasGrants n.grants (processing_step home n)
 processing-grants home n =
-    elim (is_stabilization n.state) as (λ b. HasGrants n.grants (cond b (silently n) (elim (due_at home n n.clock) [ None ↦ silently n | Some last ↦ processed_upto home last n ]))) [
+    elim (is_stabilization n.state) as (λ b. HasGrants n.grants (cond b (silent_step n) (elim (due_at home n n.clock) [ None ↦ silent_step n | Some last ↦ processing_upto home last n ]))) [
       | true ↦ refl
-      | false ↦ elim (due_at home n n.clock) as (λ o. HasGrants n.grants (elim o [ None ↦ silently n | Some last ↦ processed_upto home last n ])) [
+      | false ↦ elim (due_at home n n.clock) as (λ o. HasGrants n.grants (elim o [ None ↦ silent_step n | Some last ↦ processing_upto home last n ])) [
         | None ↦ refl
         | Some last ↦ processed-grants home last n
       ]
@@ -309,24 +309,24 @@ processing-grants home n =
 abbrev SendsSaying : Home → Grants → Stepped PlainNode → Type 0
 SendsSaying home g s = Each (Says home g) s.sends
 
-processing-says : (home : Home) (g : Grants) (n : PlainNode) → SendsSaying home g (processing home n)
+processing-says : (home : Home) (g : Grants) (n : PlainNode) → SendsSaying home g (processing_step home n)
 processing-says home g n =
-    elim (is_stabilization n.state) as (λ b. SendsSaying home g (cond b (silently n) (elim (due_at home n n.clock) [ None ↦ silently n | Some last ↦ processed_upto home last n ]))) [
+    elim (is_stabilization n.state) as (λ b. SendsSaying home g (cond b (silent_step n) (elim (due_at home n n.clock) [ None ↦ silent_step n | Some last ↦ processing_upto home last n ]))) [
       | true ↦ tt
-      | false ↦ elim (due_at home n n.clock) as (λ o. SendsSaying home g (elim o [ None ↦ silently n | Some last ↦ processed_upto home last n ])) [
+      | false ↦ elim (due_at home n n.clock) as (λ o. SendsSaying home g (elim o [ None ↦ silent_step n | Some last ↦ processing_upto home last n ])) [
         | None ↦ tt
         | Some last ↦ processed-says last
       ]
     ]
   where
-    processed-says : (last : ℕ) → SendsSaying home g (processed_upto home last n)
+    processed-says : (last : ℕ) → SendsSaying home g (processing_upto home last n)
     processed-says last =
         let count = last + 1 - view_cursor n in
         let stably = min count (complete_buckets home n) in
-        let new = with_failure (closing home (count - stably) (advanced home stably n)) in
+        let new = with_failure (with_closed home (count - stably) (after_stable_buckets home stably n)) in
         give-says home g (given_items (length (out_stable home n)) (given_by home n new (nat_lt 0 stably) (nat_lt stably count))) new
 
-announcing-says : (home : Home) (n : PlainNode) → Each (Says home n.grants) (announcing home n).sends
+announcing-says : (home : Home) (n : PlainNode) → Each (Says home n.grants) (announcing_step home n).sends
 announcing-says home n =
     each-append (Says home n.grants) (in_actor_order (acks_from home n n.ports (streams_of home))) (in_actor_order (beats home n))
     (each-sorted (Says home n.grants) (acks_from home n n.ports (streams_of home)) (each-acks (Says home n.grants) home n n.ports (streams_of home) (λ to count. tt)))
@@ -338,29 +338,29 @@ module _ (H A E : ℕ → Key → Type 0) (home : Home) (g : Grants) where
     grants : IsAskStep H A E g s.after.grants
     mails : Each (Says home s.after.grants) s.sends
 
-  reconciling-own : (n : PlainNode) → IsAskStep H A E g n.grants → IsReconciling n (reconciling home n)
+  reconciling-own : (n : PlainNode) → IsAskStep H A E g n.grants → IsReconciling n (ask_step home n)
   reconciling-own n h =
-      elim (wants_to_reconcile home n && is_none n.grants.promise) as (λ b. IsReconciling n (cond b (cond (list_all is_silent (peer_watches home n)) (entered home n)
-      (record { after = record n { grants = asking n.grants }; sends = to_each (message.Ask (own_key n.grants).0 (own_key n.grants).1) (peers_of home) })) (silently n))) [
-        | true ↦ elim (list_all is_silent (peer_watches home n)) as (λ b. IsReconciling n (cond b (entered home n)
-            (record { after = record n { grants = asking n.grants }; sends = to_each (message.Ask (own_key n.grants).0 (own_key n.grants).1) (peers_of home) }))) [
+      elim (wants_to_reconcile home n && is_none n.grants.promise) as (λ b. IsReconciling n (cond b (cond (list_all is_silent (peer_watches home n)) (enter_step home n)
+      (record { after = record n { grants = with_ask n.grants }; sends = to_each (message.Ask (own_key n.grants).0 (own_key n.grants).1) (peers_of home) })) (silent_step n))) [
+        | true ↦ elim (list_all is_silent (peer_watches home n)) as (λ b. IsReconciling n (cond b (enter_step home n)
+            (record { after = record n { grants = with_ask n.grants }; sends = to_each (message.Ask (own_key n.grants).0 (own_key n.grants).1) (peers_of home) }))) [
               | true ↦ record {
                 grants = subst (λ (x : Grants). IsAskStep H A E g x) (sym (entered-grants home n)) (step-asking H A E g n.grants h);
-                mails = entered-says home (entered home n).after.grants n;
+                mails = entered-says home (enter_step home n).after.grants n;
               }
               | false ↦ record {
                 grants = step-asking H A E g n.grants h;
-                mails = each-to (Says home (asking n.grants)) (message.Ask (own_key n.grants).0 (own_key n.grants).1) (peers_of home) (λ to. record { inc = refl; next = refl; runs = refl });
+                mails = each-to (Says home (with_ask n.grants)) (message.Ask (own_key n.grants).0 (own_key n.grants).1) (peers_of home) (λ to. record { inc = refl; next = refl; runs = refl });
               }
             ]
         | false ↦ record { grants = h; mails = tt }
       ]
 
-  serving-own : (n : PlainNode) → IsAskStep H A E g n.grants → IsReconciling n (serving home n)
+  serving-own : (n : PlainNode) → IsAskStep H A E g n.grants → IsReconciling n (serving_step home n)
   serving-own n h =
-      let a = choosing home n in
-      let b = reconciling home a.after in
-      let c = processing home b.after in
+      let a = choice_step home n in
+      let b = ask_step home a.after in
+      let c = processing_step home b.after in
       let two = reconciling-own a.after h in
       let same = processing-grants home b.after in
       let ab = each-append (Says home b.after.grants) a.sends b.sends
@@ -368,30 +368,30 @@ module _ (H A E : ℕ → Key → Type 0) (home : Home) (g : Grants) where
       let abc = each-append (Says home b.after.grants) (a.sends ++ b.sends) c.sends ab (processing-says home b.after.grants b.after) in
       record {
         grants = subst (λ (x : Grants). IsAskStep H A E g x) (sym same) two.grants;
-        mails = each-append (Says home c.after.grants) (a.sends ++ b.sends ++ c.sends) (announcing home c.after).sends
+        mails = each-append (Says home c.after.grants) (a.sends ++ b.sends ++ c.sends) (announcing_step home c.after).sends
             (subst (λ (x : Grants). Each (Says home x) (a.sends ++ b.sends ++ c.sends)) (sym same) abc) (announcing-says home c.after);
       }
 
-  going_on-own : (n : PlainNode) → IsAskStep H A E g n.grants → IsReconciling n (going_on home n)
+  going_on-own : (n : PlainNode) → IsAskStep H A E g n.grants → IsReconciling n (rest_of_tick home n)
   going_on-own n h =
-      elim n.recovering as (λ b. IsReconciling n (cond (not b) (serving home n) (cond (may_start_afresh home n) (serving home (fresh n)) (then_do (asking_snapshots home n) (announcing home))))) [
+      elim n.recovering as (λ b. IsReconciling n (cond (not b) (serving_step home n) (cond (may_start_afresh home n) (serving_step home (with_fresh_start n)) (then_do (snapshot_ask_step home n) (announcing_step home))))) [
         | false ↦ serving-own n h
-        | true ↦ elim (may_start_afresh home n) as (λ b. IsReconciling n (cond b (serving home (fresh n)) (then_do (asking_snapshots home n) (announcing home)))) [
-          | true ↦ afresh (serving-own (fresh n) h)
+        | true ↦ elim (may_start_afresh home n) as (λ b. IsReconciling n (cond b (serving_step home (with_fresh_start n)) (then_do (snapshot_ask_step home n) (announcing_step home)))) [
+          | true ↦ afresh (serving-own (with_fresh_start n) h)
           | false ↦ record {
             grants = h;
-            mails = each-append (Says home n.grants) (asking_snapshots home n).sends (announcing home n).sends
+            mails = each-append (Says home n.grants) (snapshot_ask_step home n).sends (announcing_step home n).sends
                 (each-to (Says home n.grants) (message.SnapAsk n.grants.inc n.tries) (peers_of home) (λ to. tt)) (announcing-says home n);
           }
         ]
       ]
     where
-      afresh : IsReconciling (fresh n) (serving home (fresh n)) → IsReconciling n (serving home (fresh n))
+      afresh : IsReconciling (with_fresh_start n) (serving_step home (with_fresh_start n)) → IsReconciling n (serving_step home (with_fresh_start n))
       afresh k = record { grants = k.grants; mails = k.mails }
 
-pub own-ticked : (home : Home) (now : ℕ) (n : PlainNode) → IsOwnStep Never Never (FoundSilent now n) home n (ticked_at home now n)
-unfolding ticked_at
+pub own-ticked : (home : Home) (now : ℕ) (n : PlainNode) → IsOwnStep Never Never (FoundSilent now n) home n (tick_step home now n)
+unfolding tick_step
 own-ticked home now n =
-    let k = going_on-own Never Never (FoundSilent now n) home n.grants (clocked now (with_marks_ended n))
-    (step-silent Never Never (FoundSilent now n) n.grants (map is_silent (clocked now n).peers) (λ q key e. e)) in
+    let k = going_on-own Never Never (FoundSilent now n) home n.grants (after_clock now (with_marks_ended n))
+    (step-silent Never Never (FoundSilent now n) n.grants (map is_silent (after_clock now n).peers) (λ q key e. e)) in
     record { grants = k.grants; mails = k.mails }

@@ -4,7 +4,7 @@ use Rattle.std.proofs.lemmas.Grind.{common_steps}
 use Rattle.std.proofs.lemmas.Option.{slice_get_within}
 use Rattle.dpc_model.specs.Lists.{nth, range_with_len}
 use Rattle.dpc_model.specs.Inlets.{same_sess, is_newer}
-use Rattle.dpc_model.specs.Sessions.{Sub, no_session, Shown, Answered, answered, is_newer_than_kept, link_of, shut, counted, counted_all, batches_from, batches_of, first_batch}
+use Rattle.dpc_model.specs.Sessions.{Sub, no_session, Shown, Answered, answer_to, is_newer_than_kept, link_of, with_session_shut, with_batch, with_batches, batches_from, batches_of, first_batch}
 use Rattle.dpc_model.specs.declared.tuples.Item.{Item}
 use Rattle.dpc_model.specs.declared.messages.Sess.{Sess}
 use Rattle.dpc_model.specs.declared.messages.Subscribe.{Subscribe}
@@ -12,7 +12,7 @@ use Rattle.dpc_model.specs.declared.messages.Message.{Message}
 use Rattle.dpc_model.specs.declared.messages.Message.TheVariants as message
 use Rattle.node_model.specs.Mails.{Mail, mail, Plain, to_readers}
 use Rattle.world_model.specs.Worlds.{Envelope, from}
-use Rattle.world_model.specs.SessionLaw.{Line}
+use Rattle.world_model.specs.SessionLaw.{Channel}
 use Rattle.world_safety.proofs.Tests.{both-of, eq-of, eq-test}
 use Rattle.world_safety.proofs.Histories.{AreDistinct}
 use Rattle.granting_law.specs.Taken.{index_in, index_of}
@@ -21,11 +21,11 @@ use Rattle.granting_law.proofs.Each.{Each}
 -- ---- indices
 
 -- the indices of the batches of a session among these envelopes
-abbrev pub indexes : Line → List Envelope → List ℕ
+abbrev pub indexes : Channel → List Envelope → List ℕ
 indexes l [] = []
 indexes l (e ∷ es) = elim (index_of l e) [ None ↦ indexes l es | Some j ↦ j ∷ indexes l es ]
 
-pub indexes-append : (l : Line) (xs ys : List Envelope) → indexes l (xs ++ ys) ≡ indexes l xs ++ indexes l ys
+pub indexes-append : (l : Channel) (xs ys : List Envelope) → indexes l (xs ++ ys) ≡ indexes l xs ++ indexes l ys
 indexes-append l [] ys = refl
 indexes-append l (e ∷ xs) ys =
     elim (index_of l e) as (λ o. elim o [ None ↦ indexes l (xs ++ ys) | Some j ↦ j ∷ indexes l (xs ++ ys) ] ≡ elim o [ None ↦ indexes l xs | Some j ↦ j ∷ indexes l xs ] ++ indexes l ys) [
@@ -60,19 +60,19 @@ no-more n = omega arith
 pub sends-none : (s : Sess) (opens : Bool) (sub : Sub) → SendsOn s opens sub sub []
 sends-none s opens sub = record { counts = λ n c. (refl, subst (λ (k : ℕ). Counts s k sub) (sym (no-more n)) c); quiet = λ e c. (refl, c) }
 
-pub sends-shut : (s : Sess) (opens : Bool) (sub : Sub) → SendsOn s opens sub (shut sub) []
+pub sends-shut : (s : Sess) (opens : Bool) (sub : Sub) → SendsOn s opens sub (with_session_shut sub) []
 sends-shut s opens sub =
     record {
       counts = λ n c. (refl, record { open_one = λ v m e. absurd (closed v m e); newer = λ e. no-more n ∙ c.newer e });
       quiet = λ e c. (refl, record { other = λ v m d. absurd (closed v m d) });
     }
   where
-    closed : (v : Sess) (m : ℕ) → link_of (shut sub) ≡ Some (v, m) → ⊥
+    closed : (v : Sess) (m : ℕ) → link_of (with_session_shut sub) ≡ Some (v, m) → ⊥
     closed v m e = by-kept sub.kept refl
       where
         by-kept : (o : Option Sess) → sub.kept ≡ o → ⊥
-        by-kept None f = let none : link_of (shut sub) ≡ None = rw f refl in cc
-        by-kept (Some u) f = let none : link_of (shut sub) ≡ None = rw f refl in cc
+        by-kept None f = let none : link_of (with_session_shut sub) ≡ None = rw f refl in cc
+        by-kept (Some u) f = let none : link_of (with_session_shut sub) ≡ None = rw f refl in cc
 
 pub sends-then : (s : Sess) (opens : Bool) (a b c : Sub) (xs ys : List ℕ) → SendsOn s opens a b xs → SendsOn s opens b c ys → SendsOn s opens a c (xs ++ ys)
 sends-then s opens a b c xs ys h k =
@@ -101,36 +101,36 @@ abbrev pub given_index : Option (Sess × ℕ) → Sess → List ℕ
 given_index None s = []
 given_index (Some l) s = cond (same_sess l.0 s) (l.1 ∷ []) []
 
-pub sends-counted : (s : Sess) (opens : Bool) (sub : Sub) → SendsOn s opens sub (counted sub) (given_index (link_of sub) s)
+pub sends-counted : (s : Sess) (opens : Bool) (sub : Sub) → SendsOn s opens sub (with_batch sub) (given_index (link_of sub) s)
 sends-counted s opens sub = by-parts sub.kept sub.is_open refl refl
   where
-    by-parts : (kept : Option Sess) (is_open : Bool) → sub.kept ≡ kept → sub.is_open ≡ is_open → SendsOn s opens sub (counted sub) (given_index (link_of sub) s)
+    by-parts : (kept : Option Sess) (is_open : Bool) → sub.kept ≡ kept → sub.is_open ≡ is_open → SendsOn s opens sub (with_batch sub) (given_index (link_of sub) s)
     by-parts kept false f o =
         let closed : link_of sub ≡ None = none-open kept f in
-        let same : counted sub ≡ sub = rw o refl in
-        subst (λ (z : Option (Sess × ℕ)). SendsOn s opens sub (counted sub) (given_index z s)) (sym closed) (subst (λ (z : Sub). SendsOn s opens sub z []) (sym same) (sends-none s opens sub))
+        let same : with_batch sub ≡ sub = rw o refl in
+        subst (λ (z : Option (Sess × ℕ)). SendsOn s opens sub (with_batch sub) (given_index z s)) (sym closed) (subst (λ (z : Sub). SendsOn s opens sub z []) (sym same) (sends-none s opens sub))
       where
         none-open : (k : Option Sess) → sub.kept ≡ k → link_of sub ≡ None
         none-open None g = rw g refl
         none-open (Some u) g = rw (g, o) refl
     by-parts None true f o =
         let closed : link_of sub ≡ None = rw f refl in
-        subst (λ (z : Option (Sess × ℕ)). SendsOn s opens sub (counted sub) (given_index z s)) (sym closed)
+        subst (λ (z : Option (Sess × ℕ)). SendsOn s opens sub (with_batch sub) (given_index z s)) (sym closed)
         (record {
           counts = λ n c. (refl, record { open_one = λ v m e. absurd (still v m e); newer = λ e. no-more n ∙ c.newer (subst (λ (k : Option Sess). is_newer_than_kept s k ≡ true) kept-same e) });
           quiet = λ e c. (refl, record { other = λ v m d. absurd (still v m d) });
         })
       where
-        kept-same : (counted sub).kept ≡ sub.kept
+        kept-same : (with_batch sub).kept ≡ sub.kept
         kept-same = rw o refl
 
-        still : (v : Sess) (m : ℕ) → link_of (counted sub) ≡ Some (v, m) → ⊥
-        still v m e = let none : link_of (counted sub) ≡ None = rw (o, f) refl in cc
+        still : (v : Sess) (m : ℕ) → link_of (with_batch sub) ≡ Some (v, m) → ⊥
+        still v m e = let none : link_of (with_batch sub) ≡ None = rw (o, f) refl in cc
     by-parts (Some u) true f o =
         let open_now : link_of sub ≡ Some (u, sub.batches) = rw (f, o) refl in
-        let open_next : link_of (counted sub) ≡ Some (u, sub.batches + 1) = rw (o, f) refl in
-        subst (λ (z : Option (Sess × ℕ)). SendsOn s opens sub (counted sub) (given_index z s)) (sym open_now)
-        ((elim (same_sess u s) as (λ b. same_sess u s ≡ b → SendsOn s opens sub (counted sub) (cond b (sub.batches ∷ []) [])) [
+        let open_next : link_of (with_batch sub) ≡ Some (u, sub.batches + 1) = rw (o, f) refl in
+        subst (λ (z : Option (Sess × ℕ)). SendsOn s opens sub (with_batch sub) (given_index z s)) (sym open_now)
+        ((elim (same_sess u s) as (λ b. same_sess u s ≡ b → SendsOn s opens sub (with_batch sub) (cond b (sub.batches ∷ []) [])) [
           | true ↦ λ same. record {
             counts = λ n c.
                 let it = c.open_one u sub.batches open_now same in (
@@ -154,10 +154,10 @@ sends-counted s opens sub = by-parts sub.kept sub.is_open refl refl
           }
         ]) refl)
       where
-        kept-same : (counted sub).kept ≡ sub.kept
+        kept-same : (with_batch sub).kept ≡ sub.kept
         kept-same = rw o refl
 
-        kept-newer : is_newer_than_kept s (counted sub).kept ≡ true → is_newer s u ≡ true
+        kept-newer : is_newer_than_kept s (with_batch sub).kept ≡ true → is_newer s u ≡ true
         kept-newer e = subst (λ (k : Option Sess). is_newer_than_kept s k ≡ true) (kept-same ∙ f) e
 
         not-newer : is_newer s u ≡ true → same_sess u s ≡ true → ⊥
@@ -187,7 +187,7 @@ newer-not : (a b : Sess) → is_newer b a ≡ true → same_sess a b ≡ true �
 newer-not a b e d = grind (arith, common_steps)
 
 pub sends-answered : (s : Sess) (opens : Bool) (x : Shown) (sub : Sub) (asked : Subscribe) → (same_sess asked.sess s ≡ true → opens ≡ true) →
-    SendsOn s opens sub (answered x sub asked).after (answer_index s (answered x sub asked).answer)
+    SendsOn s opens sub (answer_to x sub asked).after (answer_index s (answer_to x sub asked).answer)
 sends-answered s opens x sub asked told =
     (elim (is_newer_than_kept asked.sess sub.kept) as (λ b. is_newer_than_kept asked.sess sub.kept ≡ b → SendsAnswer (cond {A = Answered} (not b) (record { after = sub; answer = None })
     (cond {A = Answered} (nat_lt asked.n x.base)
@@ -240,7 +240,7 @@ sends-answered s opens x sub asked told =
 abbrev pub IsNoBatch : Mail → Type 0
 IsNoBatch m = (s : Sess) → index_in s m.packet ≡ None
 
-pub none-indexed : (l : Line) (a : ℕ) (ms : List Mail) → Each IsNoBatch ms → indexes l (map (from a) ms) ≡ []
+pub none-indexed : (l : Channel) (a : ℕ) (ms : List Mail) → Each IsNoBatch ms → indexes l (map (from a) ms) ≡ []
 none-indexed l a [] h = refl
 none-indexed l a (m ∷ ms) h =
     let none = h.0 l.sess in
@@ -251,14 +251,14 @@ none-indexed l a (m ∷ ms) h =
     ]
 
 -- one mail, to another reader or to this one
-pub skip-other : (l : Line) (a : ℕ) (m : Mail) (es : List Envelope) → (a == l.sender && m.to == l.reader) ≡ false → indexes l (from a m ∷ es) ≡ indexes l es
+pub skip-other : (l : Channel) (a : ℕ) (m : Mail) (es : List Envelope) → (a == l.sender && m.to == l.reader) ≡ false → indexes l (from a m ∷ es) ≡ indexes l es
 skip-other l a m es e =
     (elim (a == l.sender && m.to == l.reader) as (λ b. b ≡ false → elim (cond {A = Option ℕ} b (index_in l.sess m.packet) None) [ None ↦ indexes l es | Some j ↦ j ∷ indexes l es ] ≡ indexes l es) [
       | true ↦ λ f. cc
       | false ↦ λ f. refl
     ]) e
 
-pub take-mine : (l : Line) (a : ℕ) (m : Mail) (es : List Envelope) → (a == l.sender && m.to == l.reader) ≡ true → indexes l (from a m ∷ es) ≡ elim (index_in l.sess m.packet) as (λ _. List ℕ) [ None ↦ indexes l es | Some j ↦ j ∷ indexes l es ]
+pub take-mine : (l : Channel) (a : ℕ) (m : Mail) (es : List Envelope) → (a == l.sender && m.to == l.reader) ≡ true → indexes l (from a m ∷ es) ≡ elim (index_in l.sess m.packet) as (λ _. List ℕ) [ None ↦ indexes l es | Some j ↦ j ∷ indexes l es ]
 take-mine l a m es e =
     (elim (a == l.sender && m.to == l.reader) as (λ b. b ≡ true → elim (cond {A = Option ℕ} b (index_in l.sess m.packet) None) as (λ _. List ℕ) [ None ↦ indexes l es | Some j ↦ j ∷ indexes l es ] ≡ elim (index_in l.sess m.packet) as (λ _. List ℕ) [ None ↦ indexes l es | Some j ↦ j ∷ indexes l es ]) [
       | true ↦ λ f. refl
@@ -270,7 +270,7 @@ others-indexed : (readers : List ℕ) (a k j : ℕ) (s : Sess) (items : List Ite
     indexes (record { sender = a; reader = nth 0 readers k; sess = s }) (map (from a) (to_readers readers (batches_from j items subs))) ≡ []
 others-indexed readers a k j s items [] distinct less few = refl
 others-indexed readers a k j s items (sub ∷ subs) distinct less few =
-    let l : Line = record { sender = a; reader = nth 0 readers k; sess = s } in
+    let l : Channel = record { sender = a; reader = nth 0 readers k; sess = s } in
     let rest = others-indexed readers a k (j + 1) s items subs distinct (omega (arith, less)) (omega (arith, few)) in
     elim (link_of sub) as (λ o. indexes l (map (from a) (to_readers readers (elim o [ None ↦ batches_from (j + 1) items subs | Some v ↦ (j, message.Batch v.0 v.1 items) ∷ batches_from (j + 1) items subs ]))) ≡ []) [
       | None ↦ rest
@@ -294,7 +294,7 @@ given-indexed : (readers : List ℕ) (a j i : ℕ) (s : Sess) (items : List Item
 given-indexed readers a j i s items [] sub distinct few e = cc
 given-indexed readers a j zero s items (x ∷ subs) sub distinct few e =
     let none : j + 0 ≡ j = omega arith in
-    let l : Line = record { sender = a; reader = nth 0 readers j; sess = s } in
+    let l : Channel = record { sender = a; reader = nth 0 readers j; sess = s } in
     let same : x ≡ sub = cc in
     let rest = others-indexed readers a j (j + 1) s items subs distinct (omega arith) (omega (arith, few)) in
     let mine : (a == a) ≡ true = eq-test a a refl in
@@ -312,7 +312,7 @@ given-indexed readers a j zero s items (x ∷ subs) sub distinct few e =
     ])
 given-indexed readers a j (suc i) s items (x ∷ subs) sub distinct few e =
     let next : j + suc i ≡ j + 1 + i = omega arith in
-    let l : Line = record { sender = a; reader = nth 0 readers (j + suc i); sess = s } in
+    let l : Channel = record { sender = a; reader = nth 0 readers (j + suc i); sess = s } in
     let rest : indexes l (map (from a) (to_readers readers (batches_from (j + 1) items subs))) ≡ given_index (link_of sub) s =
     rw next (given-indexed readers a (j + 1) i s items subs sub distinct (omega (arith, few)) e) in
     let within = slice_get_within subs i sub e in
@@ -346,7 +346,7 @@ get-nth (x ∷ subs) zero h = refl
 get-nth (x ∷ subs) (suc k) h = get-nth subs k (omega (arith, h))
 
 pub sends-given : (readers : List ℕ) (a k : ℕ) (s : Sess) (opens : Bool) (items : List Item) (subs : List Sub) → AreDistinct readers → length subs ≡ length readers → k < length readers →
-    SendsOn s opens (nth no_session subs k) (nth no_session (counted_all items subs) k) (indexes (record { sender = a; reader = nth 0 readers k; sess = s }) (map (from a) (to_readers readers (batches_of items subs))))
+    SendsOn s opens (nth no_session subs k) (nth no_session (with_batches items subs) k) (indexes (record { sender = a; reader = nth 0 readers k; sess = s }) (map (from a) (to_readers readers (batches_of items subs))))
 sends-given readers a k s opens [] subs distinct same low = sends-none s opens (nth no_session subs k)
 sends-given readers a k s opens (i ∷ items) subs distinct same low =
     let zero_on : 0 + k ≡ k = omega arith in
@@ -354,5 +354,5 @@ sends-given readers a k s opens (i ∷ items) subs distinct same low =
     let there = get-nth subs k (omega (arith, same, low)) in
     let given : indexes (record { sender = a; reader = nth 0 readers k; sess = s }) (map (from a) (to_readers readers (batches_from 0 (i ∷ items) subs))) ≡ given_index (link_of sub) s =
     rw zero_on at (given-indexed readers a 0 k s (i ∷ items) subs sub distinct (omega (arith, same)) there) in
-    subst (λ (z : List ℕ). SendsOn s opens sub (nth no_session (map counted subs) k) z) (sym given)
-    (subst (λ (z : Sub). SendsOn s opens sub z (given_index (link_of sub) s)) (sym (nth-map counted subs k refl)) (sends-counted s opens sub))
+    subst (λ (z : List ℕ). SendsOn s opens sub (nth no_session (map with_batch subs) k) z) (sym given)
+    (subst (λ (z : Sub). SendsOn s opens sub z (given_index (link_of sub) s)) (sym (nth-map with_batch subs k refl)) (sends-counted s opens sub))

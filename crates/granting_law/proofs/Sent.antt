@@ -9,9 +9,9 @@ use Rattle.dpc_model.specs.declared.messages.Sess.{Sess}
 use Rattle.dpc_model.specs.declared.plans.Plan.{Plan}
 use Rattle.node_model.specs.Mails.{Mail, Stepped}
 use Rattle.node_model.specs.Nodes.{Home, PlainNode, own_readers, restarted_node}
-use Rattle.node_model.specs.NodeSteps.{delivered, milled, ticked_at}
+use Rattle.node_model.specs.NodeSteps.{packet_step, mill_step, tick_step}
 use Rattle.world_model.specs.Worlds.{World, Envelope, Slot, home_of, node_place, slot_of, from, node_stepped, restart_slot, can_come, happens}
-use Rattle.world_model.specs.SessionLaw.{Line}
+use Rattle.world_model.specs.SessionLaw.{Channel}
 use Rattle.world_safety.proofs.Tests.{both-of, eq-of, eq-test, lt-of}
 use Rattle.world_safety.proofs.Emptied.{shape-of}
 use Rattle.world_safety.proofs.Histories.{AreDistinct}
@@ -26,7 +26,7 @@ use Rattle.granting_law.proofs.Sending.{indexes, indexes-append, range-append, C
 use Rattle.granting_law.proofs.Senders.{NodeSends, delivered-sends, milled-sends, ticked-sends}
 
 -- an actor's mails are nothing in the sessions of others
-pub other-indexed : (l : Line) (y : ℕ) (ms : List Mail) → (y == l.sender) ≡ false → indexes l (map (from y) ms) ≡ []
+pub other-indexed : (l : Channel) (y : ℕ) (ms : List Mail) → (y == l.sender) ≡ false → indexes l (map (from y) ms) ≡ []
 other-indexed l y [] e = refl
 other-indexed l y (m ∷ ms) e = skip-other l y m (map (from y) ms) (and-false (y == l.sender) (m.to == l.reader) e) ∙ other-indexed l y ms e
   where
@@ -72,12 +72,12 @@ order-still w next a x k i s sent slot h =
 -- mails of another actor
 order-others : (w next : World) (a x k i y : ℕ) (s : Sess) (ms : List Mail) → next.envelopes ≡ w.envelopes ++ map (from y) ms → (a ≡ y → ⊥) → slot_of next a ≡ slot_of w a → SentOrder w a x k i s → SentOrder next a x k i s
 order-others w next a x k i y s ms envelopes other slot h =
-    let l : Line = record { sender = a; reader = x; sess = s } in
+    let l : Channel = record { sender = a; reader = x; sess = s } in
     order-still w next a x k i s
     (ap (λ (es : List Envelope). indexes l es) envelopes ∙ indexes-append l w.envelopes (map (from y) ms) ∙ ap (λ (ns : List ℕ). indexes l w.envelopes ++ ns) (other-indexed l y ms (apart-test y a other)) ∙ append-nil (indexes l w.envelopes)) slot h
 
 module _ (w : World) (most a x f r k i : ℕ) (s : Sess) (fine : IsFine w most) (asking : IsAskingWorld w) (line : IsNodeLine w.plan a x f r k) (h : SentOrder w a x k i s) where
-  abbrev at : Line
+  abbrev at : Channel
   at = record { sender = a; reader = x; sess = s }
 
   abbrev IsNextOrder : Event → World → Type 0
@@ -211,17 +211,17 @@ module _ (w : World) (most a x f r k i : ℕ) (s : Sess) (fine : IsFine w most) 
         source_ticks = λ y z now role told. order-others w _ a x k i y s _ refl (not-source y z role) refl h;
         crashed = λ y p q role told. slot-step y p q (λ (slot : Slot). record slot { node = None }) role (λ same. down);
         restarted = λ y j p q role told. slot-step y p q (restart_slot (home_of w.plan (p, q)) j) role (λ same. restarted (home_of w.plan (p, q)) j);
-        node_took = λ j p q e n there can role up told. any-step e.to p q n (delivered (home_of w.plan (p, q)) e.sender e.packet n) role (λ same. took j p q e n there can role up told same);
-        node_ticked = λ y now p q n role up clock told. any-step y p q n (ticked_at (home_of w.plan (p, q)) now n) role (λ same.
+        node_took = λ j p q e n there can role up told. any-step e.to p q n (packet_step (home_of w.plan (p, q)) e.sender e.packet n) role (λ same. took j p q e n there can role up told same);
+        node_ticked = λ y now p q n role up clock told. any-step y p q n (tick_step (home_of w.plan (p, q)) now n) role (λ same.
             let is = home-same p q y role same in
             let here = ap (λ (z : ℕ). (slot_of w z).node) same ∙ up in
-            own-step n (ticked_at (home_of w.plan (p, q)) now n) false here (own-ticked (home_of w.plan (p, q)) now n).grants.inc
-            (subst (λ (z : Home). NodeSends (home_of w.plan (f, r)) a k s false n.subs (ticked_at z now n)) is (ticked-sends (home_of w.plan (f, r)) a k s false line.distinct line.low now n (many-here n here))) (λ e. cc));
-        node_milled = λ y m p q n role up can told. any-step y p q n (milled (home_of w.plan (p, q)) m n) role (λ same.
+            own-step n (tick_step (home_of w.plan (p, q)) now n) false here (own-ticked (home_of w.plan (p, q)) now n).grants.inc
+            (subst (λ (z : Home). NodeSends (home_of w.plan (f, r)) a k s false n.subs (tick_step z now n)) is (ticked-sends (home_of w.plan (f, r)) a k s false line.distinct line.low now n (many-here n here))) (λ e. cc));
+        node_milled = λ y m p q n role up can told. any-step y p q n (mill_step (home_of w.plan (p, q)) m n) role (λ same.
             let is = home-same p q y role same in
             let here = ap (λ (z : ℕ). (slot_of w z).node) same ∙ up in
-            own-step n (milled (home_of w.plan (p, q)) m n) false here (own-milled (home_of w.plan (p, q)) m n).grants.inc
-            (subst (λ (z : Home). NodeSends (home_of w.plan (f, r)) a k s false n.subs (milled z m n)) is (milled-sends (home_of w.plan (f, r)) a k s false line.distinct line.low m n (many-here n here))) (λ e. cc));
+            own-step n (mill_step (home_of w.plan (p, q)) m n) false here (own-milled (home_of w.plan (p, q)) m n).grants.inc
+            (subst (λ (z : Home). NodeSends (home_of w.plan (f, r)) a k s false n.subs (mill_step z m n)) is (milled-sends (home_of w.plan (f, r)) a k s false line.distinct line.low m n (many-here n here))) (λ e. cc));
         client_took = λ j c e there can role told. order-still w _ a x k i s refl refl h;
         client_ticks = λ y c now role told. order-others w _ a x k i y s _ refl (not-client y c role) refl h;
       }
@@ -239,13 +239,13 @@ module _ (w : World) (most a x f r k i : ℕ) (s : Sess) (fine : IsFine w most) 
           let two : r ≡ q = cc in ap (λ (u : ℕ). home_of w.plan (u, r)) one ∙ ap (λ (u : ℕ). home_of w.plan (p, u)) two
 
       took : (j p q : ℕ) (e : Envelope) (n : PlainNode) → slice_get w.envelopes j ≡ Some e → can_come w e ≡ true → role_of w.plan e.to ≡ IsNode p q → (slot_of w e.to).node ≡ Some n →
-          (envelope_subscribes at w (slice_get w.envelopes j) ≡ true → role_inc w a (role_of w.plan a) ≡ i) → a ≡ e.to → SentOrder (node_stepped a (delivered (home_of w.plan (p, q)) e.sender e.packet n) w) a x k i s
+          (envelope_subscribes at w (slice_get w.envelopes j) ≡ true → role_inc w a (role_of w.plan a) ≡ i) → a ≡ e.to → SentOrder (node_stepped a (packet_step (home_of w.plan (p, q)) e.sender e.packet n) w) a x k i s
       took j p q e n there can role up told same =
           let is = home-same p q e.to role same in
           let here = ap (λ (z : ℕ). (slot_of w z).node) same ∙ up in
           let opens = envelope_subscribes at w (slice_get w.envelopes j) in
-          own-step n (delivered (home_of w.plan (p, q)) e.sender e.packet n) opens here (own-delivered (home_of w.plan (p, q)) e.sender e.packet n).grants.inc
-          (subst (λ (z : Home). NodeSends (home_of w.plan (f, r)) a k s opens n.subs (delivered z e.sender e.packet n)) is
+          own-step n (packet_step (home_of w.plan (p, q)) e.sender e.packet n) opens here (own-delivered (home_of w.plan (p, q)) e.sender e.packet n).grants.inc
+          (subst (λ (z : Home). NodeSends (home_of w.plan (f, r)) a k s opens n.subs (packet_step z e.sender e.packet n)) is
           (delivered-sends (home_of w.plan (f, r)) a k s opens line.distinct line.low e.sender e.packet n (λ it packet. opened it packet) (many-here n here)))
           (λ o. sym (inc-here n here) ∙ told o)
         where

@@ -5,7 +5,7 @@ use Rattle.std.proofs.lemmas.List.{append-nil, length-map}
 use Rattle.dpc_model.specs.Lists.{nth, changed, range_with_len, place_of}
 use Rattle.dpc_model.specs.Inlets.{same_sess}
 use Rattle.dpc_model.specs.Actors.{IsSource, IsNode, IsClient, role_of}
-use Rattle.dpc_model.specs.Sessions.{Sub, no_session, link_of, counted, counted_all, answered, given_items}
+use Rattle.dpc_model.specs.Sessions.{Sub, no_session, link_of, with_batch, with_batches, answer_to, given_items}
 use Rattle.dpc_model.specs.declared.messages.Event.{Event}
 use Rattle.dpc_model.specs.declared.tuples.Item.{Item}
 use Rattle.dpc_model.specs.declared.messages.Message.{Message}
@@ -15,10 +15,10 @@ use Rattle.dpc_model.specs.declared.messages.Subscribe.{Subscribe}
 use Rattle.dpc_model.specs.declared.plans.Plan.{Plan}
 use Rattle.dpc_model.specs.declared.plans.StreamRef.TheVariants.{Source}
 use Rattle.node_model.specs.Mails.{Mail, mail, Packet, Plain, SnapFor, Stepped}
-use Rattle.node_model.specs.Sources.{SourceState, source_readers, source_shown, source_given, source_gives, source_emits, source_releases, source_subscribed, source_delivered, source_beat, source_ticked, bound_at}
+use Rattle.node_model.specs.Sources.{SourceState, source_readers, source_shown, source_given, source_gives, source_emits, source_releases, source_subscribed, source_packet_step, source_beat, source_tick_step, bound_at}
 use Rattle.world_model.specs.Worlds.{World, Envelope, source_at, no_source, from, source_stepped, can_come, happens, run_from}
 use Rattle.world_model.specs.Safe.{EachStep}
-use Rattle.world_model.specs.SessionLaw.{Line}
+use Rattle.world_model.specs.SessionLaw.{Channel}
 use Rattle.world_safety.proofs.Tests.{both-of, eq-test}
 use Rattle.world_safety.proofs.Pointwise.{length-changed}
 use Rattle.world_safety.proofs.Giving.{place-below}
@@ -45,7 +45,7 @@ record SourceSends (readers : List ℕ) (a k : ℕ) (s : Sess) (opens : Bool) (o
   on : SendsOn s opens (nth no_session old.subs k) (nth no_session t.after.subs k) (indexes (record { sender = a; reader = nth 0 readers k; sess = s }) (map (from a) t.sends))
 
 module _ (plan : Plan) (u a k : ℕ) (s : Sess) (opens : Bool) (low : k < length (source_readers plan u)) where
-  abbrev line : Line
+  abbrev line : Channel
   line = record { sender = a; reader = nth 0 (source_readers plan u) k; sess = s }
 
   abbrev Sends : SourceState → Stepped SourceState → Type 0
@@ -59,9 +59,9 @@ module _ (plan : Plan) (u a k : ℕ) (s : Sess) (opens : Bool) (low : k < length
             (subst (λ (z : List Sub). SendsOn s opens (nth no_session x.subs k) (nth no_session z k) []) (sym same) (sends-none s opens (nth no_session x.subs k)));
       }
 
-  length-all : (items : List Item) (subs : List Sub) → length (counted_all items subs) ≡ length subs
+  length-all : (items : List Item) (subs : List Sub) → length (with_batches items subs) ≡ length subs
   length-all [] subs = refl
-  length-all (i ∷ items) subs = length-map subs counted
+  length-all (i ∷ items) subs = length-map subs with_batch
 
   gives : (t : ℕ) (bound : Option (ℕ × ℕ)) (x : SourceState) → length x.subs ≡ length (source_readers plan u) → Sends x (source_gives plan u t bound x)
   gives t bound x many =
@@ -80,7 +80,7 @@ module _ (plan : Plan) (u a k : ℕ) (s : Sess) (opens : Bool) (low : k < length
     where
       mine : sender ≡ nth 0 (source_readers plan u) k → Sends x (source_subscribed plan u asked (Some k) x)
       mine it =
-          let answer = answered (source_shown plan u x) (nth no_session x.subs k) asked in
+          let answer = answer_to (source_shown plan u x) (nth no_session x.subs k) asked in
           record {
             many = length-changed k (λ _. answer.after) x.subs ∙ many;
             on = subst (λ (z : Sub). SendsOn s opens (nth no_session x.subs k) z (indexes line (map (from a) (source_subscribed plan u asked (Some k) x).sends))) (sym (nth-in no_session (λ _. answer.after) x.subs k (omega (arith, many, low))))
@@ -94,7 +94,7 @@ module _ (plan : Plan) (u a k : ℕ) (s : Sess) (opens : Bool) (low : k < length
 
       others : (j ≡ k → ⊥) → Sends x (source_subscribed plan u asked (Some j) x)
       others other =
-          let answer = answered (source_shown plan u x) (nth no_session x.subs j) asked in
+          let answer = answer_to (source_shown plan u x) (nth no_session x.subs j) asked in
           record {
             many = length-changed j (λ _. answer.after) x.subs ∙ many;
             on = subst (λ (z : List ℕ). SendsOn s opens (nth no_session x.subs k) (nth no_session (changed j (λ _. answer.after) x.subs) k) z) (sym (answer-is answer.answer))
@@ -117,8 +117,8 @@ module _ (plan : Plan) (u a k : ℕ) (s : Sess) (opens : Bool) (low : k < length
           answer-is (Some m) = skip-other line a (mail (nth 0 (source_readers plan u) j) m) [] (and-false (a == a) (nth 0 (source_readers plan u) j == nth 0 (source_readers plan u) k) apart)
 
   delivered-on : (sender : ℕ) (packet : Packet) (x : SourceState) → (sender ≡ nth 0 (source_readers plan u) k → subscribes_packet s packet ≡ true → opens ≡ true) → length x.subs ≡ length (source_readers plan u) →
-      Sends x (source_delivered plan u sender packet x)
-  unfolding source_delivered
+      Sends x (source_packet_step plan u sender packet x)
+  unfolding source_packet_step
   delivered-on sender (Plain (message.Subscribe asked)) x told many = subscribed sender asked (place_of (λ b. sender == b) (source_readers plan u)) x refl told many
   delivered-on sender (Plain (message.Batch v index items)) x told many = quiet x (record { after = x; sends = [] }) many refl tt
   delivered-on sender (Plain (message.Truncated v base)) x told many = quiet x (record { after = x; sends = [] }) many refl tt
@@ -135,9 +135,9 @@ module _ (plan : Plan) (u a k : ℕ) (s : Sess) (opens : Bool) (low : k < length
   beats-none (b ∷ ids) [] = tt
   beats-none (b ∷ ids) (sub ∷ subs) = (λ z. refl, beats-none ids subs)
 
-  ticked-on : (now : ℕ) (x : SourceState) → length x.subs ≡ length (source_readers plan u) → Sends x (source_ticked plan u now x)
-  unfolding source_ticked
-  ticked-on now x many = quiet x (source_ticked plan u now x) many refl (beats-none (source_readers plan u) x.subs)
+  ticked-on : (now : ℕ) (x : SourceState) → length x.subs ≡ length (source_readers plan u) → Sends x (source_tick_step plan u now x)
+  unfolding source_tick_step
+  ticked-on now x many = quiet x (source_tick_step plan u now x) many refl (beats-none (source_readers plan u) x.subs)
 
   emits-on : (t : ℕ) (x : SourceState) → length x.subs ≡ length (source_readers plan u) → Sends x (source_emits plan u t x)
   unfolding source_emits
@@ -175,11 +175,11 @@ source-still w next a x u k i s readers sent within same h =
 
 more-none : (w : World) (a x y : ℕ) (s : Sess) (ms : List Mail) → (a ≡ y → ⊥) → indexes (record { sender = a; reader = x; sess = s }) (w.envelopes ++ map (from y) ms) ≡ indexes (record { sender = a; reader = x; sess = s }) w.envelopes
 more-none w a x y s ms other =
-    let l : Line = record { sender = a; reader = x; sess = s } in
+    let l : Channel = record { sender = a; reader = x; sess = s } in
     indexes-append l w.envelopes (map (from y) ms) ∙ ap (λ (ns : List ℕ). indexes l w.envelopes ++ ns) (other-indexed l y ms (apart-test y a other)) ∙ append-nil (indexes l w.envelopes)
 
 module _ (w : World) (a x u k i : ℕ) (s : Sess) (readers : ℕ) (line : IsSourceLine w.plan a x u k readers) (h : SourceOrder w a x u k i s readers) where
-  abbrev at : Line
+  abbrev at : Channel
   at = record { sender = a; reader = x; sess = s }
 
   abbrev IsNextSource : Event → World → Type 0
@@ -254,13 +254,13 @@ module _ (w : World) (a x u k i : ℕ) (s : Sess) (readers : ℕ) (line : IsSour
         released = λ y v t role told. any-source y v (source_releases w.plan v t (source_at w v)) role (λ same.
             subst (λ (z : ℕ). SourceOrder (source_stepped a (source_releases w.plan z t (source_at w z)) w) a x u k i s readers) (number-same y v role same)
             (own-source (source_releases w.plan u t (source_at w u)) false (releases-on w.plan u a k s false line.low t (source_at w u) full) (λ e. cc)));
-        source_took = λ j v e there can role told. any-source e.to v (source_delivered w.plan v e.sender e.packet (source_at w v)) role (λ same.
-            subst (λ (z : ℕ). SourceOrder (source_stepped a (source_delivered w.plan z e.sender e.packet (source_at w z)) w) a x u k i s readers) (number-same e.to v role same)
-            (own-source (source_delivered w.plan u e.sender e.packet (source_at w u)) (envelope_subscribes at w (slice_get w.envelopes j))
+        source_took = λ j v e there can role told. any-source e.to v (source_packet_step w.plan v e.sender e.packet (source_at w v)) role (λ same.
+            subst (λ (z : ℕ). SourceOrder (source_stepped a (source_packet_step w.plan z e.sender e.packet (source_at w z)) w) a x u k i s readers) (number-same e.to v role same)
+            (own-source (source_packet_step w.plan u e.sender e.packet (source_at w u)) (envelope_subscribes at w (slice_get w.envelopes j))
             (delivered-on w.plan u a k s (envelope_subscribes at w (slice_get w.envelopes j)) line.low e.sender e.packet (source_at w u) (λ it packet. opened j e there can same it packet) full) (λ o. sym one-inc ∙ told o)));
-        source_ticks = λ y v now role told. any-source y v (source_ticked w.plan v now (source_at w v)) role (λ same.
-            subst (λ (z : ℕ). SourceOrder (source_stepped a (source_ticked w.plan z now (source_at w z)) w) a x u k i s readers) (number-same y v role same)
-            (own-source (source_ticked w.plan u now (source_at w u)) false (ticked-on w.plan u a k s false line.low now (source_at w u) full) (λ e. cc)));
+        source_ticks = λ y v now role told. any-source y v (source_tick_step w.plan v now (source_at w v)) role (λ same.
+            subst (λ (z : ℕ). SourceOrder (source_stepped a (source_tick_step w.plan z now (source_at w z)) w) a x u k i s readers) (number-same y v role same)
+            (own-source (source_tick_step w.plan u now (source_at w u)) false (ticked-on w.plan u a k s false line.low now (source_at w u) full) (λ e. cc)));
         crashed = λ y p q role told. source-still w _ a x u k i s readers refl h.within refl h;
         restarted = λ y j p q role told. source-still w _ a x u k i s readers refl h.within refl h;
         node_took = λ j p q e n there can role up told. source-still w _ a x u k i s readers (more-none w a x e.to s _ (not-node e.to p q role)) h.within refl h;

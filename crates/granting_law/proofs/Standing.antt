@@ -13,7 +13,7 @@ use Rattle.dpc_model.specs.declared.plans.Plan.{Plan}
 use Rattle.node_model.specs.Mails.{Packet, Plain, Mail, Stepped}
 use Rattle.dpc_model.specs.NodeStates.{is_stabilization}
 use Rattle.node_model.specs.Nodes.{Home, PlainNode, restarted_node}
-use Rattle.node_model.specs.NodeSteps.{replica_number, clocked, delivered, milled, ticked_at}
+use Rattle.node_model.specs.NodeSteps.{replica_number, after_clock, packet_step, mill_step, tick_step}
 use Rattle.world_model.specs.Worlds.{World, Envelope, Slot, home_of, node_place, slot_of, from, node_stepped, restart_slot, is_clock, happens, run_from, run, new_world}
 use Rattle.world_model.specs.Orderly.{is_fitting, carries_fitting}
 use Rattle.world_safety.specs.Plans.{IsCheckedPlan}
@@ -228,17 +228,17 @@ stands-cases w most a b f ra rb i key fine asking h =
       node_took = λ k p q e n there can role up calm.
           let home = home_of w.plan (p, q) in
           let own = own-delivered home e.sender e.packet n in
-          stepped e.to p q n (delivered home e.sender e.packet n) (Hears home e.sender e.packet) (Asks home e.sender e.packet) (Ends home e.sender e.packet) role up own.grants
+          stepped e.to p q n (packet_step home e.sender e.packet n) (Hears home e.sender e.packet) (Asks home e.sender e.packet) (Ends home e.sender e.packet) role up own.grants
           (λ same pending r more number most ends.
           let whole : IsNode f rb ≡ IsNode p q = sym h.role_b ∙ ap (λ (x : ℕ). role_of w.plan x) same ∙ role in
           heard k p q e there whole pending r more number most ends);
       node_ticked = λ x now p q n role up clock calm.
           let home = home_of w.plan (p, q) in
-          stepped x p q n (ticked_at home now n) Never Never (FoundSilent now n) role up (own-ticked home now n).grants
+          stepped x p q n (tick_step home now n) Never Never (FoundSilent now n) role up (own-ticked home now n).grants
           (λ same pending r more number most found. silent x now n same up clock calm r number found);
       node_milled = λ x r p q n role up can calm.
           let home = home_of w.plan (p, q) in
-          stepped x p q n (milled home r n) Never Never Never role up (own-milled home r n).grants (λ same pending z more number most found. found);
+          stepped x p q n (mill_step home r n) Never Never Never role up (own-milled home r n).grants (λ same pending z more number most found. found);
       client_took = λ k c e there can role calm. stands-quiet w _ a b f ra rb i key refl refl h;
       client_ticks = λ x c now role calm. stands-quiet w _ a b f ra rb i key refl refl h;
     }
@@ -261,7 +261,7 @@ stands-cases w most a b f ra rb i key fine asking h =
         beat-early w a key more ends.0 pending.node pending.up (asking.nodes a f ra pending.node h.role_a pending.up).inc pending.inc pending.going_on told most ends.2
 
     silent : (x now : ℕ) (n : PlainNode) → b ≡ x → (slot_of w x).node ≡ Some n → is_clock n.clock now ≡ true → (x == b && role_finds w b a now (role_of w.plan b)) ≡ false → (r : ℕ) → replica_number (home_of w.plan (f, rb)) a ≡ Some r →
-        nth false (map is_silent (clocked now n).peers) r ≡ true → ⊥
+        nth false (map is_silent (after_clock now n).peers) r ≡ true → ⊥
     silent x now n same up clock calm r number found =
         let it : (x == b) ≡ true = eq-test x b (sym same) in
         let here : (slot_of w b).node ≡ Some n = ap (λ (y : ℕ). (slot_of w y).node) same ∙ up in
@@ -331,9 +331,9 @@ grant-cases w most k a b f rb key fine new role_b =
       source_ticks = λ x s now role there n up. absurd (other x _ there (λ p q d. let clash : IsSource s ≡ IsNode p q = sym role ∙ d in cc));
       crashed = λ x p q role there n up. absurd (none there);
       restarted = λ x i p q role there n up. absurd (none there);
-      node_took = λ j p q e m here can role was there n up. stepped e.to p q m (delivered (home_of w.plan (p, q)) e.sender e.packet m) role (own-delivered (home_of w.plan (p, q)) e.sender e.packet m).mails there n up;
-      node_ticked = λ x now p q m role was clock there n up. stepped x p q m (ticked_at (home_of w.plan (p, q)) now m) role (own-ticked (home_of w.plan (p, q)) now m).mails there n up;
-      node_milled = λ x r p q m role was can there n up. stepped x p q m (milled (home_of w.plan (p, q)) r m) role (own-milled (home_of w.plan (p, q)) r m).mails there n up;
+      node_took = λ j p q e m here can role was there n up. stepped e.to p q m (packet_step (home_of w.plan (p, q)) e.sender e.packet m) role (own-delivered (home_of w.plan (p, q)) e.sender e.packet m).mails there n up;
+      node_ticked = λ x now p q m role was clock there n up. stepped x p q m (tick_step (home_of w.plan (p, q)) now m) role (own-ticked (home_of w.plan (p, q)) now m).mails there n up;
+      node_milled = λ x r p q m role was can there n up. stepped x p q m (mill_step (home_of w.plan (p, q)) r m) role (own-milled (home_of w.plan (p, q)) r m).mails there n up;
       client_took = λ j c e here can role there n up. absurd (none there);
       client_ticks = λ x c now role there n up. absurd (other x _ there (λ p q d. let clash : IsClient c ≡ IsNode p q = sym role ∙ d in cc));
     }

@@ -5,7 +5,7 @@ use Rattle.std.proofs.lemmas.List.{append-nil}
 use Rattle.dpc_model.specs.Lists.{nth, changed, range_with_len}
 use Rattle.dpc_model.specs.Inlets.{take_batch, same_sess, restarted_inlet, new_inlet, sess_of}
 use Rattle.dpc_model.specs.Actors.{Role, IsSource, IsNode, IsClient, Nobody, role_of, nodes_of, inputs_of, senders_of}
-use Rattle.dpc_model.specs.Ports.{Port, port_at, sender_at, marks_ended, port_ticked, port_chosen}
+use Rattle.dpc_model.specs.Ports.{Port, port_at, sender_at, without_ended_marks, port_after_tick, port_after_choice}
 use Rattle.dpc_model.specs.declared.batches.Taken.{Taken}
 use Rattle.dpc_model.specs.declared.batches.Taken.TheVariants.{Used, Old, Broken}
 use Rattle.dpc_model.specs.declared.messages.Event.{Event}
@@ -18,10 +18,10 @@ use Rattle.dpc_model.specs.declared.plans.StreamRef.{StreamRef}
 use Rattle.dpc_model.specs.declared.plans.StreamRef.TheVariants.{Source}
 use Rattle.node_model.specs.Mails.{Packet, Plain, SnapFor, Stepped}
 use Rattle.node_model.specs.Nodes.{Home, PlainNode, streams_of, reader_at, new_node, restarted_node}
-use Rattle.node_model.specs.NodeSteps.{delivered, milled, ticked_at}
-use Rattle.node_model.specs.Clients.{ClientState, client_stream, new_client, keeping, client_took, client_message, client_packet, client_marks_ended, client_delivered, client_ticked}
+use Rattle.node_model.specs.NodeSteps.{packet_step, mill_step, tick_step}
+use Rattle.node_model.specs.Clients.{ClientState, client_stream, new_client, with_taken, client_after_batch, client_message, client_packet, client_marks_ended, client_after_packet, client_tick_step}
 use Rattle.world_model.specs.Worlds.{World, Envelope, Slot, home_of, node_place, slot_of, client_at, from, node_stepped, client_stepped, restart_slot, happens, run_from, run, new_world}
-use Rattle.world_model.specs.SessionLaw.{Line}
+use Rattle.world_model.specs.SessionLaw.{Channel}
 use Rattle.world_safety.specs.Plans.{IsCheckedPlan}
 use Rattle.world_safety.proofs.Tests.{both-of, eq-of, eq-test}
 use Rattle.world_safety.proofs.Numbering.{home-inputs, role-split}
@@ -74,7 +74,7 @@ get-first [] ys k x e = cc
 get-first (y ∷ xs) ys zero x e = e
 get-first (y ∷ xs) ys (suc k) x e = get-first xs ys k x e
 
-pub batch-later : (l : Line) (es more : List Envelope) (k j : ℕ) → IsBatchAt l es k j → IsBatchAt l (es ++ more) k j
+pub batch-later : (l : Channel) (es more : List Envelope) (k j : ℕ) → IsBatchAt l es k j → IsBatchAt l (es ++ more) k j
 batch-later l es more k j h = record { envelope = h.envelope; there = get-first es more k h.envelope h.there; is_batch = h.is_batch }
 
 -- ---- how a port moves in a world
@@ -171,20 +171,20 @@ module _ (w : World) (most x f q p : ℕ) (u : StreamRef) (fine : IsFine w most)
         restarted = λ y i g r0 role r there. node-slot (Restart y i) y g r0 (restart_slot (home_of w.plan (g, r0)) i) w.envelopes role (λ same r d. node-restart (Restart y i) (home_of w.plan (g, r0)) i r d) r there;
         node_took = λ k g r0 e n here can role up r there.
             let home = home_of w.plan (g, r0) in
-            let s = delivered home e.sender e.packet n in
+            let s = packet_step home e.sender e.packet n in
             node-slot (Deliver k) e.to g r0 (λ (slot : Slot). record slot { node = Some s.after }) (w.envelopes ++ map (from e.to) s.sends) role
             (λ same r d. node-step (Deliver k) n s (DeliversNext home e.sender e.packet) (ap (λ (y : ℕ). (slot_of w y).node) same ∙ up) (delivered-ports home e.sender e.packet n)
             (λ c z i t. took k g r0 e c z i here role same t) r d) r there;
         node_ticked = λ y now g r0 n role up clock r there.
-            let s = ticked_at (home_of w.plan (g, r0)) now n in
+            let s = tick_step (home_of w.plan (g, r0)) now n in
             node-slot (Tick y now) y g r0 (λ (slot : Slot). record slot { node = Some s.after }) (w.envelopes ++ map (from y) s.sends) role
             (λ same r d. node-step (Tick y now) n s NoneTaken (ap (λ (y : ℕ). (slot_of w y).node) same ∙ up) (ticked-ports (home_of w.plan (g, r0)) now n) (λ c z i t. absurd t) r d) r there;
         node_milled = λ y m g r0 n role up can r there.
-            let s = milled (home_of w.plan (g, r0)) m n in
+            let s = mill_step (home_of w.plan (g, r0)) m n in
             node-slot (Mill y m) y g r0 (λ (slot : Slot). record slot { node = Some s.after }) (w.envelopes ++ map (from y) s.sends) role
             (λ same r d. node-step (Mill y m) n s NoneTaken (ap (λ (y : ℕ). (slot_of w y).node) same ∙ up) (milled-ports (home_of w.plan (g, r0)) m n) (λ c z i t. absurd t) r d) r there;
         client_took = λ k c e here can role r there. node-still (Deliver k) (record w { clients = _ }) role_x refl r there;
-        client_ticks = λ a c now role r there. node-still (Tick a now) (client_stepped a c (client_ticked w.plan c now (client_at w c)) w) role_x refl r there;
+        client_ticks = λ a c now role r there. node-still (Tick a now) (client_stepped a c (client_tick_step w.plan c now (client_at w c)) w) role_x refl r there;
       }
     where
       took : (k g r0 : ℕ) (e : Envelope) (c : ℕ) (z : Sess) (i : ℕ) → slice_get w.envelopes k ≡ Some e → role_of w.plan e.to ≡ IsNode g r0 → x ≡ e.to → DeliversNext (home_of w.plan (g, r0)) e.sender e.packet p c z i → TookIt w (Deliver k) x u c z i
@@ -241,7 +241,7 @@ module _ (w : World) (x c : ℕ) (u : StreamRef) (role_x : role_of w.plan x ≡ 
   stream-is : client_stream w.plan c ≡ u
   stream-is = ap (λ (o : Option StreamRef). unwrap_or o (Source 0)) input
 
-  kept-port : (t : Taken) (z : ClientState) → (keeping t z).port ≡ z.port
+  kept-port : (t : Taken) (z : ClientState) → (with_taken t z).port ≡ z.port
   kept-port (Used items) z = refl
   kept-port Old z = refl
   kept-port Broken z = refl
@@ -249,7 +249,7 @@ module _ (w : World) (x c : ℕ) (u : StreamRef) (role_x : role_of w.plan x ≡ 
   message-moves : (k r : ℕ) (e : Envelope) (m : Message) (z : ClientState) → slice_get w.envelopes k ≡ Some e → e.to ≡ x → e.packet ≡ Plain m → sender_at w.plan (client_stream w.plan c ∷ []) e.sender ≡ Some (0, r) →
       Moves (TookIt w (Deliver k) x u) z.port (client_message r m z).port
   message-moves k r e (message.Batch v index items) z here to packet sender =
-      (elim (z.port.chosen == r) as (λ b. (z.port.chosen == r) ≡ b → Moves (TookIt w (Deliver k) x u) z.port (cond b (client_took (take_batch z.port.inlet v index items) z) z).port) [
+      (elim (z.port.chosen == r) as (λ b. (z.port.chosen == r) ≡ b → Moves (TookIt w (Deliver k) x u) z.port (cond b (client_after_batch (take_batch z.port.inlet v index items) z) z).port) [
         | false ↦ λ f. inl (stays-same z.port z.port refl refl refl refl)
         | true ↦ λ f.
             subst (λ (y : Port). Moves (TookIt w (Deliver k) x u) z.port y) (sym (kept-port (take_batch z.port.inlet v index items).answer (record z { port = record z.port { inlet = (take_batch z.port.inlet v index items).after } })))
@@ -284,15 +284,15 @@ module _ (w : World) (x c : ℕ) (u : StreamRef) (role_x : role_of w.plan x ≡ 
       only s t zero d = refl
       only s t (suc i) d = cc
 
-  took-port : (k : ℕ) (e : Envelope) (z : ClientState) → slice_get w.envelopes k ≡ Some e → e.to ≡ x → Moves (TookIt w (Deliver k) x u) z.port (client_delivered w.plan c e.sender e.packet z).port
-  unfolding client_delivered
+  took-port : (k : ℕ) (e : Envelope) (z : ClientState) → slice_get w.envelopes k ≡ Some e → e.to ≡ x → Moves (TookIt w (Deliver k) x u) z.port (client_after_packet w.plan c e.sender e.packet z).port
+  unfolding client_after_packet
   took-port k e z here to =
-      stays-then (TookIt w (Deliver k) x u) z.port (marks_ended z.port) (client_delivered w.plan c e.sender e.packet z).port refl refl refl refl
+      stays-then (TookIt w (Deliver k) x u) z.port (without_ended_marks z.port) (client_after_packet w.plan c e.sender e.packet z).port refl refl refl refl
       (packet-moves k e (sender_at w.plan (client_stream w.plan c ∷ []) e.sender) e.packet (client_marks_ended z) here to refl refl)
 
-  ticked-port : (e : Event) (now : ℕ) (z : ClientState) → Moves (TookIt w e x u) z.port (client_ticked w.plan c now z).after.port
-  unfolding client_ticked
-  ticked-port e now z = stays-then (TookIt w e x u) z.port (port_ticked (marks_ended z.port)) (port_chosen (port_ticked (marks_ended z.port))) refl refl refl refl (chosen-moves (TookIt w e x u) (port_ticked (marks_ended z.port)))
+  ticked-port : (e : Event) (now : ℕ) (z : ClientState) → Moves (TookIt w e x u) z.port (client_tick_step w.plan c now z).after.port
+  unfolding client_tick_step
+  ticked-port e now z = stays-then (TookIt w e x u) z.port (port_after_tick (without_ended_marks z.port)) (port_after_choice (port_after_tick (without_ended_marks z.port))) refl refl refl refl (chosen-moves (TookIt w e x u) (port_after_tick (without_ended_marks z.port)))
 
   -- a client's state is changed
   changed-port : (e : Event) (next : World) (d : ℕ) (f : ClientState → ClientState) → role_of next.plan x ≡ IsClient c → next.plan ≡ w.plan → next.clients ≡ changed d f w.clients →
@@ -315,23 +315,23 @@ module _ (w : World) (x c : ℕ) (u : StreamRef) (role_x : role_of w.plan x ≡ 
         source_ticks = λ a s now role r there. came-same w (Tick a now) x 0 u r there;
         crashed = λ y g r0 role r there. client-still (Crash y) (record w { nodes = changed (node_place w.plan y) (λ (slot : Slot). record slot { node = None }) w.nodes }) role_x refl r there;
         restarted = λ y i g r0 role r there. client-still (Restart y i) (record w { nodes = changed (node_place w.plan y) (restart_slot (home_of w.plan (g, r0)) i) w.nodes }) role_x refl r there;
-        node_took = λ k g r0 e n here can role up r there. client-still (Deliver k) (node_stepped e.to (delivered (home_of w.plan (g, r0)) e.sender e.packet n) w) role_x refl r there;
-        node_ticked = λ y now g r0 n role up clock r there. client-still (Tick y now) (node_stepped y (ticked_at (home_of w.plan (g, r0)) now n) w) role_x refl r there;
-        node_milled = λ y m g r0 n role up can r there. client-still (Mill y m) (node_stepped y (milled (home_of w.plan (g, r0)) m n) w) role_x refl r there;
+        node_took = λ k g r0 e n here can role up r there. client-still (Deliver k) (node_stepped e.to (packet_step (home_of w.plan (g, r0)) e.sender e.packet n) w) role_x refl r there;
+        node_ticked = λ y now g r0 n role up clock r there. client-still (Tick y now) (node_stepped y (tick_step (home_of w.plan (g, r0)) now n) w) role_x refl r there;
+        node_milled = λ y m g r0 n role up can r there. client-still (Mill y m) (node_stepped y (mill_step (home_of w.plan (g, r0)) m n) w) role_x refl r there;
         client_took = λ k d e here can role r there.
-            let f = client_delivered w.plan d e.sender e.packet in
+            let f = client_after_packet w.plan d e.sender e.packet in
             changed-port (Deliver k) (record w { clients = changed d f w.clients }) d f role_x refl refl (λ same. same-client k d e here role same) r there;
         client_ticks = λ a d now role r there.
-            let t = client_ticked w.plan d now (client_at w d) in
+            let t = client_tick_step w.plan d now (client_at w d) in
             changed-port (Tick a now) (client_stepped a d t w) d (λ _. t.after) role_x refl refl
-            (λ same. subst (λ (y : ℕ). Moves (TookIt w (Tick a now) x u) (client_at w c).port (client_ticked w.plan y now (client_at w y)).after.port) same (ticked-port (Tick a now) now (client_at w c))) r there;
+            (λ same. subst (λ (y : ℕ). Moves (TookIt w (Tick a now) x u) (client_at w c).port (client_tick_step w.plan y now (client_at w y)).after.port) same (ticked-port (Tick a now) now (client_at w c))) r there;
       }
     where
       -- a client has one actor
-      same-client : (k d : ℕ) (e : Envelope) → slice_get w.envelopes k ≡ Some e → role_of w.plan e.to ≡ IsClient d → c ≡ d → Moves (TookIt w (Deliver k) x u) (client_at w c).port (client_delivered w.plan d e.sender e.packet (client_at w c)).port
+      same-client : (k d : ℕ) (e : Envelope) → slice_get w.envelopes k ≡ Some e → role_of w.plan e.to ≡ IsClient d → c ≡ d → Moves (TookIt w (Deliver k) x u) (client_at w c).port (client_after_packet w.plan d e.sender e.packet (client_at w c)).port
       same-client k d e here role same =
           let whole : role_of w.plan e.to ≡ IsClient c = subst (λ (y : ℕ). role_of w.plan e.to ≡ IsClient y) (sym same) role in
-          subst (λ (y : ℕ). Moves (TookIt w (Deliver k) x u) (client_at w c).port (client_delivered w.plan y e.sender e.packet (client_at w c)).port) same
+          subst (λ (y : ℕ). Moves (TookIt w (Deliver k) x u) (client_at w c).port (client_after_packet w.plan y e.sender e.packet (client_at w c)).port) same
           (took-port k e (client_at w c) here (client-actor w.plan e.to x c whole role_x))
 
 -- ---- any port
@@ -403,7 +403,7 @@ taken-step w e x p u ks r now (inr (q, was, inl k)) h =
     at-later {n} {j} b =
         let grows = event-grows w e in
         subst (λ (pl : Plan). IsBatchAt (line_of pl x u r) (happens w e).envelopes n j) (sym grows.plan)
-        (subst (λ (l : Line). IsBatchAt l (happens w e).envelopes n j) (sym (line-same w.plan x u q r k.sess k.chosen))
+        (subst (λ (l : Channel). IsBatchAt l (happens w e).envelopes n j) (sym (line-same w.plan x u q r k.sess k.chosen))
         (subst (λ (es : List Envelope). IsBatchAt (line_of w.plan x u q) es n j) (sym grows.envelopes) (batch-later (line_of w.plan x u q) w.envelopes grows.more n j b)))
 taken-step w e x p u ks r now (inr (q, was, inr (inl k))) h =
     none-taken (happens w e) x u (taken_next ks e (port_of w x p) (port_of (happens w e) x p)) r (let other = k.sess in rw (was, now, other) refl) (λ b. k.next)
@@ -435,7 +435,7 @@ taken-step w e x p u ks r now (inr (q, was, inr (inr k))) h =
     at-later n j b =
         let grows = event-grows w e in
         subst (λ (pl : Plan). IsBatchAt (line_of pl x u r) (happens w e).envelopes n j) (sym grows.plan)
-        (subst (λ (l : Line). IsBatchAt l (happens w e).envelopes n j) (sym (line-same w.plan x u q r k.sess k.chosen))
+        (subst (λ (l : Channel). IsBatchAt l (happens w e).envelopes n j) (sym (line-same w.plan x u q r k.sess k.chosen))
         (subst (λ (es : List Envelope). IsBatchAt (line_of w.plan x u q) es n j) (sym grows.envelopes) (batch-later (line_of w.plan x u q) w.envelopes grows.more n j b)))
 
     got-last : (ks : List ℕ) (v j n : ℕ) → slice_get (ks ++ (v ∷ [])) j ≡ Some n → (slice_get ks j ≡ Some n) ⊎ ((j ≡ length ks) × (n ≡ v))

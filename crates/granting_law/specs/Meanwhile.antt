@@ -10,7 +10,7 @@ use Rattle.dpc_model.specs.declared.messages.Message.TheVariants as message
 use Rattle.dpc_model.specs.declared.plans.Plan.{Plan}
 use Rattle.node_model.specs.Mails.{Plain}
 use Rattle.node_model.specs.Nodes.{Home, PlainNode}
-use Rattle.node_model.specs.NodeSteps.{replica_number, clocked}
+use Rattle.node_model.specs.NodeSteps.{replica_number, after_clock}
 use Rattle.world_model.specs.Worlds.{World, home_of, slot_of, is_clock, happens, run}
 use Rattle.world_model.specs.Safe.{EachStep}
 use Rattle.granting_law.specs.Asking.{reconciles}
@@ -20,7 +20,7 @@ use Rattle.granting_law.specs.Asking.{reconciles}
 -- a tick at this clock finds a replica silent
 abbrev pub finds_replica : ℕ → PlainNode → Option ℕ → Bool
 finds_replica now n None = false
-finds_replica now n (Some q) = nth false (map is_silent (clocked now n).peers) q
+finds_replica now n (Some q) = nth false (map is_silent (after_clock now n).peers) q
 
 abbrev pub node_finds : Home → ℕ → ℕ → Option PlainNode → Bool
 node_finds home a now None = false

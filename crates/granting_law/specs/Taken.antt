@@ -14,7 +14,7 @@ use Rattle.node_model.specs.Mails.{Packet, Plain, SnapFor}
 use Rattle.node_model.specs.Nodes.{PlainNode}
 use Rattle.world_model.specs.Worlds.{World, Envelope, slot_of, client_at, can_come, happens, run, new_world}
 use Rattle.world_model.specs.Safe.{EachStep}
-use Rattle.world_model.specs.SessionLaw.{Line}
+use Rattle.world_model.specs.SessionLaw.{Channel}
 
 -- ---- what was sent
 
@@ -25,11 +25,11 @@ index_in s (Plain m) = None
 index_in s (SnapFor i try snap) = None
 
 -- and of an envelope that its sender sent in it
-abbrev pub index_of : Line → Envelope → Option ℕ
+abbrev pub index_of : Channel → Envelope → Option ℕ
 index_of l e = if e.sender == l.sender && e.to == l.reader then index_in l.sess e.packet else None
 
 -- the numbers of the batches that were sent in a session, where the first envelope has number k
-abbrev pub batches_in : Line → ℕ → List Envelope → List ℕ
+abbrev pub batches_in : Channel → ℕ → List Envelope → List ℕ
 batches_in l k [] = []
 batches_in l k (e ∷ es) = elim (index_of l e) [ None ↦ batches_in l (k + 1) es | Some index ↦ k ∷ batches_in l (k + 1) es ]
 
@@ -85,13 +85,13 @@ abbrev pub taken_in : Plan → List Event → ℕ → ℕ → List ℕ
 taken_in plan events x p = taken_from x p [] (new_world plan) events
 
 -- the session of a port, with the replica that it reads
-abbrev pub line_of : Plan → ℕ → StreamRef → Port → Line
+abbrev pub line_of : Plan → ℕ → StreamRef → Port → Channel
 line_of plan x s q = record { sender = nth 0 (senders_of plan s) q.chosen; reader = x; sess = q.inlet.sess }
 
 -- ---- the batches taken
 
 -- an envelope is the batch of this index in a session
-pub record IsBatchAt (l : Line) (es : List Envelope) (k index : ℕ) : Type 0 where
+pub record IsBatchAt (l : Channel) (es : List Envelope) (k index : ℕ) : Type 0 where
   pub envelope : Envelope
   pub there : slice_get es k ≡ Some envelope
   pub is_batch : index_of l envelope ≡ Some index
@@ -110,11 +110,11 @@ subscribes_packet s (Plain (message.Subscribe asked)) = same_sess asked.sess s
 subscribes_packet s (Plain m) = false
 subscribes_packet s (SnapFor i try snap) = false
 
-abbrev pub envelope_subscribes : Line → World → Option Envelope → Bool
+abbrev pub envelope_subscribes : Channel → World → Option Envelope → Bool
 envelope_subscribes l w None = false
 envelope_subscribes l w (Some e) = e.sender == l.reader && e.to == l.sender && subscribes_packet l.sess e.packet && can_come w e
 
-abbrev pub subscribes : Line → World → Event → Bool
+abbrev pub subscribes : Channel → World → Event → Bool
 subscribes l w (Deliver k) = envelope_subscribes l w (slice_get w.envelopes k)
 subscribes l w (Phase p) = false
 subscribes l w (Emit a t) = false
@@ -138,7 +138,7 @@ role_inc w a (IsClient c) = 0
 role_inc w a Nobody = 0
 
 -- every subscription to the session came to the sender in this incarnation; the session (1,1) was opened in the first one
-pub record IsAnsweredIn (plan : Plan) (events : List Event) (l : Line) (i : ℕ) : Type 0 where
+pub record IsAnsweredIn (plan : Plan) (events : List Event) (l : Channel) (i : ℕ) : Type 0 where
   pub opening : same_sess (sess_of 1 1) l.sess ≡ true → i ≡ 1
   pub subscribed : EachStep (λ w e. subscribes l w e ≡ true → role_inc w l.sender (role_of w.plan l.sender) ≡ i) (new_world plan) events
 

@@ -5,9 +5,9 @@ use Rattle.std.proofs.lemmas.Grind.{common_steps}
 use Rattle.dpc_model.specs.Lists.{nth, changed}
 use Rattle.dpc_model.specs.Streams.{cut}
 use Rattle.dpc_model.specs.Fragments.{fragment_value}
-use Rattle.dpc_model.specs.Inlets.{InletState, Took, take_batch}
-use Rattle.dpc_model.specs.Granting.{grants, granted, finished}
-use Rattle.dpc_model.specs.Ports.{Port, no_port, marks_ended, on_truncated, port_ticked}
+use Rattle.dpc_model.specs.Inlets.{InletState, AfterBatch, take_batch}
+use Rattle.dpc_model.specs.Granting.{grants, with_promise, with_ask_over}
+use Rattle.dpc_model.specs.Ports.{Port, no_port, without_ended_marks, on_truncated, port_after_tick}
 use Rattle.dpc_model.specs.Parts.{Inputs, Upstream, done_in, stream_by, shown_of}
 use Rattle.dpc_model.specs.Actors.{replicas_of}
 use Rattle.dpc_model.specs.declared.batches.Taken.{Taken}
@@ -21,7 +21,7 @@ use Rattle.dpc_model.specs.declared.messages.Message.TheVariants as message
 use Rattle.node_model.specs.Mails.{mail, Stepped}
 use Rattle.dpc_model.specs.NodeStates.{is_stable, is_stabilization}
 use Rattle.node_model.specs.Nodes.{Home, PlainNode, spec_of, inputs_done, out_stable, out_view, out_tentative, out_passed, due_at, ready, shown}
-use Rattle.node_model.specs.NodeSteps.{silently, give, with_base, with_port, fresh, stamped_by, took, on_batch, on_subscribe, on_upstream_beat, on_peer_beat, on_ack, on_ask, on_snap_ask, with_marks_ended, moved, advanced, closing, with_failure, reconciled, milled, clocked, choosing, processed_upto, processing, announcing, asking_snapshots}
+use Rattle.node_model.specs.NodeSteps.{silent_step, give, with_base, with_port, with_fresh_start, with_stamps_of, after_taking, on_batch, on_subscribe, on_upstream_beat, on_peer_beat, on_ack, on_ask, on_snap_ask, with_marks_ended, past_buckets, after_stable_buckets, with_closed, with_failure, after_last_correction, mill_step, after_clock, choice_step, processing_upto, processing_step, announcing_step, snapshot_ask_step}
 use Rattle.node_model.specs.Views.{inputs_of, outputs_of, upstream_of, neighbours_of, stream_of}
 
 -- ---- ports
@@ -48,15 +48,15 @@ with_base-leaves home n = (refl, refl)
 pub with_port-leaves : (p : ℕ) (f : Port → Port) (n : PlainNode) → outputs_of (with_port p f n) ≡ outputs_of n
 with_port-leaves p f n = refl
 
-pub fresh-leaves : (n : PlainNode) → (inputs_of (fresh n) ≡ inputs_of n) × (outputs_of (fresh n) ≡ outputs_of n) × (neighbours_of (fresh n) ≡ neighbours_of n)
+pub fresh-leaves : (n : PlainNode) → (inputs_of (with_fresh_start n) ≡ inputs_of n) × (outputs_of (with_fresh_start n) ≡ outputs_of n) × (neighbours_of (with_fresh_start n) ≡ neighbours_of n)
 fresh-leaves n = (refl, refl, refl)
 
-pub stamped_by-leaves : (home : Home) (t : Taken) (n : PlainNode) → (outputs_of (stamped_by home t n) ≡ outputs_of n) × (neighbours_of (stamped_by home t n) ≡ neighbours_of n)
+pub stamped_by-leaves : (home : Home) (t : Taken) (n : PlainNode) → (outputs_of (with_stamps_of home t n) ≡ outputs_of n) × (neighbours_of (with_stamps_of home t n) ≡ neighbours_of n)
 stamped_by-leaves home (Used items) n = (refl, refl)
 stamped_by-leaves home Old n = (refl, refl)
 stamped_by-leaves home Broken n = (refl, refl)
 
-pub took-leaves : (home : Home) (p : ℕ) (t : Took) (n : PlainNode) → (outputs_of (took home p t n) ≡ outputs_of n) × (neighbours_of (took home p t n) ≡ neighbours_of n)
+pub took-leaves : (home : Home) (p : ℕ) (t : AfterBatch) (n : PlainNode) → (outputs_of (after_taking home p t n) ≡ outputs_of n) × (neighbours_of (after_taking home p t n) ≡ neighbours_of n)
 took-leaves home p t n =
     let m = with_port p (λ q. record q { inlet = t.after }) n in
     let s = stamped_by-leaves home t.answer m in
@@ -68,8 +68,8 @@ pub on_batch-leaves : (home : Home) (s : Sess) (index : ℕ) (items : List Item)
 on_batch-leaves home s index items None n = (refl, refl)
 on_batch-leaves home s index items (Some (p, r)) n =
     let port = nth no_port n.ports p in
-    elim (port.chosen == r) as (λ b. (outputs_of (cond b (took home p (take_batch port.inlet s index items) n) n) ≡ outputs_of n)
-    × (neighbours_of (cond b (took home p (take_batch port.inlet s index items) n) n) ≡ neighbours_of n)) [
+    elim (port.chosen == r) as (λ b. (outputs_of (cond b (after_taking home p (take_batch port.inlet s index items) n) n) ≡ outputs_of n)
+    × (neighbours_of (cond b (after_taking home p (take_batch port.inlet s index items) n) n) ≡ neighbours_of n)) [
       | true ↦ took-leaves home p (take_batch port.inlet s index items) n
       | false ↦ (refl, refl)
     ]
@@ -96,8 +96,8 @@ pub on_ask-leaves : (home : Home) (i ask : ℕ) (r : Option ℕ) (n : PlainNode)
     (inputs_of (on_ask home i ask r n).after ≡ inputs_of n) × (outputs_of (on_ask home i ask r n).after ≡ outputs_of n)
 on_ask-leaves home i ask None n = (refl, refl)
 on_ask-leaves home i ask (Some r) n =
-    let yes : Stepped PlainNode = record { after = record n { grants = granted n.grants r (i, ask) }; sends = mail (nth 0 (replicas_of home.plan home.frag) r) (message.Grant i ask) ∷ [] } in
-    elim (grants n.grants n.state r (i, ask)) as (λ b. (inputs_of (cond b yes (silently n)).after ≡ inputs_of n) × (outputs_of (cond b yes (silently n)).after ≡ outputs_of n)) [
+    let yes : Stepped PlainNode = record { after = record n { grants = with_promise n.grants r (i, ask) }; sends = mail (nth 0 (replicas_of home.plan home.frag) r) (message.Grant i ask) ∷ [] } in
+    elim (grants n.grants n.state r (i, ask)) as (λ b. (inputs_of (cond b yes (silent_step n)).after ≡ inputs_of n) × (outputs_of (cond b yes (silent_step n)).after ≡ outputs_of n)) [
       | true ↦ (refl, refl)
       | false ↦ (refl, refl)
     ]
@@ -113,48 +113,48 @@ on_snap_ask-leaves home sender i try n = refl
 
 pub with_marks_ended-leaves : (n : PlainNode) → (inputs_of (with_marks_ended n) ≡ inputs_of n) × (outputs_of (with_marks_ended n) ≡ outputs_of n)
 with_marks_ended-leaves n =
-    let ins = map-seen (λ (q : Port). q.inlet) marks_ended (λ q. refl) n.ports in
+    let ins = map-seen (λ (q : Port). q.inlet) without_ended_marks (λ q. refl) n.ports in
     (ap (λ (is : List InletState). record { inlets = is; stamps = n.stamps; cursor = n.cursor; closed = n.closed }) ins, refl)
 
 -- ---- steps of milling and of a tick
 
-pub advanced-leaves : (home : Home) (r : ℕ) (n : PlainNode) → neighbours_of (advanced home r n) ≡ neighbours_of n
+pub advanced-leaves : (home : Home) (r : ℕ) (n : PlainNode) → neighbours_of (after_stable_buckets home r n) ≡ neighbours_of n
 advanced-leaves home r n = refl
 
-pub moved-leaves : (r : ℕ) (n : PlainNode) → (outputs_of (moved r n) ≡ outputs_of n) × (neighbours_of (moved r n) ≡ neighbours_of n)
+pub moved-leaves : (r : ℕ) (n : PlainNode) → (outputs_of (past_buckets r n) ≡ outputs_of n) × (neighbours_of (past_buckets r n) ≡ neighbours_of n)
 moved-leaves r n = (refl, refl)
 
-pub closing-leaves : (home : Home) (count : ℕ) (n : PlainNode) → (outputs_of (closing home count n) ≡ outputs_of n) × (neighbours_of (closing home count n) ≡ neighbours_of n)
+pub closing-leaves : (home : Home) (count : ℕ) (n : PlainNode) → (outputs_of (with_closed home count n) ≡ outputs_of n) × (neighbours_of (with_closed home count n) ≡ neighbours_of n)
 closing-leaves home count n = (refl, refl)
 
 pub with_failure-leaves : (n : PlainNode) → (inputs_of (with_failure n) ≡ inputs_of n) × (outputs_of (with_failure n) ≡ outputs_of n) × (neighbours_of (with_failure n) ≡ neighbours_of n)
 with_failure-leaves n = (refl, refl, refl)
 
-pub reconciled-leaves : (done : Bool) (n : PlainNode) → (inputs_of (reconciled done n) ≡ inputs_of n) × (outputs_of (reconciled done n) ≡ outputs_of n)
+pub reconciled-leaves : (done : Bool) (n : PlainNode) → (inputs_of (after_last_correction done n) ≡ inputs_of n) × (outputs_of (after_last_correction done n) ≡ outputs_of n)
 reconciled-leaves done n = (refl, refl)
 
 -- milling leaves the neighbours but for the own ask
 pub milled-leaves : (home : Home) (r : ℕ) (n : PlainNode) →
-    neighbours_of (milled home r n).after
-    ≡ record (neighbours_of n) { grants = if is_stabilization n.state && ready home (advanced home r n) == 0 then finished n.grants else n.grants }
-unfolding milled
+    neighbours_of (mill_step home r n).after
+    ≡ record (neighbours_of n) { grants = if is_stabilization n.state && ready home (after_stable_buckets home r n) == 0 then with_ask_over n.grants else n.grants }
+unfolding mill_step
 milled-leaves home r n = refl
 
-pub clocked-leaves : (now : ℕ) (n : PlainNode) → (inputs_of (clocked now n) ≡ inputs_of n) × (outputs_of (clocked now n) ≡ outputs_of n)
+pub clocked-leaves : (now : ℕ) (n : PlainNode) → (inputs_of (after_clock now n) ≡ inputs_of n) × (outputs_of (after_clock now n) ≡ outputs_of n)
 clocked-leaves now n =
-    let ins = map-seen (λ (q : Port). q.inlet) port_ticked (λ q. refl) n.ports in
+    let ins = map-seen (λ (q : Port). q.inlet) port_after_tick (λ q. refl) n.ports in
     (ap (λ (is : List InletState). record { inlets = is; stamps = n.stamps; cursor = n.cursor; closed = n.closed }) ins, refl)
 
-pub choosing-leaves : (home : Home) (n : PlainNode) → outputs_of (choosing home n).after ≡ outputs_of n
+pub choosing-leaves : (home : Home) (n : PlainNode) → outputs_of (choice_step home n).after ≡ outputs_of n
 choosing-leaves home n = refl
 
-pub processed_upto-leaves : (home : Home) (last : ℕ) (n : PlainNode) → neighbours_of (processed_upto home last n).after ≡ neighbours_of n
+pub processed_upto-leaves : (home : Home) (last : ℕ) (n : PlainNode) → neighbours_of (processing_upto home last n).after ≡ neighbours_of n
 processed_upto-leaves home last n = refl
 
-pub processing-leaves : (home : Home) (n : PlainNode) → neighbours_of (processing home n).after ≡ neighbours_of n
+pub processing-leaves : (home : Home) (n : PlainNode) → neighbours_of (processing_step home n).after ≡ neighbours_of n
 processing-leaves home n =
-    let step : Option ℕ → Stepped PlainNode = λ o. elim o [ None ↦ silently n | Some last ↦ processed_upto home last n ] in
-    elim (is_stabilization n.state) as (λ b. neighbours_of (cond b (silently n) (step (due_at home n n.clock))).after ≡ neighbours_of n) [
+    let step : Option ℕ → Stepped PlainNode = λ o. elim o [ None ↦ silent_step n | Some last ↦ processing_upto home last n ] in
+    elim (is_stabilization n.state) as (λ b. neighbours_of (cond b (silent_step n) (step (due_at home n n.clock))).after ≡ neighbours_of n) [
       | true ↦ refl
       | false ↦ elim (due_at home n n.clock) as (λ o. neighbours_of (step o).after ≡ neighbours_of n) [
         | None ↦ refl
@@ -162,10 +162,10 @@ processing-leaves home n =
       ]
     ]
 
-pub announcing-leaves : (home : Home) (n : PlainNode) → (announcing home n).after ≡ n
+pub announcing-leaves : (home : Home) (n : PlainNode) → (announcing_step home n).after ≡ n
 announcing-leaves home n = refl
 
-pub asking_snapshots-leaves : (home : Home) (n : PlainNode) → (asking_snapshots home n).after ≡ n
+pub asking_snapshots-leaves : (home : Home) (n : PlainNode) → (snapshot_ask_step home n).after ≡ n
 asking_snapshots-leaves home n = refl
 
 -- ---- the stream

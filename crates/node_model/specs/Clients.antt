@@ -2,11 +2,11 @@
 use Rattle.std.specs.Prelude.{ℕ, Bool, ◌==◌, if◌then◌else◌, List, [], ◌∷◌, ◌++◌, length, Option, Some, None}
 use Rattle.dpc_model.specs.Lists.{nth}
 use Rattle.dpc_model.specs.Reading.{Reader, is_settled}
-use Rattle.dpc_model.specs.Inlets.{new_inlet, Took, take_batch}
+use Rattle.dpc_model.specs.Inlets.{new_inlet, AfterBatch, take_batch}
 use Rattle.dpc_model.specs.declared.batches.Taken.{Taken}
 use Rattle.dpc_model.specs.declared.batches.Taken.TheVariants.{Used, Old, Broken}
 use Rattle.dpc_model.specs.Actors.{IsClient, inputs_of}
-use Rattle.dpc_model.specs.Ports.{Port, port_at, sender_at, marks_ended, on_beat, on_truncated, port_ticked, port_chosen, subscriptions, acks_to}
+use Rattle.dpc_model.specs.Ports.{Port, port_at, sender_at, without_ended_marks, on_beat, on_truncated, port_after_tick, port_after_choice, subscriptions, acks_to}
 use Rattle.dpc_model.specs.declared.tuples.Item.{Item}
 use Rattle.dpc_model.specs.declared.messages.Message.{Message}
 use Rattle.dpc_model.specs.declared.messages.Message.TheVariants as message
@@ -35,17 +35,17 @@ reader_of x = x.port.inlet.held
 abbrev pub client_settled : Plan → ClientState → Bool
 client_settled plan x = is_settled plan.end (reader_of x)
 
-abbrev pub keeping : Taken → ClientState → ClientState
-keeping (Used items) x = record x { taken = x.taken ++ items }
-keeping Old x = x
-keeping Broken x = x
+abbrev pub with_taken : Taken → ClientState → ClientState
+with_taken (Used items) x = record x { taken = x.taken ++ items }
+with_taken Old x = x
+with_taken Broken x = x
 
-abbrev pub client_took : Took → ClientState → ClientState
-client_took t x = keeping t.answer (record x { port = record x.port { inlet = t.after } })
+abbrev pub client_after_batch : AfterBatch → ClientState → ClientState
+client_after_batch t x = with_taken t.answer (record x { port = record x.port { inlet = t.after } })
 
 -- what comes from a replica of the stream
 abbrev pub client_message : ℕ → Message → ClientState → ClientState
-client_message r (message.Batch s index items) x = if x.port.chosen == r then client_took (take_batch x.port.inlet s index items) x else x
+client_message r (message.Batch s index items) x = if x.port.chosen == r then client_after_batch (take_batch x.port.inlet s index items) x else x
 client_message r (message.Truncated s base) x = record x { port = on_truncated r s base x.port }
 client_message r (message.Beat b) x = record x { port = on_beat r b x.port }
 client_message r (message.Subscribe asked) x = x
@@ -60,18 +60,18 @@ client_packet (Some (p, r)) (Plain m) x = client_message r m x
 client_packet (Some (p, r)) (SnapFor i try snap) x = x
 
 abbrev pub client_marks_ended : ClientState → ClientState
-client_marks_ended x = record x { port = marks_ended x.port }
+client_marks_ended x = record x { port = without_ended_marks x.port }
 
 -- a client takes batches, beats and truncations as a port does, and sends nothing
-unfoldable pub client_delivered : Plan → ℕ → ℕ → Packet → ClientState → ClientState
-client_delivered plan c a packet x = client_packet (sender_at plan (client_stream plan c ∷ []) a) packet (client_marks_ended x)
+unfoldable pub client_after_packet : Plan → ℕ → ℕ → Packet → ClientState → ClientState
+client_after_packet plan c a packet x = client_packet (sender_at plan (client_stream plan c ∷ []) a) packet (client_marks_ended x)
 
 -- at a tick a client chooses a replica, and acknowledges its tuples
-unfoldable pub client_ticked : Plan → ℕ → ℕ → ClientState → Stepped ClientState
-client_ticked plan c now x =
-    let port = port_ticked (marks_ended x.port) in
+unfoldable pub client_tick_step : Plan → ℕ → ℕ → ClientState → Stepped ClientState
+client_tick_step plan c now x =
+    let port = port_after_tick (without_ended_marks x.port) in
     let sub = subscriptions plan (port ∷ []) (client_stream plan c ∷ []) in
     record {
-      after = record x { port = port_chosen port; clock = now };
+      after = record x { port = port_after_choice port; clock = now };
       sends = mails sub ++ mails (acks_to plan 1 (length x.port.inlet.held.stable) (client_stream plan c));
     }

@@ -3,14 +3,14 @@ use Rattle.std.specs.Prelude.{ℕ, ◌+◌, ◌-◌, ◌*◌, Bool, true, false,
 use Rattle.dpc_model.specs.Lists.{nth, changed, is_nil, list_all, range_with_len, numbered, place_of}
 use Rattle.dpc_model.specs.Streams.{count_below}
 use Rattle.dpc_model.specs.Reading.{tuples_in}
-use Rattle.dpc_model.specs.Inlets.{same_sess, restarted_inlet, Took, take_batch}
+use Rattle.dpc_model.specs.Inlets.{same_sess, restarted_inlet, AfterBatch, take_batch}
 use Rattle.dpc_model.specs.declared.batches.Taken.{Taken}
 use Rattle.dpc_model.specs.declared.batches.Taken.TheVariants.{Used, Old, Broken}
-use Rattle.dpc_model.specs.Due.{stamped_all}
-use Rattle.dpc_model.specs.Replicas.{Watch, noted, ticked, is_silent, says_recovering}
-use Rattle.dpc_model.specs.Granting.{own_key, grants, granted, may_enter_by, told, after_silence, asking, finished}
+use Rattle.dpc_model.specs.Due.{with_stamps}
+use Rattle.dpc_model.specs.Replicas.{Watch, after_beat, after_tick, is_silent, says_recovering}
+use Rattle.dpc_model.specs.Granting.{own_key, grants, with_promise, may_enter_by, after_peer_beat, after_silence, with_ask, with_ask_over}
 use Rattle.dpc_model.specs.Actors.{replicas_of}
-use Rattle.dpc_model.specs.Ports.{Port, no_port, sender_at, marks_ended, on_beat, on_truncated, all_truncated, port_ticked, port_chosen, subscriptions, acks_to}
+use Rattle.dpc_model.specs.Ports.{Port, no_port, sender_at, without_ended_marks, on_beat, on_truncated, all_truncated, port_after_tick, port_after_choice, subscriptions, acks_to}
 use Rattle.dpc_model.specs.declared.tuples.Tuple.{Tuple}
 use Rattle.dpc_model.specs.declared.tuples.Item.{Item}
 use Rattle.dpc_model.specs.declared.tuples.Item.TheVariants as item
@@ -21,13 +21,13 @@ use Rattle.dpc_model.specs.declared.messages.Message.{Message}
 use Rattle.dpc_model.specs.declared.messages.Message.TheVariants as message
 use Rattle.dpc_model.specs.declared.messages.NodeState.TheVariants.{Stable, UpFailure, Stabilization}
 use Rattle.dpc_model.specs.declared.plans.StreamRef.{StreamRef}
-use Rattle.dpc_model.specs.Sessions.{Sub, shut, link_of, Given, given_items, acked, base_after}
+use Rattle.dpc_model.specs.Sessions.{Sub, with_session_shut, link_of, Given, given_items, after_ack, base_after}
 use Rattle.node_model.specs.Mails.{Stepped, Snap, Packet, Plain, SnapFor, Mail, mail, mails, in_actor_order, to_each, to_sessions, to_subscriber}
 use Rattle.dpc_model.specs.NodeStates.{is_up_failure, is_stabilization}
 use Rattle.node_model.specs.Nodes.{Home, streams_of, own_readers, PlainNode, reader_at, inputs_done, view_cursor, out_stable, out_tentative, out_bound, out_passed, shown, bucket_of, complete_buckets, ready, due_at, wants_to_reconcile}
 
-abbrev pub silently : PlainNode → Stepped PlainNode
-silently n = record { after = n; sends = [] }
+abbrev pub silent_step : PlainNode → Stepped PlainNode
+silent_step n = record { after = n; sends = [] }
 
 -- one step behind another
 abbrev pub then_do : Stepped PlainNode → (PlainNode → Stepped PlainNode) → Stepped PlainNode
@@ -62,28 +62,28 @@ with_base home n = record n { base = base_after n.base n.acks (length (out_stabl
 -- ---- entering, recovering, snapshots
 
 -- tentative output goes, and the node reconciles from its cursor on
-unfoldable pub entered : Home → PlainNode → Stepped PlainNode
-entered home n =
-    give home (item.Undo (length (out_stable home n)) ∷ []) (record n { closed = []; state = Stabilization; grants = asking n.grants })
+unfoldable pub enter_step : Home → PlainNode → Stepped PlainNode
+enter_step home n =
+    give home (item.Undo (length (out_stable home n)) ∷ []) (record n { closed = []; state = Stabilization; grants = with_ask n.grants })
 
 -- the inputs of a port are lost; the number of its last session and what is known of its replicas stay
-abbrev pub port_emptied : List Tuple → ℕ → Port → Port
-port_emptied ts b p = record p { inlet = restarted_inlet (reader_at ts b) p.inlet.sess; ticks = 0 }
+abbrev pub emptied_port : List Tuple → ℕ → Port → Port
+emptied_port ts b p = record p { inlet = restarted_inlet (reader_at ts b) p.inlet.sess; ticks = 0 }
 
 -- the node loses what it holds, and is recovering
-unfoldable pub recovering_again : Home → PlainNode → PlainNode
-recovering_again home n =
+unfoldable pub after_loss : Home → PlainNode → PlainNode
+after_loss home n =
     record n {
-      ports = map (port_emptied [] 0) n.ports;
+      ports = map (emptied_port [] 0) n.ports;
       stamps = [];
       cursor = 0;
       closed = [];
       state = Stabilization;
       recovering = true;
-      subs = map shut n.subs;
+      subs = map with_session_shut n.subs;
       acks = map (λ _. (0, 0)) n.acks;
       base = 0;
-      grants = finished n.grants;
+      grants = with_ask_over n.grants;
       tries = n.tries + 1;
     }
 
@@ -92,49 +92,49 @@ abbrev pub snapshot : Home → PlainNode → Snap
 snapshot home n = record { cursor = n.cursor; inputs = inputs_done home n; base = n.base }
 
 -- ports that hold a snapshot's inputs, all below b
-abbrev pub ports_adopted : ℕ → List (List Tuple) → List Port → List Port
-ports_adopted b [] ports = []
-ports_adopted b (ts ∷ rest) [] = []
-ports_adopted b (ts ∷ rest) (p ∷ ports) = port_emptied ts b p ∷ ports_adopted b rest ports
+abbrev pub adopted_ports : ℕ → List (List Tuple) → List Port → List Port
+adopted_ports b [] ports = []
+adopted_ports b (ts ∷ rest) [] = []
+adopted_ports b (ts ∷ rest) (p ∷ ports) = emptied_port ts b p ∷ adopted_ports b rest ports
 
 -- a recovering node goes on from a snapshot
-unfoldable pub adopted : Home → Snap → PlainNode → PlainNode
-adopted home s n =
+unfoldable pub after_adoption : Home → Snap → PlainNode → PlainNode
+after_adoption home s n =
     record n {
-      ports = ports_adopted (s.cursor * home.plan.width) s.inputs n.ports;
+      ports = adopted_ports (s.cursor * home.plan.width) s.inputs n.ports;
       stamps = [];
       cursor = s.cursor;
       closed = [];
       state = Stable;
       recovering = false;
-      subs = map shut n.subs;
+      subs = map with_session_shut n.subs;
       base = s.base;
     }
 
 -- a recovering node starts at the first bucket
-abbrev pub fresh : PlainNode → PlainNode
-fresh n = record n { state = Stable; recovering = false }
+abbrev pub with_fresh_start : PlainNode → PlainNode
+with_fresh_start n = record n { state = Stable; recovering = false }
 
 -- ---- taking a packet
 
 -- the tuples taken stamp their buckets
-abbrev pub stamped_by : Home → Taken → PlainNode → PlainNode
-stamped_by home (Used items) n = record n { stamps = stamped_all home.plan.width n.cursor n.clock n.stamps (tuples_in items) }
-stamped_by home Old n = n
-stamped_by home Broken n = n
+abbrev pub with_stamps_of : Home → Taken → PlainNode → PlainNode
+with_stamps_of home (Used items) n = record n { stamps = with_stamps home.plan.width n.cursor n.clock n.stamps (tuples_in items) }
+with_stamps_of home Old n = n
+with_stamps_of home Broken n = n
 
-abbrev pub took : Home → ℕ → Took → PlainNode → PlainNode
-took home p t n = stamped_by home t.answer (with_port p (λ q. record q { inlet = t.after }) n)
+abbrev pub after_taking : Home → ℕ → AfterBatch → PlainNode → PlainNode
+after_taking home p t n = with_stamps_of home t.answer (with_port p (λ q. record q { inlet = t.after }) n)
 
 -- a batch is taken from the chosen replica alone
 abbrev pub on_batch : Home → Sess → ℕ → List Item → Option (ℕ × ℕ) → PlainNode → PlainNode
 on_batch home s index items None n = n
 on_batch home s index items (Some (p, r)) n =
-    let port = nth no_port n.ports p in if port.chosen == r then took home p (take_batch port.inlet s index items) n else n
+    let port = nth no_port n.ports p in if port.chosen == r then after_taking home p (take_batch port.inlet s index items) n else n
 
 -- a reader's subscription, by its place among the readers
 abbrev pub on_subscribe : Home → Subscribe → Option ℕ → PlainNode → Stepped PlainNode
-on_subscribe home asked None n = silently n
+on_subscribe home asked None n = silent_step n
 on_subscribe home asked (Some k) n =
     let s = to_subscriber (own_readers home) (shown home n) k asked n.subs in record { after = record n { subs = s.after }; sends = s.sends }
 
@@ -145,7 +145,7 @@ on_truncation home s base (Some (p, r)) n =
     let old = nth no_port n.ports p in
     let port = on_truncated r s base old in
     let m = with_port p (λ _. port) n in
-    if same_sess s old.inlet.sess && all_truncated port then recovering_again home m else m
+    if same_sess s old.inlet.sess && all_truncated port then after_loss home m else m
 
 -- a beat of a replica that a port reads
 abbrev pub on_upstream_beat : Beat → Option (ℕ × ℕ) → PlainNode → PlainNode
@@ -156,23 +156,23 @@ on_upstream_beat b (Some (p, r)) n = with_port p (on_beat r b) n
 abbrev pub on_peer_beat : Beat → Option ℕ → PlainNode → PlainNode
 on_peer_beat b None n = n
 on_peer_beat b (Some r) n =
-    record n { peers = changed r (noted b.inc b.state b.recovering) n.peers; grants = told n.grants r (b.inc, b.over) }
+    record n { peers = changed r (after_beat b.inc b.state b.recovering) n.peers; grants = after_peer_beat n.grants r (b.inc, b.over) }
 
 abbrev pub on_ack : Home → ℕ → ℕ → Option ℕ → PlainNode → PlainNode
 on_ack home i count None n = n
-on_ack home i count (Some k) n = with_base home (record n { acks = changed k (acked i count) n.acks })
+on_ack home i count (Some k) n = with_base home (record n { acks = changed k (after_ack i count) n.acks })
 
--- an ask of another replica is granted, or has no answer
+-- an ask of another replica is with_promise, or has no answer
 abbrev pub on_ask : Home → ℕ → ℕ → Option ℕ → PlainNode → Stepped PlainNode
-on_ask home i ask None n = silently n
+on_ask home i ask None n = silent_step n
 on_ask home i ask (Some r) n =
     if grants n.grants n.state r (i, ask)
-    then record { after = record n { grants = granted n.grants r (i, ask) }; sends = mail (nth 0 (replicas_of home.plan home.frag) r) (message.Grant i ask) ∷ [] }
-    else silently n
+    then record { after = record n { grants = with_promise n.grants r (i, ask) }; sends = mail (nth 0 (replicas_of home.plan home.frag) r) (message.Grant i ask) ∷ [] }
+    else silent_step n
 
 -- a grant for the running ask lets a node that is UP_FAILURE enter
 abbrev pub on_grant : Home → ℕ → ℕ → PlainNode → Stepped PlainNode
-on_grant home i ask n = if is_up_failure n.state && may_enter_by n.grants (i, ask) then entered home n else silently n
+on_grant home i ask n = if is_up_failure n.state && may_enter_by n.grants (i, ask) then enter_step home n else silent_step n
 
 abbrev pub on_snap_ask : Home → ℕ → ℕ → ℕ → PlainNode → Stepped PlainNode
 on_snap_ask home sender i try n = record { after = n; sends = record { to = sender; packet = SnapFor i try (snapshot home n) } ∷ [] }
@@ -183,39 +183,39 @@ reader_place home a = place_of (λ b. a == b) (own_readers home)
 
 -- a message is taken, after the marks that the node has reached are ended
 abbrev pub on_message : Home → ℕ → Message → PlainNode → Stepped PlainNode
-on_message home a (message.Batch s index items) n = silently (on_batch home s index items (sender_at home.plan (streams_of home) a) n)
-on_message home a (message.Subscribe asked) n = if n.recovering then silently n else on_subscribe home asked (reader_place home a) n
-on_message home a (message.Truncated s base) n = silently (on_truncation home s base (sender_at home.plan (streams_of home) a) n)
+on_message home a (message.Batch s index items) n = silent_step (on_batch home s index items (sender_at home.plan (streams_of home) a) n)
+on_message home a (message.Subscribe asked) n = if n.recovering then silent_step n else on_subscribe home asked (reader_place home a) n
+on_message home a (message.Truncated s base) n = silent_step (on_truncation home s base (sender_at home.plan (streams_of home) a) n)
 on_message home a (message.Beat b) n =
-    silently (on_peer_beat b (replica_number home a) (on_upstream_beat b (sender_at home.plan (streams_of home) a) n))
-on_message home a (message.Ack i count) n = silently (if n.recovering then n else on_ack home i count (reader_place home a) n)
+    silent_step (on_peer_beat b (replica_number home a) (on_upstream_beat b (sender_at home.plan (streams_of home) a) n))
+on_message home a (message.Ack i count) n = silent_step (if n.recovering then n else on_ack home i count (reader_place home a) n)
 on_message home a (message.Ask i ask) n = on_ask home i ask (replica_number home a) n
 on_message home a (message.Grant i ask) n = on_grant home i ask n
-on_message home a (message.SnapAsk i try) n = if n.recovering then silently n else on_snap_ask home a i try n
+on_message home a (message.SnapAsk i try) n = if n.recovering then silent_step n else on_snap_ask home a i try n
 
--- a snapshot is adopted while the node recovers, where it is for the present try
+-- a snapshot is after_adoption while the node recovers, where it is for the present try
 abbrev pub on_snap : Home → ℕ → ℕ → Snap → PlainNode → PlainNode
-on_snap home i try s n = if n.recovering && i == n.grants.inc && try == n.tries then adopted home s n else n
+on_snap home i try s n = if n.recovering && i == n.grants.inc && try == n.tries then after_adoption home s n else n
 
 abbrev pub with_marks_ended : PlainNode → PlainNode
-with_marks_ended n = record n { ports = map marks_ended n.ports }
+with_marks_ended n = record n { ports = map without_ended_marks n.ports }
 
 abbrev pub on_packet : Home → ℕ → Packet → PlainNode → Stepped PlainNode
 on_packet home a (Plain m) n = on_message home a m n
-on_packet home a (SnapFor i try s) n = silently (on_snap home i try s n)
+on_packet home a (SnapFor i try s) n = silent_step (on_snap home i try s n)
 
 -- the node takes a packet of an actor
-unfoldable pub delivered : Home → ℕ → Packet → PlainNode → Stepped PlainNode
-delivered home a packet n = on_packet home a packet (with_marks_ended n)
+unfoldable pub packet_step : Home → ℕ → Packet → PlainNode → Stepped PlainNode
+packet_step home a packet n = on_packet home a packet (with_marks_ended n)
 
 -- ---- milling
 
 -- the cursor moves on by r buckets; buckets below it have no stamp
-abbrev pub moved : ℕ → PlainNode → PlainNode
-moved r n = record n { cursor = n.cursor + r; stamps = filter (λ (s : ℕ × ℕ). nat_le (n.cursor + r) s.0) n.stamps }
+abbrev pub past_buckets : ℕ → PlainNode → PlainNode
+past_buckets r n = record n { cursor = n.cursor + r; stamps = filter (λ (s : ℕ × ℕ). nat_le (n.cursor + r) s.0) n.stamps }
 
-abbrev pub advanced : Home → ℕ → PlainNode → PlainNode
-advanced home r n = with_base home (moved r n)
+abbrev pub after_stable_buckets : Home → ℕ → PlainNode → PlainNode
+after_stable_buckets home r n = with_base home (past_buckets r n)
 
 -- the new stable output and its boundary
 abbrev pub given_stable : Home → PlainNode → PlainNode → Bool → Given
@@ -223,47 +223,47 @@ given_stable home old new done =
     record { stable = drop (length (out_stable home old)) (out_stable home new); bound = out_bound home new; tentative = []; passed = None; done = done }
 
 -- where the last corrections were made, the ask is over and the node is STABLE
-abbrev pub reconciled : Bool → PlainNode → PlainNode
-reconciled done n = record n { state = if done then Stable else n.state; grants = if done then finished n.grants else n.grants }
+abbrev pub after_last_correction : Bool → PlainNode → PlainNode
+after_last_correction done n = record n { state = if done then Stable else n.state; grants = if done then with_ask_over n.grants else n.grants }
 
 -- r ready buckets are processed
-unfoldable pub milled : Home → ℕ → PlainNode → Stepped PlainNode
-milled home r n =
-    let m = advanced home r n in
+unfoldable pub mill_step : Home → ℕ → PlainNode → Stepped PlainNode
+mill_step home r n =
+    let m = after_stable_buckets home r n in
     let done = is_stabilization n.state && ready home m == 0 in
-    give home (given_items (length (out_stable home n)) (given_stable home n m done)) (reconciled done m)
+    give home (given_items (length (out_stable home n)) (given_stable home n m done)) (after_last_correction done m)
 
 -- ---- a tick
 
 -- the clock moves, every replica's ticks are counted, and a promise to a silent peer ends
-abbrev pub clocked : ℕ → PlainNode → PlainNode
-clocked now n =
-    let peers = map ticked n.peers in
-    record n { clock = now; ports = map port_ticked n.ports; peers = peers; grants = after_silence n.grants (map is_silent peers) }
+abbrev pub after_clock : ℕ → PlainNode → PlainNode
+after_clock now n =
+    let peers = map after_tick n.peers in
+    record n { clock = now; ports = map port_after_tick n.ports; peers = peers; grants = after_silence n.grants (map is_silent peers) }
 
 -- no replica can hand out a snapshot: each is silent, or recovers itself
 abbrev pub may_start_afresh : Home → PlainNode → Bool
 may_start_afresh home n = list_all (λ w. is_silent w || says_recovering w) (peer_watches home n)
 
 -- a replica is chosen for each port, and sessions are opened anew
-abbrev pub choosing : Home → PlainNode → Stepped PlainNode
-choosing home n =
-    record { after = record n { ports = map port_chosen n.ports }; sends = in_actor_order (mails (subscriptions home.plan n.ports (streams_of home))) }
+abbrev pub choice_step : Home → PlainNode → Stepped PlainNode
+choice_step home n =
+    record { after = record n { ports = map port_after_choice n.ports }; sends = in_actor_order (mails (subscriptions home.plan n.ports (streams_of home))) }
 
 -- the node asks to reconcile, or enters where every peer is silent
-abbrev pub reconciling : Home → PlainNode → Stepped PlainNode
-reconciling home n =
+abbrev pub ask_step : Home → PlainNode → Stepped PlainNode
+ask_step home n =
     if wants_to_reconcile home n && is_none n.grants.promise
-    then (if list_all is_silent (peer_watches home n) then entered home n
+    then (if list_all is_silent (peer_watches home n) then enter_step home n
     else record {
-      after = record n { grants = asking n.grants };
+      after = record n { grants = with_ask n.grants };
       sends = to_each (message.Ask (own_key n.grants).0 (own_key n.grants).1) (peers_of home);
     })
-    else silently n
+    else silent_step n
 
 -- so many buckets are closed as they stand
-abbrev pub closing : Home → ℕ → PlainNode → PlainNode
-closing home count n = record n { closed = n.closed ++ map (bucket_of home n) (range_with_len (view_cursor n) count) }
+abbrev pub with_closed : Home → ℕ → PlainNode → PlainNode
+with_closed home count n = record n { closed = n.closed ++ map (bucket_of home n) (range_with_len (view_cursor n) count) }
 
 -- the state that the closed buckets mean
 abbrev pub with_failure : PlainNode → PlainNode
@@ -290,20 +290,20 @@ stably home n count = min count (complete_buckets home n)
 
 -- the node after so many buckets, of which the first r are processed stably and the others closed
 abbrev pub after_buckets : Home → ℕ → ℕ → PlainNode → PlainNode
-after_buckets home r count n = with_failure (closing home (count - r) (advanced home r n))
+after_buckets home r count n = with_failure (with_closed home (count - r) (after_stable_buckets home r n))
 
 -- buckets up to the last due one are processed
-abbrev pub processed_upto : Home → ℕ → PlainNode → Stepped PlainNode
-processed_upto home last n =
+abbrev pub processing_upto : Home → ℕ → PlainNode → Stepped PlainNode
+processing_upto home last n =
     let count = count_upto last n in
     let r = stably home n count in
     let new = after_buckets home r count n in
     give home (given_items (length (out_stable home n)) (given_by home n new (nat_lt 0 r) (nat_lt r count))) new
 
-abbrev pub processing : Home → PlainNode → Stepped PlainNode
-processing home n =
-    if is_stabilization n.state then silently n
-    else elim (due_at home n n.clock) [ None ↦ silently n | Some last ↦ processed_upto home last n ]
+abbrev pub processing_step : Home → PlainNode → Stepped PlainNode
+processing_step home n =
+    if is_stabilization n.state then silent_step n
+    else elim (due_at home n n.clock) [ None ↦ silent_step n | Some last ↦ processing_upto home last n ]
 
 -- the number of a port's tuples below the cursor's bucket
 abbrev pub done_at : Home → PlainNode → Port → ℕ
@@ -322,22 +322,22 @@ abbrev pub beats : Home → PlainNode → List Mail
 beats home n =
     to_each (beat_of n None) (peers_of home) ++ map (λ (x : ℕ × Sub). mail x.0 (beat_of n (link_of x.1))) (zip (own_readers home) n.subs)
 
-abbrev pub announcing : Home → PlainNode → Stepped PlainNode
-announcing home n = record { after = n; sends = in_actor_order (acks_from home n n.ports (streams_of home)) ++ in_actor_order (beats home n) }
+abbrev pub announcing_step : Home → PlainNode → Stepped PlainNode
+announcing_step home n = record { after = n; sends = in_actor_order (acks_from home n n.ports (streams_of home)) ++ in_actor_order (beats home n) }
 
 -- the later steps of a tick of a node that is not recovering
-abbrev pub serving : Home → PlainNode → Stepped PlainNode
-serving home n = then_do (then_do (then_do (choosing home n) (reconciling home)) (processing home)) (announcing home)
+abbrev pub serving_step : Home → PlainNode → Stepped PlainNode
+serving_step home n = then_do (then_do (then_do (choice_step home n) (ask_step home)) (processing_step home)) (announcing_step home)
 
 -- a recovering node asks each peer for a snapshot
-abbrev pub asking_snapshots : Home → PlainNode → Stepped PlainNode
-asking_snapshots home n = record { after = n; sends = to_each (message.SnapAsk n.grants.inc n.tries) (peers_of home) }
+abbrev pub snapshot_ask_step : Home → PlainNode → Stepped PlainNode
+snapshot_ask_step home n = record { after = n; sends = to_each (message.SnapAsk n.grants.inc n.tries) (peers_of home) }
 
-abbrev pub going_on : Home → PlainNode → Stepped PlainNode
-going_on home n =
-    if not n.recovering then serving home n
-    else (if may_start_afresh home n then serving home (fresh n) else then_do (asking_snapshots home n) (announcing home))
+abbrev pub rest_of_tick : Home → PlainNode → Stepped PlainNode
+rest_of_tick home n =
+    if not n.recovering then serving_step home n
+    else (if may_start_afresh home n then serving_step home (with_fresh_start n) else then_do (snapshot_ask_step home n) (announcing_step home))
 
 -- a tick of the node at this clock
-unfoldable pub ticked_at : Home → ℕ → PlainNode → Stepped PlainNode
-ticked_at home now n = going_on home (clocked now (with_marks_ended n))
+unfoldable pub tick_step : Home → ℕ → PlainNode → Stepped PlainNode
+tick_step home now n = rest_of_tick home (after_clock now (with_marks_ended n))

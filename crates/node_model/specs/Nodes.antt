@@ -6,7 +6,7 @@ use Rattle.dpc_model.specs.Operators.{between, all_of}
 use Rattle.dpc_model.specs.Fragments.{serial, fragment_value}
 use Rattle.dpc_model.specs.Reading.{Reader}
 use Rattle.dpc_model.specs.Inlets.{new_inlet, restarted_inlet, sess_of}
-use Rattle.dpc_model.specs.Due.{Stamps, Waiting, is_complete, last_due, delay_of}
+use Rattle.dpc_model.specs.Due.{Stamps, DueView, is_complete, last_due, delay_of}
 use Rattle.dpc_model.specs.Replicas.{Watch, new_watch}
 use Rattle.dpc_model.specs.Granting.{Grants, new_grants}
 use Rattle.dpc_model.specs.NodeStates.{is_stable, is_up_failure}
@@ -182,8 +182,8 @@ complete_buckets home n = if is_nil n.closed then complete_upto home n - n.curso
 unfoldable pub ready : Home → PlainNode → ℕ
 ready home n = if n.recovering then 0 else complete_buckets home n
 
-abbrev pub waiting : Home → PlainNode → Waiting
-waiting home n =
+abbrev pub due_view : Home → PlainNode → DueView
+due_view home n =
     record {
       width = home.plan.width;
       delay = delay_of home.plan (spec_of home);
@@ -196,7 +196,7 @@ waiting home n =
 
 -- the last bucket that a tick at this clock must process
 abbrev pub due_at : Home → PlainNode → ℕ → Option ℕ
-due_at home n now = last_due (waiting home n) now (buckets_of home.plan)
+due_at home n now = last_due (due_view home n) now (buckets_of home.plan)
 
 -- the node has tentative output and could correct it
 abbrev pub wants_to_reconcile : Home → PlainNode → Bool

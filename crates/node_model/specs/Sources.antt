@@ -72,14 +72,14 @@ source_message plan s a (message.Grant i n) x = record { after = x; sends = [] }
 source_message plan s a (message.SnapAsk i n) x = record { after = x; sends = [] }
 
 -- a source answers subscriptions, and ignores all else
-unfoldable pub source_delivered : Plan → ℕ → ℕ → Packet → SourceState → Stepped SourceState
-source_delivered plan s a (Plain m) x = source_message plan s a m x
-source_delivered plan s a (SnapFor i try snap) x = record { after = x; sends = [] }
+unfoldable pub source_packet_step : Plan → ℕ → ℕ → Packet → SourceState → Stepped SourceState
+source_packet_step plan s a (Plain m) x = source_message plan s a m x
+source_packet_step plan s a (SnapFor i try snap) x = record { after = x; sends = [] }
 
 abbrev pub source_beat : Option (Sess × ℕ) → Message
 source_beat link = message.Beat (record { inc = 1; state = Stable; recovering = false; over = 0; link = link })
 
 -- at a tick a source tells each reader its session
-unfoldable pub source_ticked : Plan → ℕ → ℕ → SourceState → Stepped SourceState
-source_ticked plan s now x =
+unfoldable pub source_tick_step : Plan → ℕ → ℕ → SourceState → Stepped SourceState
+source_tick_step plan s now x =
     record { after = record x { clock = now }; sends = map (λ (y : ℕ × Sub). mail y.0 (source_beat (link_of y.1))) (zip (source_readers plan s) x.subs) }

@@ -8,9 +8,9 @@ use Rattle.dpc_model.specs.declared.messages.Event.TheVariants.{Phase, Emit, Rel
 use Rattle.dpc_model.specs.declared.plans.Plan.{Plan}
 use Rattle.node_model.specs.Nodes.{Home, PlainNode, restarted_node, ready, complete_buckets}
 use Rattle.node_model.specs.Mails.{Stepped}
-use Rattle.node_model.specs.NodeSteps.{delivered, milled, ticked_at}
-use Rattle.node_model.specs.Sources.{source_emits, source_releases, source_delivered, source_ticked, SourceState}
-use Rattle.node_model.specs.Clients.{ClientState, client_delivered, client_ticked}
+use Rattle.node_model.specs.NodeSteps.{packet_step, mill_step, tick_step}
+use Rattle.node_model.specs.Sources.{source_emits, source_releases, source_packet_step, source_tick_step, SourceState}
+use Rattle.node_model.specs.Clients.{ClientState, client_after_packet, client_tick_step}
 use Rattle.world_model.specs.Worlds.{World, Envelope, Slot, home_of, node_place, from, slot_of, source_at, client_at, node_stepped, source_stepped, client_stepped, is_release_time, is_clock, emits, releases, link_up, role_up, is_up, cuts_link, crashes, restart_slot, restarts, node_takes, taken_by, can_come, comes, node_ticks, ticks, can_mill, node_mills, mills, happens}
 use Rattle.world_model.specs.Schedules.{may_come}
 use Rattle.world_safety.proofs.Tests.{both, le-of}
@@ -121,13 +121,13 @@ clients-calm w xs = record { plan = refl; cuts = refl; more = []; sent = none-mo
 -- ---- deliveries, ticks and milling
 
 taken-calm : (w : World) (e : Envelope) (role : Role) → IsCalm w (taken_by w e role)
-taken-calm w e (IsSource s) = source-calm w e.to (source_delivered w.plan s e.sender e.packet (source_at w s))
+taken-calm w e (IsSource s) = source-calm w e.to (source_packet_step w.plan s e.sender e.packet (source_at w s))
 taken-calm w e (IsNode f r) = by-node (slot_of w e.to).node refl
   where
     by-node : (o : Option PlainNode) → (slot_of w e.to).node ≡ o → IsCalm w (node_takes w e (home_of w.plan (f, r)) o)
     by-node None up = same-calm w
-    by-node (Some n) up = node-calm w e.to n (delivered (home_of w.plan (f, r)) e.sender e.packet n) up (delivered-calm (home_of w.plan (f, r)) e.sender e.packet n)
-taken-calm w e (IsClient c) = clients-calm w (changed c (client_delivered w.plan c e.sender e.packet) w.clients)
+    by-node (Some n) up = node-calm w e.to n (packet_step (home_of w.plan (f, r)) e.sender e.packet n) up (delivered-calm (home_of w.plan (f, r)) e.sender e.packet n)
+taken-calm w e (IsClient c) = clients-calm w (changed c (client_after_packet w.plan c e.sender e.packet) w.clients)
 taken-calm w e Nobody = same-calm w
 
 comes-calm : (w : World) (o : Option Envelope) → IsCalm w (comes w o)
@@ -142,8 +142,8 @@ deliver-calm w k = comes-calm w (slice_get w.envelopes k)
 
 ticks-calm : (w : World) (a now : ℕ) (role : Role) → IsCalm w (ticks w a now role)
 ticks-calm w a now (IsSource s) =
-    elim (is_clock (source_at w s).clock now) as (λ b. IsCalm w (cond b (source_stepped a (source_ticked w.plan s now (source_at w s)) w) w)) [
-      | true ↦ source-calm w a (source_ticked w.plan s now (source_at w s))
+    elim (is_clock (source_at w s).clock now) as (λ b. IsCalm w (cond b (source_stepped a (source_tick_step w.plan s now (source_at w s)) w) w)) [
+      | true ↦ source-calm w a (source_tick_step w.plan s now (source_at w s))
       | false ↦ same-calm w
     ]
 ticks-calm w a now (IsNode f r) = by-node (slot_of w a).node refl
@@ -151,13 +151,13 @@ ticks-calm w a now (IsNode f r) = by-node (slot_of w a).node refl
     by-node : (o : Option PlainNode) → (slot_of w a).node ≡ o → IsCalm w (node_ticks w a now (home_of w.plan (f, r)) o)
     by-node None up = same-calm w
     by-node (Some n) up =
-        elim (is_clock n.clock now) as (λ b. IsCalm w (cond b (node_stepped a (ticked_at (home_of w.plan (f, r)) now n) w) w)) [
-          | true ↦ node-calm w a n (ticked_at (home_of w.plan (f, r)) now n) up (ticked-calm (home_of w.plan (f, r)) now n)
+        elim (is_clock n.clock now) as (λ b. IsCalm w (cond b (node_stepped a (tick_step (home_of w.plan (f, r)) now n) w) w)) [
+          | true ↦ node-calm w a n (tick_step (home_of w.plan (f, r)) now n) up (ticked-calm (home_of w.plan (f, r)) now n)
           | false ↦ same-calm w
         ]
 ticks-calm w a now (IsClient c) =
-    elim (is_clock (client_at w c).clock now) as (λ b. IsCalm w (cond b (client_stepped a c (client_ticked w.plan c now (client_at w c)) w) w)) [
-      | true ↦ record { plan = refl; cuts = refl; more = map (from a) (client_ticked w.plan c now (client_at w c)).sends; sent = refl; slots = λ i. calm-itself (node_in w.nodes i) }
+    elim (is_clock (client_at w c).clock now) as (λ b. IsCalm w (cond b (client_stepped a c (client_tick_step w.plan c now (client_at w c)) w) w)) [
+      | true ↦ record { plan = refl; cuts = refl; more = map (from a) (client_tick_step w.plan c now (client_at w c)).sends; sent = refl; slots = λ i. calm-itself (node_in w.nodes i) }
       | false ↦ same-calm w
     ]
 ticks-calm w a now Nobody = same-calm w
@@ -234,11 +234,11 @@ milled-zeroed home r n h =
       | false ↦ λ e. refl
     ]) p.1
 
-milled-calm : (home : Home) (r : ℕ) (n : PlainNode) → can_mill home r n ≡ true → IsCalmNode n (milled home r n).after
+milled-calm : (home : Home) (r : ℕ) (n : PlainNode) → can_mill home r n ≡ true → IsCalmNode n (mill_step home r n).after
 milled-calm home r n h =
     let m = milled-moves home r n in
     let moved = m.moved in
-    onward-calm n (milled home r n).after (m.also ∙ milled-zeroed home r n h) (omega (arith, moved))
+    onward-calm n (mill_step home r n).after (m.also ∙ milled-zeroed home r n h) (omega (arith, moved))
 
 mills-calm : (w : World) (a r : ℕ) (role : Role) → IsCalm w (mills w a r role)
 mills-calm w a r (IsNode f q) = by-node (slot_of w a).node refl
@@ -247,8 +247,8 @@ mills-calm w a r (IsNode f q) = by-node (slot_of w a).node refl
     by-node None up = same-calm w
     by-node (Some n) up =
         let home = home_of w.plan (f, q) in
-        (elim (can_mill home r n) as (λ b. can_mill home r n ≡ b → IsCalm w (cond b (node_stepped a (milled home r n) w) w)) [
-          | true ↦ λ e. node-calm w a n (milled home r n) up (milled-calm home r n e)
+        (elim (can_mill home r n) as (λ b. can_mill home r n ≡ b → IsCalm w (cond b (node_stepped a (mill_step home r n) w) w)) [
+          | true ↦ λ e. node-calm w a n (mill_step home r n) up (milled-calm home r n e)
           | false ↦ λ e. same-calm w
         ]) refl
 mills-calm w a r (IsSource s) = same-calm w

@@ -14,9 +14,9 @@ use Rattle.dpc_model.specs.declared.messages.Subscribe.{Subscribe}
 use Rattle.dpc_model.specs.declared.plans.Plan.{Plan}
 use Rattle.node_model.specs.Mails.{Packet, Plain, SnapFor, Stepped}
 use Rattle.node_model.specs.Nodes.{Home, PlainNode, new_node, restarted_node}
-use Rattle.node_model.specs.NodeSteps.{delivered, milled, ticked_at}
-use Rattle.node_model.specs.Sources.{SourceState, new_source, source_readers, source_emits, source_releases, source_subscribed, source_message, source_delivered, source_ticked}
-use Rattle.node_model.specs.Clients.{ClientState, new_client, client_stream, keeping, client_took, client_message, client_packet, client_marks_ended, client_delivered, client_ticked}
+use Rattle.node_model.specs.NodeSteps.{packet_step, mill_step, tick_step}
+use Rattle.node_model.specs.Sources.{SourceState, new_source, source_readers, source_emits, source_releases, source_subscribed, source_message, source_packet_step, source_tick_step}
+use Rattle.node_model.specs.Clients.{ClientState, new_client, client_stream, with_taken, client_after_batch, client_message, client_packet, client_marks_ended, client_after_packet, client_tick_step}
 use Rattle.world_model.specs.Worlds.{World, Envelope, Slot, home_of, node_place, slot_of, source_at, client_at, no_source, node_stepped, source_stepped, client_stepped, is_release_time, is_clock, emits, releases, link_up, crashes, restart_slot, restarts, node_takes, taken_by, can_come, comes, node_ticks, ticks, can_mill, node_mills, mills, happens, new_world}
 use Rattle.schedule_law.proofs.Nodes.{delivered-clock, ticked-clock, milled-moves}
 
@@ -44,23 +44,23 @@ source-message-clock plan s a (message.Ask i n) x = refl
 source-message-clock plan s a (message.Grant i n) x = refl
 source-message-clock plan s a (message.SnapAsk i n) x = refl
 
-source-delivered-clock : (plan : Plan) (s a : ℕ) (p : Packet) (x : SourceState) → (source_delivered plan s a p x).after.clock ≡ x.clock
-unfolding source_delivered
+source-delivered-clock : (plan : Plan) (s a : ℕ) (p : Packet) (x : SourceState) → (source_packet_step plan s a p x).after.clock ≡ x.clock
+unfolding source_packet_step
 source-delivered-clock plan s a (Plain m) x = source-message-clock plan s a m x
 source-delivered-clock plan s a (SnapFor i try snap) x = refl
 
-source-ticked-clock : (plan : Plan) (s now : ℕ) (x : SourceState) → (source_ticked plan s now x).after.clock ≡ now
-unfolding source_ticked
+source-ticked-clock : (plan : Plan) (s now : ℕ) (x : SourceState) → (source_tick_step plan s now x).after.clock ≡ now
+unfolding source_tick_step
 source-ticked-clock plan s now x = refl
 
-keeping-clock : (t : Taken) (x : ClientState) → (keeping t x).clock ≡ x.clock
+keeping-clock : (t : Taken) (x : ClientState) → (with_taken t x).clock ≡ x.clock
 keeping-clock (Used items) x = refl
 keeping-clock Old x = refl
 keeping-clock Broken x = refl
 
 client-message-clock : (r : ℕ) (m : Message) (x : ClientState) → (client_message r m x).clock ≡ x.clock
 client-message-clock r (message.Batch s index items) x =
-    elim (x.port.chosen == r) as (λ b. ClientState.clock (cond b (client_took (take_batch x.port.inlet s index items) x) x) ≡ x.clock) [
+    elim (x.port.chosen == r) as (λ b. ClientState.clock (cond b (client_after_batch (take_batch x.port.inlet s index items) x) x) ≡ x.clock) [
       | true ↦ keeping-clock (take_batch x.port.inlet s index items).answer (record x { port = record x.port { inlet = (take_batch x.port.inlet s index items).after } })
       | false ↦ refl
     ]
@@ -77,12 +77,12 @@ client-packet-clock None p x = refl
 client-packet-clock (Some (p, r)) (Plain m) x = client-message-clock r m x
 client-packet-clock (Some (p, r)) (SnapFor i try snap) x = refl
 
-client-delivered-clock : (plan : Plan) (c a : ℕ) (p : Packet) (x : ClientState) → (client_delivered plan c a p x).clock ≡ x.clock
-unfolding client_delivered
+client-delivered-clock : (plan : Plan) (c a : ℕ) (p : Packet) (x : ClientState) → (client_after_packet plan c a p x).clock ≡ x.clock
+unfolding client_after_packet
 client-delivered-clock plan c a p x = client-packet-clock (sender_at plan (client_stream plan c ∷ []) a) p (client_marks_ended x)
 
-client-ticked-clock : (plan : Plan) (c now : ℕ) (x : ClientState) → (client_ticked plan c now x).after.clock ≡ now
-unfolding client_ticked
+client-ticked-clock : (plan : Plan) (c now : ℕ) (x : ClientState) → (client_tick_step plan c now x).after.clock ≡ now
+unfolding client_tick_step
 client-ticked-clock plan c now x = refl
 
 -- ---- the clocks of a world
@@ -182,19 +182,19 @@ client-timely c w a k s h t = record { sources = t.sources; slots = t.slots; cli
 taken-timely : (c : ℕ) (w : World) (e : Envelope) (role : Role) → IsTimely c w → IsTimely c (taken_by w e role)
 taken-timely c w e (IsSource s) t =
     let same = source-delivered-clock w.plan s e.sender e.packet (source_at w s) in
-    let old = source-clock c w s t in source-timely c w e.to (source_delivered w.plan s e.sender e.packet (source_at w s)) (omega (arith, same, old)) t
+    let old = source-clock c w s t in source-timely c w e.to (source_packet_step w.plan s e.sender e.packet (source_at w s)) (omega (arith, same, old)) t
 taken-timely c w e (IsNode f r) t = by-node (slot_of w e.to).node (node-clock c w e.to t)
   where
     by-node : (o : Option PlainNode) → ClockWithin c o → IsTimely c (node_takes w e (home_of w.plan (f, r)) o)
     by-node None k = t
     by-node (Some n) k =
         let same = delivered-clock (home_of w.plan (f, r)) e.sender e.packet n in
-        node-timely c w e.to (delivered (home_of w.plan (f, r)) e.sender e.packet n) (omega (arith, same, k)) t
+        node-timely c w e.to (packet_step (home_of w.plan (f, r)) e.sender e.packet n) (omega (arith, same, k)) t
 taken-timely c w e (IsClient k) t =
     record {
       sources = t.sources;
       slots = t.slots;
-      clients = each-changed (λ (x : ClientState). x.clock ≤ c) k (client_delivered w.plan k e.sender e.packet) w.clients (λ x h. let same = client-delivered-clock w.plan k e.sender e.packet x in omega (arith, same, h)) t.clients;
+      clients = each-changed (λ (x : ClientState). x.clock ≤ c) k (client_after_packet w.plan k e.sender e.packet) w.clients (λ x h. let same = client-delivered-clock w.plan k e.sender e.packet x in omega (arith, same, h)) t.clients;
     }
 taken-timely c w e Nobody t = t
 
@@ -207,8 +207,8 @@ comes-timely c w (Some e) t = elim (can_come w e) as (λ b. IsTimely c (cond b (
 
 ticks-timely : (c : ℕ) (w : World) (a now : ℕ) (role : Role) → now ≤ c → IsTimely c w → IsTimely c (ticks w a now role)
 ticks-timely c w a now (IsSource s) h t =
-    elim (is_clock (source_at w s).clock now) as (λ b. IsTimely c (cond b (source_stepped a (source_ticked w.plan s now (source_at w s)) w) w)) [
-      | true ↦ let same = source-ticked-clock w.plan s now (source_at w s) in source-timely c w a (source_ticked w.plan s now (source_at w s)) (omega (arith, same, h)) t
+    elim (is_clock (source_at w s).clock now) as (λ b. IsTimely c (cond b (source_stepped a (source_tick_step w.plan s now (source_at w s)) w) w)) [
+      | true ↦ let same = source-ticked-clock w.plan s now (source_at w s) in source-timely c w a (source_tick_step w.plan s now (source_at w s)) (omega (arith, same, h)) t
       | false ↦ t
     ]
 ticks-timely c w a now (IsNode f r) h t = by-node (slot_of w a).node
@@ -216,13 +216,13 @@ ticks-timely c w a now (IsNode f r) h t = by-node (slot_of w a).node
     by-node : (o : Option PlainNode) → IsTimely c (node_ticks w a now (home_of w.plan (f, r)) o)
     by-node None = t
     by-node (Some n) =
-        elim (is_clock n.clock now) as (λ b. IsTimely c (cond b (node_stepped a (ticked_at (home_of w.plan (f, r)) now n) w) w)) [
-          | true ↦ let same = ticked-clock (home_of w.plan (f, r)) now n in node-timely c w a (ticked_at (home_of w.plan (f, r)) now n) (omega (arith, same, h)) t
+        elim (is_clock n.clock now) as (λ b. IsTimely c (cond b (node_stepped a (tick_step (home_of w.plan (f, r)) now n) w) w)) [
+          | true ↦ let same = ticked-clock (home_of w.plan (f, r)) now n in node-timely c w a (tick_step (home_of w.plan (f, r)) now n) (omega (arith, same, h)) t
           | false ↦ t
         ]
 ticks-timely c w a now (IsClient k) h t =
-    elim (is_clock (client_at w k).clock now) as (λ b. IsTimely c (cond b (client_stepped a k (client_ticked w.plan k now (client_at w k)) w) w)) [
-      | true ↦ let same = client-ticked-clock w.plan k now (client_at w k) in client-timely c w a k (client_ticked w.plan k now (client_at w k)) (omega (arith, same, h)) t
+    elim (is_clock (client_at w k).clock now) as (λ b. IsTimely c (cond b (client_stepped a k (client_tick_step w.plan k now (client_at w k)) w) w)) [
+      | true ↦ let same = client-ticked-clock w.plan k now (client_at w k) in client-timely c w a k (client_tick_step w.plan k now (client_at w k)) (omega (arith, same, h)) t
       | false ↦ t
     ]
 ticks-timely c w a now Nobody h t = t
@@ -233,8 +233,8 @@ mills-timely c w a r (IsNode f q) t = by-node (slot_of w a).node (node-clock c w
     by-node : (o : Option PlainNode) → ClockWithin c o → IsTimely c (node_mills w a r (home_of w.plan (f, q)) o)
     by-node None k = t
     by-node (Some n) k =
-        elim (can_mill (home_of w.plan (f, q)) r n) as (λ b. IsTimely c (cond b (node_stepped a (milled (home_of w.plan (f, q)) r n) w) w)) [
-          | true ↦ let same = (milled-moves (home_of w.plan (f, q)) r n).clock in node-timely c w a (milled (home_of w.plan (f, q)) r n) (omega (arith, same, k)) t
+        elim (can_mill (home_of w.plan (f, q)) r n) as (λ b. IsTimely c (cond b (node_stepped a (mill_step (home_of w.plan (f, q)) r n) w) w)) [
+          | true ↦ let same = (milled-moves (home_of w.plan (f, q)) r n).clock in node-timely c w a (mill_step (home_of w.plan (f, q)) r n) (omega (arith, same, k)) t
           | false ↦ t
         ]
 mills-timely c w a r (IsSource s) t = t

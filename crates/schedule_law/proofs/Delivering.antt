@@ -9,7 +9,7 @@ use Rattle.dpc_model.specs.declared.messages.Event.TheVariants.{Deliver, Tick}
 use Rattle.dpc_model.specs.declared.scripts.Directive.{Directive}
 use Rattle.dpc_model.specs.declared.scripts.Script.{Script}
 use Rattle.world_model.specs.Worlds.{World, Envelope, is_up, happens}
-use Rattle.world_model.specs.Schedules.{Waiting, Progress, Told, tell_all, progressed, delivery_made, may_come, may_deliver, is_first_of_its_way, deliveries_of, now_of, phase_of, pending_in, loses, repeats}
+use Rattle.world_model.specs.Schedules.{Undelivered, Progress, Told, tell_all, next_progress, delivery_made, may_come, may_deliver, is_first_of_its_way, deliveries_of, now_of, phase_of, pending_in, loses, repeats}
 use Rattle.world_safety.proofs.Tests.{both-of, all-append, lt-test, eq-of, eq-test}
 use Rattle.schedule_law.proofs.Stages.{at, Follows, Reached, follows-next, reached, reached-then}
 use Rattle.schedule_law.proofs.Calm.{IsLike, like-itself, calm-like, deliver-calm, tick-calm}
@@ -19,21 +19,21 @@ use Rattle.schedule_law.proofs.Doing.{IsGoing, calm-doing, targets-kept, free, t
 
 -- ---- one delivery
 
-deliver-next : (script : Script) (p start : ℕ) (base : World) (xs zs ws : List Waiting) (k l : ℕ) (ts : List ℕ) (y : Progress) (es : List Event) → 1 ≤ p → Follows script y es → IsGoing script p start base (xs ++ pend k l ∷ zs) ts y →
+deliver-next : (script : Script) (p start : ℕ) (base : World) (xs zs ws : List Undelivered) (k l : ℕ) (ts : List ℕ) (y : Progress) (es : List Event) → 1 ≤ p → Follows script y es → IsGoing script p start base (xs ++ pend k l ∷ zs) ts y →
     may_come y.world (slice_get y.world.envelopes k) ≡ true → list_all (is_blocked y.world k) xs ≡ true →
-    ((fs : List Waiting) → delivery_made k (xs ++ pend k l ∷ (zs ++ fs)) ≡ ws ++ fs) →
-    Follows script (progressed script y (Deliver k)) (Deliver k ∷ es) × IsGoing script p start base ws ts (progressed script y (Deliver k))
+    ((fs : List Undelivered) → delivery_made k (xs ++ pend k l ∷ (zs ++ fs)) ≡ ws ++ fs) →
+    Follows script (next_progress script y (Deliver k)) (Deliver k ∷ es) × IsGoing script p start base ws ts (next_progress script y (Deliver k))
 deliver-next script p start base xs zs ws k l ts y es low f g come blocked made =
     let d = g.doing in
     let v = happens y.world (Deliver k) in
     let c = deliver-calm y.world k in
     let fresh = fresh_from start (length y.world.envelopes - start) in
     let stands : y.waiting ≡ xs ++ pend k l ∷ (zs ++ fresh) = d.waiting ∙ append_assoc xs (pend k l ∷ zs) fresh in
-    let first : is_first_of_its_way y.world k y.waiting ≡ true = subst (λ (ys : List Waiting). is_first_of_its_way y.world k ys ≡ true) (sym stands) (first-way y.world k l xs (zs ++ fresh) come blocked) in (
+    let first : is_first_of_its_way y.world k y.waiting ≡ true = subst (λ (ys : List Undelivered). is_first_of_its_way y.world k ys ≡ true) (sym stands) (first-way y.world k l xs (zs ++ fresh) come blocked) in (
       follows-next script y es (Deliver k) f
           (both-of (nat_lt 0 y.phase && is_nil y.todo) (may_deliver y k) (free script p start base (xs ++ pend k l ∷ zs) ts y low d) (both-of (may_come y.world (slice_get y.world.envelopes k)) (is_first_of_its_way y.world k y.waiting) come first)),
       record {
-        doing = calm-doing script p start base (xs ++ pend k l ∷ zs) ws ts ts y.ticked y v (delivery_made k y.waiting) _ d c (ap (λ (ys : List Waiting). delivery_made k ys) stands ∙ made fresh) d.ticked;
+        doing = calm-doing script p start base (xs ++ pend k l ∷ zs) ws ts ts y.ticked y v (delivery_made k y.waiting) _ d c (ap (λ (ys : List Undelivered). delivery_made k ys) stands ∙ made fresh) d.ticked;
         met = subst (λ (goals : List (ℕ × ℕ)). AllMet v (λ _. 0) goals) (targets-kept y (y.phase == y.phase) v d.todo)
             (left-met y.world v (λ _. 0) (λ _. 0) (calm-meets y.world v d.zeroed c) y.targets g.met);
       },
@@ -42,18 +42,18 @@ deliver-next script p start base xs zs ws k l ts y es low f g come blocked made 
 -- ---- all
 
 -- those that cannot come, and behind them the pending ones from number k on
-pub record IsDelivering (script : Script) (p start : ℕ) (base : World) (xs zs : List Waiting) (k : ℕ) (y : Progress) : Type 0 where
+pub record IsDelivering (script : Script) (p start : ℕ) (base : World) (xs zs : List Undelivered) (k : ℕ) (y : Progress) : Type 0 where
   pub going : IsGoing script p start base (xs ++ zs) [] y
   pub blocked : list_all (is_blocked y.world k) xs ≡ true
 
 -- those that were not delivered cannot come
 pub record IsDelivered (script : Script) (p start : ℕ) (base : World) (y : Progress) : Type 0 where
-  pub others : List Waiting
+  pub others : List Undelivered
   pub going : IsGoing script p start base others [] y
   pub blocked : list_all (is_blocked y.world start) others ≡ true
 
 -- the directives' world has the envelopes of the one before
-delivered-times : (script : Script) (p start : ℕ) (base : World) (xs zs : List Waiting) (k times : ℕ) (y : Progress) (es : List Event) → 1 ≤ p → k < start → Follows script y es → IsGoing script p start base (xs ++ pend k times ∷ zs) [] y →
+delivered-times : (script : Script) (p start : ℕ) (base : World) (xs zs : List Undelivered) (k times : ℕ) (y : Progress) (es : List Event) → 1 ≤ p → k < start → Follows script y es → IsGoing script p start base (xs ++ pend k times ∷ zs) [] y →
     may_come base (slice_get base.envelopes k) ≡ true → start ≤ length base.envelopes → list_all (is_blocked y.world k) xs ≡ true → (times ≡ 1) ⊎ (times ≡ 2) →
     Reached script (IsDelivering script p start base xs zs (k + 1)) (tell_all (at y es) (replicate times (Deliver k)))
 delivered-times script p start base xs zs k times y es low small f g come room blocked which =
@@ -74,32 +74,32 @@ delivered-times script p start base xs zs k times y es low small f g come room b
         Reached script (IsDelivering script p start base xs zs (k + 1)) (tell_all (at z fs) (Deliver k ∷ []))
     once z fs h i b =
         let s = deliver-next script p start base xs zs (xs ++ zs) k 1 [] z fs low h i (comes-here z i.doing.like) b (λ gs. made-once z.world k xs (zs ++ gs) b ∙ sym (append_assoc xs zs gs)) in
-        reached script (IsDelivering script p start base xs zs (k + 1)) (progressed script z (Deliver k)) (Deliver k ∷ fs) s.0 (record { going = s.1; blocked = still-blocked z (k + 1) (omega arith) i.doing.grown b })
+        reached script (IsDelivering script p start base xs zs (k + 1)) (next_progress script z (Deliver k)) (Deliver k ∷ fs) s.0 (record { going = s.1; blocked = still-blocked z (k + 1) (omega arith) i.doing.grown b })
 
     twice : (z : Progress) (fs : List Event) → Follows script z fs → IsGoing script p start base (xs ++ pend k 2 ∷ zs) [] z → list_all (is_blocked z.world k) xs ≡ true →
         Reached script (IsDelivering script p start base xs zs (k + 1)) (tell_all (at z fs) (Deliver k ∷ Deliver k ∷ []))
     twice z fs h i b =
         let s = deliver-next script p start base xs zs (xs ++ pend k 1 ∷ zs) k 2 [] z fs low h i (comes-here z i.doing.like) b (λ gs. made-twice z.world k xs (zs ++ gs) b ∙ sym (append_assoc xs (pend k 1 ∷ zs) gs)) in
-        once (progressed script z (Deliver k)) (Deliver k ∷ fs) s.0 s.1 (still-blocked z k (omega arith) i.doing.grown b)
+        once (next_progress script z (Deliver k)) (Deliver k ∷ fs) s.0 s.1 (still-blocked z k (omega arith) i.doing.grown b)
 
-pub deliver-all : (script : Script) (p start : ℕ) (old base : World) (ds : List Directive) (xs : List Waiting) (k n : ℕ) (y : Progress) (es : List Event) → 1 ≤ p → k + n ≡ start → start ≤ length base.envelopes →
+pub deliver-all : (script : Script) (p start : ℕ) (old base : World) (ds : List Directive) (xs : List Undelivered) (k n : ℕ) (y : Progress) (es : List Event) → 1 ≤ p → k + n ≡ start → start ≤ length base.envelopes →
     ((i : ℕ) → i < start → slice_get base.envelopes i ≡ slice_get old.envelopes i) →
     Follows script y es → IsDelivering script p start base xs (pending_in old ds (fresh_from k n)) k y →
     Reached script (IsDelivered script p start base) (tell_all (at y es) (flat_map (λ k. replicate (deliveries_of base ds k) (Deliver k)) (range_with_len k n)))
 deliver-all script p start old base ds xs k zero y es low all room same f d =
     let none : k ≡ start = omega (arith, all) in
     reached script (IsDelivered script p start base) y es f
-    (record { others = xs ++ []; going = d.going; blocked = subst (λ (ys : List Waiting). list_all (is_blocked y.world start) ys ≡ true) (sym (append_nil xs)) (subst (λ (i : ℕ). list_all (is_blocked y.world i) xs ≡ true) none d.blocked) })
+    (record { others = xs ++ []; going = d.going; blocked = subst (λ (ys : List Undelivered). list_all (is_blocked y.world start) ys ≡ true) (sym (append_nil xs)) (subst (λ (i : ℕ). list_all (is_blocked y.world i) xs ≡ true) none d.blocked) })
   where
-    append_nil : (ys : List Waiting) → ys ++ [] ≡ ys
+    append_nil : (ys : List Undelivered) → ys ++ [] ≡ ys
     append_nil [] = refl
-    append_nil (x ∷ ys) = ap (λ (l : List Waiting). x ∷ l) (append_nil ys)
+    append_nil (x ∷ ys) = ap (λ (l : List Undelivered). x ∷ l) (append_nil ys)
 deliver-all script p start old base ds xs k (suc n) y es low all room same f d =
     subst (λ (x : Told). Reached script (IsDelivered script p start base) x) (sym (tell-append (at y es) (replicate (deliveries_of base ds k) (Deliver k)) rest))
     (by-lost (list_any (loses (slice_get base.envelopes k)) ds) (may_come base (slice_get base.envelopes k)) refl refl
     (λ ys z fs g c. deliver-all script p start old base ds ys (k + 1) n z fs low (omega (arith, all)) room same g c))
   where
-    zs : List Waiting
+    zs : List Undelivered
     zs = pending_in old ds (fresh_from (k + 1) n)
 
     rest : List Event
@@ -121,28 +121,28 @@ deliver-all script p start old base ds xs k (suc n) y es low all room same f d =
     blocked-on = let grown = d.going.doing.grown in blocked-kept y.world y.world k (k + 1) xs (like-itself y.world) (omega (arith, all, grown)) (omega arith) d.blocked
 
     Next : Type 0
-    Next = (ys : List Waiting) (z : Progress) (fs : List Event) → Follows script z fs → IsDelivering script p start base ys zs (k + 1) z → Reached script (IsDelivered script p start base) (tell_all (at z fs) rest)
+    Next = (ys : List Undelivered) (z : Progress) (fs : List Event) → Follows script z fs → IsDelivering script p start base ys zs (k + 1) z → Reached script (IsDelivered script p start base) (tell_all (at z fs) rest)
 
     by-lost : (a b : Bool) → list_any (loses (slice_get base.envelopes k)) ds ≡ a → may_come base (slice_get base.envelopes k) ≡ b → Next →
         Reached script (IsDelivered script p start base) (tell_all (tell_all (at y es) (replicate (deliveries_of base ds k) (Deliver k))) rest)
     by-lost true b e g next =
         let none : deliveries_of base ds k ≡ 0 = rw e refl in
         subst (λ (i : ℕ). Reached script (IsDelivered script p start base) (tell_all (tell_all (at y es) (replicate i (Deliver k))) rest)) (sym none)
-        (next xs y es f (record { going = subst (λ (ys : List Waiting). IsGoing script p start base (xs ++ ys) [] y) (waits-lost e) d.going; blocked = blocked-on }))
+        (next xs y es f (record { going = subst (λ (ys : List Undelivered). IsGoing script p start base (xs ++ ys) [] y) (waits-lost e) d.going; blocked = blocked-on }))
     by-lost false false e g next =
         let none : deliveries_of base ds k ≡ 0 = rw (e, g) refl in
-        let there : IsGoing script p start base (xs ++ pend k times ∷ zs) [] y = subst (λ (ys : List Waiting). IsGoing script p start base (xs ++ ys) [] y) (waits-kept e) d.going in
+        let there : IsGoing script p start base (xs ++ pend k times ∷ zs) [] y = subst (λ (ys : List Undelivered). IsGoing script p start base (xs ++ ys) [] y) (waits-kept e) d.going in
         let stuck : may_come y.world (slice_get y.world.envelopes k) ≡ false = come-kept base y.world k there.doing.like (omega (arith, all, room)) ∙ g in
         subst (λ (i : ℕ). Reached script (IsDelivered script p start base) (tell_all (tell_all (at y es) (replicate i (Deliver k))) rest)) (sym none)
         (next (xs ++ pend k times ∷ []) y es f (record {
-          going = subst (λ (ys : List Waiting). IsGoing script p start base ys [] y) (sym (append_assoc xs (pend k times ∷ []) zs)) there;
+          going = subst (λ (ys : List Undelivered). IsGoing script p start base ys [] y) (sym (append_assoc xs (pend k times ∷ []) zs)) there;
           blocked = all-append (is_blocked y.world (k + 1)) xs (pend k times ∷ []) blocked-on
               (both-of (is_blocked y.world (k + 1) (pend k times)) true
               (both-of (true && nat_lt k (k + 1)) (not (may_come y.world (slice_get y.world.envelopes k))) (lt-test k (k + 1) (omega arith)) (rw stuck refl)) refl);
         }))
     by-lost false true e g next =
         let some : deliveries_of base ds k ≡ times = rw (e, g) refl in
-        let there : IsGoing script p start base (xs ++ pend k times ∷ zs) [] y = subst (λ (ys : List Waiting). IsGoing script p start base (xs ++ ys) [] y) (waits-kept e) d.going in
+        let there : IsGoing script p start base (xs ++ pend k times ∷ zs) [] y = subst (λ (ys : List Undelivered). IsGoing script p start base (xs ++ ys) [] y) (waits-kept e) d.going in
         subst (λ (i : ℕ). Reached script (IsDelivered script p start base) (tell_all (tell_all (at y es) (replicate i (Deliver k))) rest)) (sym some)
         (reached-then script (IsDelivering script p start base xs zs (k + 1)) (IsDelivered script p start base) (λ x. tell_all x rest) (tell_all (at y es) (replicate times (Deliver k)))
         (delivered-times script p start base xs zs k times y es low (omega (arith, all)) f there g room d.blocked (one-or-two (list_any (repeats (slice_get base.envelopes k)) ds)))
@@ -156,7 +156,7 @@ deliver-all script p start old base ds xs k (suc n) y es low all room same f d =
 
 -- the actors below number a have ticked where they are up
 pub record IsTicking (script : Script) (p start : ℕ) (base : World) (a : ℕ) (y : Progress) : Type 0 where
-  pub others : List Waiting
+  pub others : List Undelivered
   pub going : IsGoing script p start base others y.ticked y
   pub blocked : list_all (is_blocked y.world start) others ≡ true
   pub seen : (b : ℕ) → has y.ticked b ≡ true → b < a
@@ -203,7 +203,7 @@ tick-all script p start base now a (suc n) y es low clock f t =
         let up : is_up y.world a ≡ true = d.like.up a ∙ e in
         let new : has y.ticked a ≡ false = not-seen (has y.ticked a) refl in
         let here : now ≡ now_of script y = clock ∙ sym (ap (λ (i : ℕ). (phase_of script i).now) d.phase) in
-        then_on (progressed script y (Tick a now)) (Tick a now ∷ es)
+        then_on (next_progress script y (Tick a now)) (Tick a now ∷ es)
         (follows-next script y es (Tick a now) f
         (both-of (nat_lt 0 y.phase && is_nil y.todo && is_up y.world a && not (has y.ticked a)) (now == now_of script y)
         (both-of (nat_lt 0 y.phase && is_nil y.todo && is_up y.world a) (not (has y.ticked a))

@@ -9,7 +9,7 @@ use Rattle.dpc_model.specs.declared.scripts.Directive.{Directive}
 use Rattle.dpc_model.specs.declared.scripts.Directive.TheVariants as directive
 use Rattle.dpc_model.specs.declared.scripts.Script.{Script}
 use Rattle.world_model.specs.Worlds.{World, Envelope, slot_of, ready_at, happens}
-use Rattle.world_model.specs.Schedules.{Waiting, Progress, tell_directive, progressed, has_event, event_of, same_event, is_next, newly_sent, pending_in, targets_in, targets_left, node_actors, is_phase_complete, phase_left, phase_of}
+use Rattle.world_model.specs.Schedules.{Undelivered, Progress, tell_directive, next_progress, has_event, event_of, same_event, is_next, newly_sent, pending_in, targets_in, targets_left, node_actors, is_phase_complete, phase_left, phase_of}
 use Rattle.world_safety.proofs.Tests.{both-of, eq-of, eq-test}
 use Rattle.schedule_law.proofs.Stages.{at, Follows, Reached, follows-next, reached}
 use Rattle.schedule_law.proofs.Calm.{AreZeroed, IsGrown, grown-longer, happens-grown}
@@ -22,7 +22,7 @@ TargetsStand [] y = AllMet y.world (ready_at y.world) y.targets
 TargetsStand (d ∷ ds) y = y.targets ≡ []
 
 -- how a run stands within the directives of a phase that began with so many envelopes
-pub record IsDirected (script : Script) (p start : ℕ) (old : World) (ws : List Waiting) (ds : List Directive) (y : Progress) : Type 0 where
+pub record IsDirected (script : Script) (p start : ℕ) (old : World) (ws : List Undelivered) (ds : List Directive) (y : Progress) : Type 0 where
   pub phase : y.phase ≡ p
   pub todo : y.todo ≡ ds
   pub grown : start ≤ length y.world.envelopes
@@ -52,7 +52,7 @@ same-targets y v d ds h =
     by-nil [] = refl
     by-nil (x ∷ xs) = refl
 
-directed-next : (script : Script) (p start : ℕ) (old : World) (ws : List Waiting) (d : Directive) (ds : List Directive) (y : Progress) (v : World) → IsDirected script p start old ws (d ∷ ds) y → IsGrown y.world v →
+directed-next : (script : Script) (p start : ℕ) (old : World) (ws : List Undelivered) (d : Directive) (ds : List Directive) (y : Progress) (v : World) → IsDirected script p start old ws (d ∷ ds) y → IsGrown y.world v →
     IsDirected script p start old ws ds (record {
       world = v;
       phase = y.phase;
@@ -68,7 +68,7 @@ directed-next script p start old ws d ds y v h c =
       phase = h.phase;
       todo = ap (λ (l : List Directive). drop 1 l) h.todo;
       grown = omega (arith, longer, grown);
-      waiting = ap (λ (l : List Waiting). l ++ newly_sent y.world v) h.waiting ∙ fresh-grown ws start (length y.world.envelopes) (length v.envelopes) grown longer;
+      waiting = ap (λ (l : List Undelivered). l ++ newly_sent y.world v) h.waiting ∙ fresh-grown ws start (length y.world.envelopes) (length v.envelopes) grown longer;
       ticked = h.ticked;
       plan = c.plan ∙ h.plan;
       zeroed = c.zeroed h.zeroed;
@@ -93,29 +93,29 @@ two-same a b = both-of (a == a) (b == b) (eq-test a a refl) (eq-test b b refl)
 
 -- ---- all
 
-pub directives-told : (script : Script) (p start : ℕ) (old : World) (ws : List Waiting) (ds : List Directive) (y : Progress) (es : List Event) → Follows script y es → IsDirected script p start old ws (filter has_event ds) y →
+pub directives-told : (script : Script) (p start : ℕ) (old : World) (ws : List Undelivered) (ds : List Directive) (y : Progress) (es : List Event) → Follows script y es → IsDirected script p start old ws (filter has_event ds) y →
     Reached script (IsDirected script p start old ws []) (fold tell_directive (at y es) ds)
 directives-told script p start old ws [] y es f h = reached script (IsDirected script p start old ws []) y es f h
 directives-told script p start old ws (directive.Lose a b ∷ ds) y es f h = directives-told script p start old ws ds y es f h
 directives-told script p start old ws (directive.Repeat a b ∷ ds) y es f h = directives-told script p start old ws ds y es f h
 directives-told script p start old ws (directive.Emit s t ∷ ds) y es f h =
-    directives-told script p start old ws ds (progressed script y (Emit s t)) (Emit s t ∷ es) (follows-next script y es (Emit s t) f (next-is y (directive.Emit s t) (Emit s t) (filter has_event ds) h.todo refl (two-same s t)))
+    directives-told script p start old ws ds (next_progress script y (Emit s t)) (Emit s t ∷ es) (follows-next script y es (Emit s t) f (next-is y (directive.Emit s t) (Emit s t) (filter has_event ds) h.todo refl (two-same s t)))
     (directed-next script p start old ws (directive.Emit s t) (filter has_event ds) y (happens y.world (Emit s t)) h (happens-grown y.world (Emit s t)))
 directives-told script p start old ws (directive.Release s t ∷ ds) y es f h =
-    directives-told script p start old ws ds (progressed script y (Release s t)) (Release s t ∷ es) (follows-next script y es (Release s t) f (next-is y (directive.Release s t) (Release s t) (filter has_event ds) h.todo refl (two-same s t)))
+    directives-told script p start old ws ds (next_progress script y (Release s t)) (Release s t ∷ es) (follows-next script y es (Release s t) f (next-is y (directive.Release s t) (Release s t) (filter has_event ds) h.todo refl (two-same s t)))
     (directed-next script p start old ws (directive.Release s t) (filter has_event ds) y (happens y.world (Release s t)) h (happens-grown y.world (Release s t)))
 directives-told script p start old ws (directive.Cut s t ∷ ds) y es f h =
-    directives-told script p start old ws ds (progressed script y (Cut s t)) (Cut s t ∷ es) (follows-next script y es (Cut s t) f (next-is y (directive.Cut s t) (Cut s t) (filter has_event ds) h.todo refl (two-same s t)))
+    directives-told script p start old ws ds (next_progress script y (Cut s t)) (Cut s t ∷ es) (follows-next script y es (Cut s t) f (next-is y (directive.Cut s t) (Cut s t) (filter has_event ds) h.todo refl (two-same s t)))
     (directed-next script p start old ws (directive.Cut s t) (filter has_event ds) y (happens y.world (Cut s t)) h (happens-grown y.world (Cut s t)))
 directives-told script p start old ws (directive.Heal s t ∷ ds) y es f h =
-    directives-told script p start old ws ds (progressed script y (Heal s t)) (Heal s t ∷ es) (follows-next script y es (Heal s t) f (next-is y (directive.Heal s t) (Heal s t) (filter has_event ds) h.todo refl (two-same s t)))
+    directives-told script p start old ws ds (next_progress script y (Heal s t)) (Heal s t ∷ es) (follows-next script y es (Heal s t) f (next-is y (directive.Heal s t) (Heal s t) (filter has_event ds) h.todo refl (two-same s t)))
     (directed-next script p start old ws (directive.Heal s t) (filter has_event ds) y (happens y.world (Heal s t)) h (happens-grown y.world (Heal s t)))
 directives-told script p start old ws (directive.Crash a ∷ ds) y es f h =
-    directives-told script p start old ws ds (progressed script y (Crash a)) (Crash a ∷ es) (follows-next script y es (Crash a) f (next-is y (directive.Crash a) (Crash a) (filter has_event ds) h.todo refl (eq-test a a refl)))
+    directives-told script p start old ws ds (next_progress script y (Crash a)) (Crash a ∷ es) (follows-next script y es (Crash a) f (next-is y (directive.Crash a) (Crash a) (filter has_event ds) h.todo refl (eq-test a a refl)))
     (directed-next script p start old ws (directive.Crash a) (filter has_event ds) y (happens y.world (Crash a)) h (happens-grown y.world (Crash a)))
 directives-told script p start old ws (directive.Restart a ∷ ds) y es f h =
     let i = (slot_of y.world a).last_inc + 1 in
-    directives-told script p start old ws ds (progressed script y (Restart a ((slot_of y.world a).last_inc + 1))) (Restart a ((slot_of y.world a).last_inc + 1) ∷ es)
+    directives-told script p start old ws ds (next_progress script y (Restart a ((slot_of y.world a).last_inc + 1))) (Restart a ((slot_of y.world a).last_inc + 1) ∷ es)
     (follows-next script y es (Restart a i) f (next-is y (directive.Restart a) (Restart a i) (filter has_event ds) h.todo refl (two-same a i)))
     (directed-next script p start old ws (directive.Restart a) (filter has_event ds) y (happens y.world (Restart a i)) h (happens-grown y.world (Restart a i)))
 
@@ -125,7 +125,7 @@ directives-told script p start old ws (directive.Restart a ∷ ds) y es f h =
 pub record IsBetween (script : Script) (p first : ℕ) (y : Progress) : Type 0 where
   pub phase : y.phase + 1 ≡ p
   pub complete : is_phase_complete y ≡ true
-  pub others : List Waiting
+  pub others : List Undelivered
   pub gone : list_all is_pending others ≡ true
   pub grown : first ≤ length y.world.envelopes
   pub waiting : y.waiting ≡ others ++ fresh_from first (length y.world.envelopes - first)
@@ -133,21 +133,21 @@ pub record IsBetween (script : Script) (p first : ℕ) (y : Progress) : Type 0 w
   pub zeroed : AreZeroed y.world.nodes
 
 pub phase-opened : (script : Script) (p first : ℕ) (y : Progress) (es : List Event) → Follows script y es → IsBetween script p first y → phase_left script y ≡ true →
-    Follows script (progressed script y (Phase p)) (Phase p ∷ es)
-    × IsDirected script p (length y.world.envelopes) y.world (pending_in y.world (phase_of script p).directives (fresh_from first (length y.world.envelopes - first))) (filter has_event (phase_of script p).directives) (progressed script y (Phase p))
+    Follows script (next_progress script y (Phase p)) (Phase p ∷ es)
+    × IsDirected script p (length y.world.envelopes) y.world (pending_in y.world (phase_of script p).directives (fresh_from first (length y.world.envelopes - first))) (filter has_event (phase_of script p).directives) (next_progress script y (Phase p))
 phase-opened script p first y es f h left =
     let ds = (phase_of script p).directives in
     let number = h.phase in
     let start = length y.world.envelopes in
     let next : (p == y.phase + 1) ≡ true = eq-test p (y.phase + 1) (sym h.phase) in
     let waits : pending_in y.world ds y.waiting ≡ pending_in y.world ds (fresh_from first (start - first)) =
-    ap (λ (l : List Waiting). pending_in y.world ds l) h.waiting ∙ pending-old y.world ds h.others (fresh_from first (start - first)) h.gone in (
+    ap (λ (l : List Undelivered). pending_in y.world ds l) h.waiting ∙ pending-old y.world ds h.others (fresh_from first (start - first)) h.gone in (
       follows-next script y es (Phase p) f (both-of (p == y.phase + 1 && is_phase_complete y) (phase_left script y) (both-of (p == y.phase + 1) (is_phase_complete y) next h.complete) left),
       record {
         phase = refl;
         todo = refl;
         grown = omega arith;
-        waiting = ap (λ (l : List Waiting). l ++ fresh_from start (start - start)) waits;
+        waiting = ap (λ (l : List Undelivered). l ++ fresh_from start (start - start)) waits;
         ticked = refl;
         plan = h.plan;
         zeroed = h.zeroed;

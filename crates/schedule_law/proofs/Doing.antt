@@ -10,7 +10,7 @@ use Rattle.dpc_model.specs.declared.messages.Event.{Event}
 use Rattle.dpc_model.specs.declared.messages.Event.TheVariants.{Mill}
 use Rattle.dpc_model.specs.declared.scripts.Script.{Script}
 use Rattle.world_model.specs.Worlds.{World, ready_at, happens}
-use Rattle.world_model.specs.Schedules.{Waiting, Progress, Told, tell, tell_all, progressed, targets_left, targets_in, newly_sent, may_mill, mill_events}
+use Rattle.world_model.specs.Schedules.{Undelivered, Progress, Told, tell, tell_all, next_progress, targets_left, targets_in, newly_sent, may_mill, mill_events}
 use Rattle.world_safety.proofs.Tests.{both-of, le-test, lt-test, eq-of, eq-test}
 use Rattle.schedule_law.proofs.Stages.{at, Follows, Reached, follows-next, reached, reached-then}
 use Rattle.schedule_law.proofs.Calm.{AreZeroed, IsCalm, IsLike, calm-like, like-then, grown-longer, calm-grown}
@@ -18,7 +18,7 @@ use Rattle.schedule_law.proofs.Targets.{AllMet, left-met, mill-at}
 use Rattle.schedule_law.proofs.Waits.{fresh_from, fresh-grown}
 
 -- how a run stands behind the directives of a phase that began with so many envelopes
-pub record IsDoing (script : Script) (p start : ℕ) (base : World) (ws : List Waiting) (ts : List ℕ) (y : Progress) : Type 0 where
+pub record IsDoing (script : Script) (p start : ℕ) (base : World) (ws : List Undelivered) (ts : List ℕ) (y : Progress) : Type 0 where
   pub phase : y.phase ≡ p
   pub todo : y.todo ≡ []
   pub grown : start ≤ length y.world.envelopes
@@ -30,7 +30,7 @@ pub record IsDoing (script : Script) (p start : ℕ) (base : World) (ws : List W
 
 -- ---- a calm event
 
-pub calm-doing : (script : Script) (p start : ℕ) (base : World) (ws xs : List Waiting) (ts us tk : List ℕ) (y : Progress) (v : World) (mid : List Waiting) (targets : List (ℕ × ℕ)) → IsDoing script p start base ws ts y → IsCalm y.world v →
+pub calm-doing : (script : Script) (p start : ℕ) (base : World) (ws xs : List Undelivered) (ts us tk : List ℕ) (y : Progress) (v : World) (mid : List Undelivered) (targets : List (ℕ × ℕ)) → IsDoing script p start base ws ts y → IsCalm y.world v →
     mid ≡ xs ++ fresh_from start (length y.world.envelopes - start) → tk ≡ us →
     IsDoing script p start base xs us (record { world = v; phase = y.phase; todo = y.todo; waiting = mid ++ newly_sent y.world v; ticked = tk; targets = targets })
 calm-doing script p start base ws xs ts us tk y v mid targets d c e t =
@@ -40,7 +40,7 @@ calm-doing script p start base ws xs ts us tk y v mid targets d c e t =
       phase = d.phase;
       todo = d.todo;
       grown = omega (arith, longer, grown);
-      waiting = ap (λ (l : List Waiting). l ++ newly_sent y.world v) e ∙ fresh-grown xs start (length y.world.envelopes) (length v.envelopes) grown longer;
+      waiting = ap (λ (l : List Undelivered). l ++ newly_sent y.world v) e ∙ fresh-grown xs start (length y.world.envelopes) (length v.envelopes) grown longer;
       ticked = t;
       plan = c.plan ∙ d.plan;
       zeroed = (calm-grown y.world v c).zeroed d.zeroed;
@@ -52,28 +52,28 @@ pub targets-kept : (y : Progress) (a : Bool) (v : World) → y.todo ≡ [] → t
 targets-kept y a v e = rw e refl
 
 -- the targets are met when the ready buckets are
-pub record IsMilling (script : Script) (p start : ℕ) (base : World) (ws : List Waiting) (y : Progress) : Type 0 where
+pub record IsMilling (script : Script) (p start : ℕ) (base : World) (ws : List Undelivered) (y : Progress) : Type 0 where
   pub doing : IsDoing script p start base ws [] y
   pub met : AllMet y.world (ready_at y.world) y.targets
 
 -- they are met
-pub record IsGoing (script : Script) (p start : ℕ) (base : World) (ws : List Waiting) (ts : List ℕ) (y : Progress) : Type 0 where
+pub record IsGoing (script : Script) (p start : ℕ) (base : World) (ws : List Undelivered) (ts : List ℕ) (y : Progress) : Type 0 where
   pub doing : IsDoing script p start base ws ts y
   pub met : AllMet y.world (λ _. 0) y.targets
 
-pub free : (script : Script) (p start : ℕ) (base : World) (ws : List Waiting) (ts : List ℕ) (y : Progress) → 1 ≤ p → IsDoing script p start base ws ts y → (nat_lt 0 y.phase && is_nil y.todo) ≡ true
+pub free : (script : Script) (p start : ℕ) (base : World) (ws : List Undelivered) (ts : List ℕ) (y : Progress) → 1 ≤ p → IsDoing script p start base ws ts y → (nat_lt 0 y.phase && is_nil y.todo) ≡ true
 free script p start base ws ts y h d = rw (d.phase, d.todo) (both-of (nat_lt 0 p) true (lt-test 0 p (omega (arith, h))) refl)
 
 -- ---- milling
 
 -- what is ready at the others stays, and of the own so many are left
-record IsMillingOf (script : Script) (p start : ℕ) (base : World) (ws : List Waiting) (a left : ℕ) (w : World) (y : Progress) : Type 0 where
+record IsMillingOf (script : Script) (p start : ℕ) (base : World) (ws : List Undelivered) (a left : ℕ) (w : World) (y : Progress) : Type 0 where
   going : IsMilling script p start base ws y
   own : ready_at y.world a ≡ left
   others : (b : ℕ) → (b ≡ a → ⊥) → ready_at y.world b ≡ ready_at w b
 
-mill-next : (script : Script) (p start : ℕ) (base : World) (ws : List Waiting) (a r left : ℕ) (w : World) (y : Progress) (es : List Event) → 1 ≤ p → 1 ≤ r → r ≤ 16 → Follows script y es →
-    IsMillingOf script p start base ws a (r + left) w y → Follows script (progressed script y (Mill a r)) (Mill a r ∷ es) × IsMillingOf script p start base ws a left w (progressed script y (Mill a r))
+mill-next : (script : Script) (p start : ℕ) (base : World) (ws : List Undelivered) (a r left : ℕ) (w : World) (y : Progress) (es : List Event) → 1 ≤ p → 1 ≤ r → r ≤ 16 → Follows script y es →
+    IsMillingOf script p start base ws a (r + left) w y → Follows script (next_progress script y (Mill a r)) (Mill a r ∷ es) × IsMillingOf script p start base ws a left w (next_progress script y (Mill a r))
 mill-next script p start base ws a r left w y es low one few f m =
     let d = m.going.doing in
     let own = m.own in
@@ -94,7 +94,7 @@ mill-next script p start base ws a r left w y es low one few f m =
     )
 
 -- 16 at a time
-mills-many : (script : Script) (p start : ℕ) (base : World) (ws : List Waiting) (a k left : ℕ) (w : World) (y : Progress) (es : List Event) → 1 ≤ p → Follows script y es → IsMillingOf script p start base ws a (k * 16 + left) w y →
+mills-many : (script : Script) (p start : ℕ) (base : World) (ws : List Undelivered) (a k left : ℕ) (w : World) (y : Progress) (es : List Event) → 1 ≤ p → Follows script y es → IsMillingOf script p start base ws a (k * 16 + left) w y →
     Reached script (IsMillingOf script p start base ws a left w) (tell_all (at y es) (replicate k (Mill a 16)))
 mills-many script p start base ws a zero left w y es low f m =
     let none : zero * 16 + left ≡ left = omega arith in
@@ -102,7 +102,7 @@ mills-many script p start base ws a zero left w y es low f m =
 mills-many script p start base ws a (suc k) left w y es low f m =
     let next : suc k * 16 + left ≡ 16 + (k * 16 + left) = omega arith in
     let s = mill-next script p start base ws a 16 (k * 16 + left) w y es low (omega arith) (omega arith) f (subst (λ (n : ℕ). IsMillingOf script p start base ws a n w y) next m) in
-    mills-many script p start base ws a k left w (progressed script y (Mill a 16)) (Mill a 16 ∷ es) low s.0 s.1
+    mills-many script p start base ws a k left w (next_progress script y (Mill a 16)) (Mill a 16 ∷ es) low s.0 s.1
 
 pub tell-append : (x : Told) (es fs : List Event) → tell_all x (es ++ fs) ≡ tell_all (tell_all x es) fs
 tell-append x es fs = fold-append tell x es fs
@@ -113,7 +113,7 @@ parts r = sym (div-add-mod' r 16)
 rest-few : (r : ℕ) → r % 16 < 16
 rest-few r = mod-lt r (omega arith)
 
-mills-of : (script : Script) (p start : ℕ) (base : World) (ws : List Waiting) (a r : ℕ) (w : World) (y : Progress) (es : List Event) → 1 ≤ p → Follows script y es → IsMillingOf script p start base ws a r w y →
+mills-of : (script : Script) (p start : ℕ) (base : World) (ws : List Undelivered) (a r : ℕ) (w : World) (y : Progress) (es : List Event) → 1 ≤ p → Follows script y es → IsMillingOf script p start base ws a r w y →
     Reached script (IsMillingOf script p start base ws a 0 w) (tell_all (at y es) (mill_events a r))
 mills-of script p start base ws a r w y es low f m =
     let last = cond (r % 16 == 0) [] (Mill a (r % 16) ∷ []) in
@@ -131,19 +131,19 @@ mills-of script p start base ws a r w y es low f m =
               let some : 1 ≤ r % 16 = positive (r % 16) e in
               let whole : r % 16 ≡ r % 16 + 0 = omega arith in
               let s = mill-next script p start base ws a (r % 16) 0 w z fs low some (omega (arith, few)) g (subst (λ (n : ℕ). IsMillingOf script p start base ws a n w z) whole k) in
-              reached script (IsMillingOf script p start base ws a 0 w) (progressed script z (Mill a (r % 16))) (Mill a (r % 16) ∷ fs) s.0 s.1
+              reached script (IsMillingOf script p start base ws a 0 w) (next_progress script z (Mill a (r % 16))) (Mill a (r % 16) ∷ fs) s.0 s.1
         ]) refl
       where
         positive : (n : ℕ) → (n == 0) ≡ false → 1 ≤ n
         positive n e = grind (arith, common_steps)
 
 -- all nodes, from actor number a on
-pub record IsMilledUpto (script : Script) (p start : ℕ) (base : World) (ws : List Waiting) (a : ℕ) (w : World) (y : Progress) : Type 0 where
+pub record IsMilledUpto (script : Script) (p start : ℕ) (base : World) (ws : List Undelivered) (a : ℕ) (w : World) (y : Progress) : Type 0 where
   pub going : IsMilling script p start base ws y
   pub below : (b : ℕ) → b < a → ready_at y.world b ≡ 0
   pub past : (b : ℕ) → a ≤ b → ready_at y.world b ≡ ready_at w b
 
-pub mills-all : (script : Script) (p start : ℕ) (base : World) (ws : List Waiting) (a n : ℕ) (w : World) (y : Progress) (es : List Event) → 1 ≤ p → Follows script y es → IsMilledUpto script p start base ws a w y →
+pub mills-all : (script : Script) (p start : ℕ) (base : World) (ws : List Undelivered) (a n : ℕ) (w : World) (y : Progress) (es : List Event) → 1 ≤ p → Follows script y es → IsMilledUpto script p start base ws a w y →
     Reached script (IsMilledUpto script p start base ws (a + n) w) (tell_all (at y es) (flat_map (λ a. mill_events a (ready_at w a)) (range_with_len a n)))
 mills-all script p start base ws a zero w y es low f m =
     let none : a ≡ a + 0 = omega arith in

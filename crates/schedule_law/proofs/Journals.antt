@@ -7,7 +7,7 @@ use Rattle.dpc_model.specs.declared.messages.Event.TheVariants.{Phase, Emit, Rel
 use Rattle.dpc_model.specs.declared.scripts.Script.{Script}
 use Rattle.node_model.specs.Nodes.{PlainNode}
 use Rattle.world_model.specs.Worlds.{World, Envelope, home_of, slot_of, run, ready_role, ready_in, all_settled}
-use Rattle.world_model.specs.Schedules.{Progress, opening, progressed, progress_from, progress, may, may_follow, follows_from, is_live_so_far, is_live, may_come, may_mill, may_deliver, is_phase_complete, phase_left, quiet_limit}
+use Rattle.world_model.specs.Schedules.{Progress, first_progress, next_progress, progress_from, progress, may, may_follow, follows_from, is_live_so_far, is_live, may_come, may_mill, may_deliver, is_phase_complete, phase_left, quiet_limit}
 use Rattle.world_safety.proofs.Tests.{both, both-of, eq-of, lt-of}
 use Rattle.schedule_law.specs.Journals.{phases_in, most_phases, Comes, Mills}
 use Rattle.schedule_law.proofs.Stages.{follows-append}
@@ -23,13 +23,13 @@ none-live script = refl
 follows-part : (script : Script) (x : Progress) (es fs : List Event) → follows_from script x (es ++ fs) ≡ true → (follows_from script x es ≡ true) × (follows_from script (progress_from script x es) fs ≡ true)
 follows-part script x [] fs h = (refl, h)
 follows-part script x (e ∷ es) fs h =
-    let p = both (may_follow script x e) (follows_from script (progressed script x e) (es ++ fs)) h in
-    let q = follows-part script (progressed script x e) es fs p.1 in
-    (both-of (may_follow script x e) (follows_from script (progressed script x e) es) p.0 q.0, q.1)
+    let p = both (may_follow script x e) (follows_from script (next_progress script x e) (es ++ fs)) h in
+    let q = follows-part script (next_progress script x e) es fs p.1 in
+    (both-of (may_follow script x e) (follows_from script (next_progress script x e) es) p.0 q.0, q.1)
 
 pub prefix-live : (script : Script) (es fs : List Event) → is_live_so_far script (es ++ fs) ≡ true → is_live_so_far script es ≡ true
 unfolding is_live_so_far
-prefix-live script es fs h = (follows-part script (opening script) es fs h).0
+prefix-live script es fs h = (follows-part script (first_progress script) es fs h).0
 
 pub live-far : (script : Script) (es : List Event) → is_live script es ≡ true → is_live_so_far script es ≡ true
 unfolding is_live
@@ -37,21 +37,21 @@ live-far script es h = (both (is_live_so_far script es) (is_phase_complete (prog
 
 pub each-may : (script : Script) (es : List Event) (e : Event) (fs : List Event) → is_live_so_far script (es ++ e ∷ fs) ≡ true → may script es e ≡ true
 unfolding is_live_so_far may progress
-each-may script es e fs h = (both (may_follow script (progress_from script (opening script) es) e) _ (follows-part script (opening script) es (e ∷ fs) h).1).0
+each-may script es e fs h = (both (may_follow script (progress_from script (first_progress script) es) e) _ (follows-part script (first_progress script) es (e ∷ fs) h).1).0
 
 pub one-more : (script : Script) (es : List Event) (e : Event) → is_live_so_far script es ≡ true → may script es e ≡ true → is_live_so_far script (es ++ e ∷ []) ≡ true
 unfolding is_live_so_far may progress
-one-more script es e h k = follows-append script (opening script) es (e ∷ []) h (both-of (may_follow script (progress_from script (opening script) es) e) true k refl)
+one-more script es e h k = follows-append script (first_progress script) es (e ∷ []) h (both-of (may_follow script (progress_from script (first_progress script) es) e) true k refl)
 
 -- ---- the world
 
 pub progress-run : (script : Script) (es : List Event) → (progress script es).world ≡ run script.plan es
 unfolding progress run
-progress-run script es = progress-world script (opening script) es
+progress-run script es = progress-world script (first_progress script) es
 
 -- ---- phases
 
-next-phase : (script : Script) (x : Progress) (e : Event) → may_follow script x e ≡ true → (progressed script x e).phase ≡ x.phase + phases_in (e ∷ [])
+next-phase : (script : Script) (x : Progress) (e : Event) → may_follow script x e ≡ true → (next_progress script x e).phase ≡ x.phase + phases_in (e ∷ [])
 next-phase script x (Phase p) h =
     let q = both (p == x.phase + 1 && is_phase_complete x) (phase_left script x) h in
     eq-of p (x.phase + 1) (both (p == x.phase + 1) (is_phase_complete x) q.0).0
@@ -80,15 +80,15 @@ phases-cons (Mill a r) es = omega arith
 phases-from : (script : Script) (x : Progress) (es : List Event) → follows_from script x es ≡ true → (progress_from script x es).phase ≡ x.phase + phases_in es
 phases-from script x [] h = omega arith
 phases-from script x (e ∷ es) h =
-    let p = both (may_follow script x e) (follows_from script (progressed script x e) es) h in
+    let p = both (may_follow script x e) (follows_from script (next_progress script x e) es) h in
     let one = next-phase script x e p.0 in
-    let rest = phases-from script (progressed script x e) es p.1 in
+    let rest = phases-from script (next_progress script x e) es p.1 in
     let sum = phases-cons e es in
     omega (arith, one, rest, sum)
 
 pub phases-counted : (script : Script) (es : List Event) → is_live_so_far script es ≡ true → (progress script es).phase ≡ phases_in es
 unfolding is_live_so_far progress
-phases-counted script es h = let p = phases-from script (opening script) es h in omega (arith, p)
+phases-counted script es h = let p = phases-from script (first_progress script) es h in omega (arith, p)
 
 left-few : (script : Script) (x : Progress) → phase_left script x ≡ true → x.phase + 1 ≤ most_phases script
 left-few script x h = by-settle script.settle refl (or-of (nat_lt x.phase (length script.phases)) _ h)
@@ -111,7 +111,7 @@ left-few script x h = by-settle script.settle refl (or-of (nat_lt x.phase (lengt
         differ : true ≡ false → ⊥
         differ z = cc
 
-phase-few : (script : Script) (x : Progress) (e : Event) → may_follow script x e ≡ true → x.phase ≤ most_phases script → (progressed script x e).phase ≤ most_phases script
+phase-few : (script : Script) (x : Progress) (e : Event) → may_follow script x e ≡ true → x.phase ≤ most_phases script → (next_progress script x e).phase ≤ most_phases script
 phase-few script x (Phase p) h k =
     let q = both (p == x.phase + 1 && is_phase_complete x) (phase_left script x) h in
     let same = eq-of p (x.phase + 1) (both (p == x.phase + 1) (is_phase_complete x) q.0).0 in
@@ -130,14 +130,14 @@ phase-few script x (Mill a r) h k = k
 pub few-from : (script : Script) (x : Progress) (es : List Event) → follows_from script x es ≡ true → x.phase ≤ most_phases script → (progress_from script x es).phase ≤ most_phases script
 few-from script x [] h k = k
 few-from script x (e ∷ es) h k =
-    let p = both (may_follow script x e) (follows_from script (progressed script x e) es) h in
-    few-from script (progressed script x e) es p.1 (phase-few script x e p.0 k)
+    let p = both (may_follow script x e) (follows_from script (next_progress script x e) es) h in
+    few-from script (next_progress script x e) es p.1 (phase-few script x e p.0 k)
 
 pub phases-few : (script : Script) (es : List Event) → is_live_so_far script es ≡ true → phases_in es ≤ most_phases script
 unfolding is_live_so_far progress
 phases-few script es h =
-    let p = phases-from script (opening script) es h in
-    let few = few-from script (opening script) es h (omega arith) in
+    let p = phases-from script (first_progress script) es h in
+    let few = few-from script (first_progress script) es h (omega arith) in
     omega (arith, p, few)
 
 -- ---- events that are not void

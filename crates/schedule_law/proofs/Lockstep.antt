@@ -10,7 +10,7 @@ use Rattle.dpc_model.specs.declared.scripts.Phase.{Phase as PhaseSpec}
 use Rattle.dpc_model.specs.declared.scripts.Script.{Script}
 use Rattle.node_model.specs.Nodes.{Home, new_node}
 use Rattle.world_model.specs.Worlds.{home_of, new_world, run_from, run, all_settled}
-use Rattle.world_model.specs.Schedules.{Progress, Told, tell_phase, tell_phases, tell_quiet, lockstep, lock_of, opening, progressed, progress_from, progress, is_live_so_far, is_live, is_phase_complete, phase_left, phase_of, last_clock, quiet_limit}
+use Rattle.world_model.specs.Schedules.{Progress, Told, tell_phase, tell_phases, tell_quiet, lockstep, lock_of, first_progress, next_progress, progress_from, progress, is_live_so_far, is_live, is_phase_complete, phase_left, phase_of, last_clock, quiet_limit}
 use Rattle.world_safety.proofs.Tests.{both-of, lt-test, lt-of}
 use Rattle.schedule_law.proofs.Stages.{Reached, reached}
 use Rattle.schedule_law.proofs.Nodes.{IsZeroed}
@@ -19,7 +19,7 @@ use Rattle.schedule_law.proofs.Waits.{or-right}
 use Rattle.schedule_law.proofs.Directing.{IsBetween}
 use Rattle.schedule_law.proofs.Phases.{phase-told}
 
--- ---- the opening
+-- ---- the first_progress
 
 new-zeroed : (home : Home) → IsZeroed (new_node home)
 unfolding new_node
@@ -30,7 +30,7 @@ slots-zeroed plan [] i = tt
 slots-zeroed plan (n ∷ ns) zero = new-zeroed (home_of plan n)
 slots-zeroed plan (n ∷ ns) (suc i) = slots-zeroed plan ns i
 
-opening-between : (script : Script) → IsBetween script 1 0 (opening script)
+opening-between : (script : Script) → IsBetween script 1 0 (first_progress script)
 unfolding new_world
 opening-between script =
     record { phase = refl; complete = refl; others = []; gone = refl; grown = omega arith; waiting = refl; plan = refl; zeroed = slots-zeroed script.plan (nodes_of script.plan) }
@@ -157,23 +157,23 @@ lockstep-reached script =
     all : Reached script (IsBetween script (length script.phases + 1) told.0) told.1
     all =
         phases-told script 0 1 0 script.phases (record { world = new_world script.plan; events = [] }) refl (omega arith) (λ i. let none : 0 + i ≡ i = omega arith in ap (λ (j : ℕ). slice_get script.phases j) none)
-        (reached script (IsBetween script 1 0) (opening script) [] (record { come = refl; live = refl }) (opening-between script))
+        (reached script (IsBetween script 1 0) (first_progress script) [] (record { come = refl; live = refl }) (opening-between script))
 
 pub lock-live : (script : Script) → is_live script (lock_of script) ≡ true
 unfolding lock_of is_live is_live_so_far progress
 lock-live script =
     let r = lockstep-reached script in
     let f = r.follows in
-    let complete : is_phase_complete (progress_from script (opening script) (reverse (lockstep script).events)) ≡ true = ap (λ (y : Progress). is_phase_complete y) f.come ∙ r.holds.complete in
-    let ended : phase_left script (progress_from script (opening script) (reverse (lockstep script).events)) ≡ false = ap (λ (y : Progress). phase_left script y) f.come ∙ r.holds.ended in
+    let complete : is_phase_complete (progress_from script (first_progress script) (reverse (lockstep script).events)) ≡ true = ap (λ (y : Progress). is_phase_complete y) f.come ∙ r.holds.complete in
+    let ended : phase_left script (progress_from script (first_progress script) (reverse (lockstep script).events)) ≡ false = ap (λ (y : Progress). phase_left script y) f.come ∙ r.holds.ended in
     both-of _ _ (both-of _ _ f.live complete) (rw ended refl)
 
 pub progress-world : (script : Script) (x : Progress) (es : List Event) → (progress_from script x es).world ≡ run_from x.world es
 progress-world script x [] = refl
-progress-world script x (e ∷ es) = progress-world script (progressed script x e) es
+progress-world script x (e ∷ es) = progress-world script (next_progress script x e) es
 
 pub lock-world : (script : Script) → (lockstep script).world ≡ run script.plan (lock_of script)
 unfolding lock_of run
 lock-world script =
     let r = lockstep-reached script in
-    ap (λ (z : Told). z.world) r.is_told ∙ ap (λ (y : Progress). y.world) (sym r.follows.come) ∙ progress-world script (opening script) (reverse (lockstep script).events)
+    ap (λ (z : Told). z.world) r.is_told ∙ ap (λ (y : Progress). y.world) (sym r.follows.come) ∙ progress-world script (first_progress script) (reverse (lockstep script).events)

@@ -1,8 +1,8 @@
 -- What a node's steps make of its cursor, and of whether it recovers.
 use Rattle.std.proofs.Common.{◌≡◌, ℕ, ◌+◌, ◌≤◌, true, false, not, cond, ◌&&◌, ◌==◌, List, [], ◌∷◌, refl, sym, ◌∙◌, arith, Option, Some, None, is_none}
 use Rattle.dpc_model.specs.Lists.{nth, list_all}
-use Rattle.dpc_model.specs.Inlets.{same_sess, Took, take_batch}
-use Rattle.dpc_model.specs.Granting.{own_key, grants, granted, may_enter_by, asking}
+use Rattle.dpc_model.specs.Inlets.{same_sess, AfterBatch, take_batch}
+use Rattle.dpc_model.specs.Granting.{own_key, grants, with_promise, may_enter_by, with_ask}
 use Rattle.dpc_model.specs.Actors.{replicas_of}
 use Rattle.dpc_model.specs.Ports.{no_port, sender_at, on_truncated, all_truncated}
 use Rattle.dpc_model.specs.Replicas.{is_silent}
@@ -17,7 +17,7 @@ use Rattle.dpc_model.specs.declared.messages.Message.TheVariants as message
 use Rattle.node_model.specs.Mails.{Snap, Packet, Plain, SnapFor, mail, to_each, Stepped}
 use Rattle.dpc_model.specs.NodeStates.{is_up_failure, is_stabilization}
 use Rattle.node_model.specs.Nodes.{Home, streams_of, PlainNode, due_at, wants_to_reconcile}
-use Rattle.node_model.specs.NodeSteps.{silently, then_do, on_snap_ask, asking_snapshots, announcing, peers_of, entered, recovering_again, adopted, fresh, stamped_by, took, on_batch, on_subscribe, with_port, on_truncation, on_upstream_beat, on_peer_beat, on_ack, on_ask, on_grant, on_message, on_snap, on_packet, with_marks_ended, delivered, replica_number, reader_place, milled, clocked, may_start_afresh, peer_watches, choosing, reconciling, processed_upto, processing, serving, going_on, ticked_at}
+use Rattle.node_model.specs.NodeSteps.{silent_step, then_do, on_snap_ask, snapshot_ask_step, announcing_step, peers_of, enter_step, after_loss, after_adoption, with_fresh_start, with_stamps_of, after_taking, on_batch, on_subscribe, with_port, on_truncation, on_upstream_beat, on_peer_beat, on_ack, on_ask, on_grant, on_message, on_snap, on_packet, with_marks_ended, packet_step, replica_number, reader_place, mill_step, after_clock, may_start_afresh, peer_watches, choice_step, ask_step, processing_upto, processing_step, serving_step, rest_of_tick, tick_step}
 use Rattle.world_safety.proofs.Tests.{both}
 
 -- a node that recovers has no bucket done
@@ -71,26 +71,26 @@ itself n = record { same = refl; also = refl; clock = refl }
 batch-still : (home : Home) (s : Sess) (index : ℕ) (items : List Item) (o : Option (ℕ × ℕ)) (n : PlainNode) → IsStill n (on_batch home s index items o n)
 batch-still home s index items None n = itself n
 batch-still home s index items (Some (p, r)) n =
-    elim ((nth no_port n.ports p).chosen == r) as (λ b. IsStill n (cond b (took home p (take_batch (nth no_port n.ports p).inlet s index items) n) n)) [
+    elim ((nth no_port n.ports p).chosen == r) as (λ b. IsStill n (cond b (after_taking home p (take_batch (nth no_port n.ports p).inlet s index items) n) n)) [
       | true ↦ took-still (take_batch (nth no_port n.ports p).inlet s index items)
       | false ↦ itself n
     ]
   where
-    stamped-still : (t : Taken) (m : PlainNode) → m.cursor ≡ n.cursor → m.recovering ≡ n.recovering → m.clock ≡ n.clock → IsStill n (stamped_by home t m)
+    stamped-still : (t : Taken) (m : PlainNode) → m.cursor ≡ n.cursor → m.recovering ≡ n.recovering → m.clock ≡ n.clock → IsStill n (with_stamps_of home t m)
     stamped-still (Used items) m e f g = record { same = e; also = f; clock = g }
     stamped-still Old m e f g = record { same = e; also = f; clock = g }
     stamped-still Broken m e f g = record { same = e; also = f; clock = g }
 
-    took-still : (t : Took) → IsStill n (took home p t n)
+    took-still : (t : AfterBatch) → IsStill n (after_taking home p t n)
     took-still t = stamped-still t.answer (with_port p (λ q. record q { inlet = t.after }) n) refl refl refl
 
 subscribe-still : (home : Home) (asked : Subscribe) (o : Option ℕ) (n : PlainNode) → IsStill n (on_subscribe home asked o n).after
 subscribe-still home asked None n = itself n
 subscribe-still home asked (Some k) n = record { same = refl; also = refl; clock = refl }
 
-again-lost : (home : Home) (n m : PlainNode) → IsCalmNode n (recovering_again home m)
-unfolding recovering_again
-again-lost home n m = lost-calm n (recovering_again home m) refl refl
+again-lost : (home : Home) (n m : PlainNode) → IsCalmNode n (after_loss home m)
+unfolding after_loss
+again-lost home n m = lost-calm n (after_loss home m) refl refl
 
 truncation-calm : (home : Home) (s : Sess) (base : ℕ) (o : Option (ℕ × ℕ)) (n : PlainNode) → IsCalmNode n (on_truncation home s base o n)
 truncation-calm home s base None n = still-calm n n (itself n)
@@ -98,7 +98,7 @@ truncation-calm home s base (Some (p, r)) n =
     let old = nth no_port n.ports p in
     let port = on_truncated r s base old in
     let m = with_port p (λ _. port) n in
-    elim (same_sess s old.inlet.sess && all_truncated port) as (λ b. IsCalmNode n (cond b (recovering_again home m) m)) [
+    elim (same_sess s old.inlet.sess && all_truncated port) as (λ b. IsCalmNode n (cond b (after_loss home m) m)) [
       | true ↦ again-lost home n m
       | false ↦ still-calm n m (record { same = refl; also = refl; clock = refl })
     ]
@@ -116,18 +116,18 @@ ack-still home i count (Some k) n = record { same = refl; also = refl; clock = r
 ask-still : (home : Home) (i ask : ℕ) (o : Option ℕ) (n : PlainNode) → IsStill n (on_ask home i ask o n).after
 ask-still home i ask None n = itself n
 ask-still home i ask (Some r) n =
-    elim (grants n.grants n.state r (i, ask)) as (λ b. IsStill n (Stepped.after (cond b (record { after = record n { grants = granted n.grants r (i, ask) }; sends = mail (nth 0 (replicas_of home.plan home.frag) r) (message.Grant i ask) ∷ [] }) (silently n)))) [
+    elim (grants n.grants n.state r (i, ask)) as (λ b. IsStill n (Stepped.after (cond b (record { after = record n { grants = with_promise n.grants r (i, ask) }; sends = mail (nth 0 (replicas_of home.plan home.frag) r) (message.Grant i ask) ∷ [] }) (silent_step n)))) [
       | true ↦ record { same = refl; also = refl; clock = refl }
       | false ↦ itself n
     ]
 
-entered-still : (home : Home) (n : PlainNode) → IsStill n (entered home n).after
-unfolding entered
+entered-still : (home : Home) (n : PlainNode) → IsStill n (enter_step home n).after
+unfolding enter_step
 entered-still home n = record { same = refl; also = refl; clock = refl }
 
 grant-still : (home : Home) (i ask : ℕ) (n : PlainNode) → IsStill n (on_grant home i ask n).after
 grant-still home i ask n =
-    elim (is_up_failure n.state && may_enter_by n.grants (i, ask)) as (λ b. IsStill n (Stepped.after (cond b (entered home n) (silently n)))) [
+    elim (is_up_failure n.state && may_enter_by n.grants (i, ask)) as (λ b. IsStill n (Stepped.after (cond b (enter_step home n) (silent_step n)))) [
       | true ↦ entered-still home n
       | false ↦ itself n
     ]
@@ -135,7 +135,7 @@ grant-still home i ask n =
 message-calm : (home : Home) (a : ℕ) (m : Message) (n : PlainNode) → IsCalmNode n (on_message home a m n).after
 message-calm home a (message.Batch s index items) n = still-calm n _ (batch-still home s index items (sender_at home.plan (streams_of home) a) n)
 message-calm home a (message.Subscribe asked) n =
-    elim (n.recovering) as (λ b. IsCalmNode n (Stepped.after (cond b (silently n) (on_subscribe home asked (reader_place home a) n)))) [
+    elim (n.recovering) as (λ b. IsCalmNode n (Stepped.after (cond b (silent_step n) (on_subscribe home asked (reader_place home a) n)))) [
       | true ↦ still-calm n n (itself n)
       | false ↦ still-calm n _ (subscribe-still home asked (reader_place home a) n)
     ]
@@ -149,19 +149,19 @@ message-calm home a (message.Ack i count) n =
 message-calm home a (message.Ask i ask) n = still-calm n _ (ask-still home i ask (replica_number home a) n)
 message-calm home a (message.Grant i ask) n = still-calm n _ (grant-still home i ask n)
 message-calm home a (message.SnapAsk i try) n =
-    elim (n.recovering) as (λ b. IsCalmNode n (Stepped.after (cond b (silently n) (on_snap_ask home a i try n)))) [
+    elim (n.recovering) as (λ b. IsCalmNode n (Stepped.after (cond b (silent_step n) (on_snap_ask home a i try n)))) [
       | true ↦ still-calm n n (itself n)
       | false ↦ still-calm n n (itself n)
     ]
 
-adopted-up : (home : Home) (s : Snap) (n : PlainNode) → (adopted home s n).recovering ≡ false
-unfolding adopted
+adopted-up : (home : Home) (s : Snap) (n : PlainNode) → (after_adoption home s n).recovering ≡ false
+unfolding after_adoption
 adopted-up home s n = refl
 
 snap-calm : (home : Home) (i try : ℕ) (s : Snap) (n : PlainNode) → IsCalmNode n (on_snap home i try s n)
 snap-calm home i try s n =
-    (elim (n.recovering && i == n.grants.inc && try == n.tries) as (λ b. (n.recovering && i == n.grants.inc && try == n.tries) ≡ b → IsCalmNode n (cond b (adopted home s n) n)) [
-      | true ↦ λ e. anew-calm n (adopted home s n) (both _ (i == n.grants.inc) (both (n.recovering && i == n.grants.inc) (try == n.tries) e).0).0 (adopted-up home s n)
+    (elim (n.recovering && i == n.grants.inc && try == n.tries) as (λ b. (n.recovering && i == n.grants.inc && try == n.tries) ≡ b → IsCalmNode n (cond b (after_adoption home s n) n)) [
+      | true ↦ λ e. anew-calm n (after_adoption home s n) (both _ (i == n.grants.inc) (both (n.recovering && i == n.grants.inc) (try == n.tries) e).0).0 (adopted-up home s n)
       | false ↦ λ e. still-calm n n (itself n)
     ]) refl
 
@@ -169,20 +169,20 @@ packet-calm : (home : Home) (a : ℕ) (p : Packet) (n : PlainNode) → IsCalmNod
 packet-calm home a (Plain m) n = message-calm home a m n
 packet-calm home a (SnapFor i try s) n = snap-calm home i try s n
 
-pub delivered-calm : (home : Home) (a : ℕ) (p : Packet) (n : PlainNode) → IsCalmNode n (delivered home a p n).after
-unfolding delivered
+pub delivered-calm : (home : Home) (a : ℕ) (p : Packet) (n : PlainNode) → IsCalmNode n (packet_step home a p n).after
+unfolding packet_step
 delivered-calm home a p n = let c = packet-calm home a p (with_marks_ended n) in record { zeroed = c.zeroed; cursor = c.cursor }
 
 -- ---- a tick
 
-reconciling-still : (home : Home) (n : PlainNode) → IsStill n (reconciling home n).after
+reconciling-still : (home : Home) (n : PlainNode) → IsStill n (ask_step home n).after
 reconciling-still home n =
-    elim (wants_to_reconcile home n && is_none n.grants.promise) as (λ b. IsStill n (Stepped.after (cond b (cond (list_all is_silent (peer_watches home n)) (entered home n) (record {
-      after = record n { grants = asking n.grants };
+    elim (wants_to_reconcile home n && is_none n.grants.promise) as (λ b. IsStill n (Stepped.after (cond b (cond (list_all is_silent (peer_watches home n)) (enter_step home n) (record {
+      after = record n { grants = with_ask n.grants };
       sends = to_each (message.Ask (own_key n.grants).0 (own_key n.grants).1) (peers_of home);
-    })) (silently n)))) [
-      | true ↦ elim (list_all is_silent (peer_watches home n)) as (λ b. IsStill n (Stepped.after (cond b (entered home n) (record {
-        after = record n { grants = asking n.grants };
+    })) (silent_step n)))) [
+      | true ↦ elim (list_all is_silent (peer_watches home n)) as (λ b. IsStill n (Stepped.after (cond b (enter_step home n) (record {
+        after = record n { grants = with_ask n.grants };
         sends = to_each (message.Ask (own_key n.grants).0 (own_key n.grants).1) (peers_of home);
       })))) [
         | true ↦ entered-still home n
@@ -191,41 +191,41 @@ reconciling-still home n =
       | false ↦ itself n
     ]
 
-processed-onward : (home : Home) (last : ℕ) (n : PlainNode) → IsOnward n (processed_upto home last n).after
+processed-onward : (home : Home) (last : ℕ) (n : PlainNode) → IsOnward n (processing_upto home last n).after
 processed-onward home last n = record { grown = omega arith; also = refl; clock = refl }
 
-processing-onward : (home : Home) (n : PlainNode) → IsOnward n (processing home n).after
+processing-onward : (home : Home) (n : PlainNode) → IsOnward n (processing_step home n).after
 processing-onward home n =
-    elim (is_stabilization n.state) as (λ b. IsOnward n (Stepped.after (cond b (silently n) (elim (due_at home n n.clock) [ None ↦ silently n | Some last ↦ processed_upto home last n ])))) [
+    elim (is_stabilization n.state) as (λ b. IsOnward n (Stepped.after (cond b (silent_step n) (elim (due_at home n n.clock) [ None ↦ silent_step n | Some last ↦ processing_upto home last n ])))) [
       | true ↦ record { grown = omega arith; also = refl; clock = refl }
-      | false ↦ elim (due_at home n n.clock) as (λ o. IsOnward n (Stepped.after (elim o [ None ↦ silently n | Some last ↦ processed_upto home last n ]))) [
+      | false ↦ elim (due_at home n n.clock) as (λ o. IsOnward n (Stepped.after (elim o [ None ↦ silent_step n | Some last ↦ processing_upto home last n ]))) [
         | None ↦ record { grown = omega arith; also = refl; clock = refl }
         | Some last ↦ processed-onward home last n
       ]
     ]
 
-serving-onward : (home : Home) (n : PlainNode) → IsOnward n (serving home n).after
+serving-onward : (home : Home) (n : PlainNode) → IsOnward n (serving_step home n).after
 serving-onward home n =
-    let m = (choosing home n).after in
+    let m = (choice_step home n).after in
     let r = reconciling-still home m in
-    let p = processing-onward home (reconciling home m).after in
+    let p = processing-onward home (ask_step home m).after in
     let same = r.same in
     let grown = p.grown in
     record { grown = omega (arith, same, grown); also = p.also ∙ r.also; clock = p.clock ∙ r.clock }
 
-going-calm : (home : Home) (n : PlainNode) → IsCalmNode n (going_on home n).after
+going-calm : (home : Home) (n : PlainNode) → IsCalmNode n (rest_of_tick home n).after
 going-calm home n =
-    (elim (n.recovering) as (λ b. n.recovering ≡ b → IsCalmNode n (Stepped.after (cond (not b) (serving home n) (cond (may_start_afresh home n) (serving home (fresh n)) (then_do (asking_snapshots home n) (announcing home)))))) [
-      | false ↦ λ e. let s = serving-onward home n in onward-calm n (serving home n).after (s.also ∙ e) s.grown
-      | true ↦ λ e. elim (may_start_afresh home n) as (λ c. IsCalmNode n (Stepped.after (cond c (serving home (fresh n)) (then_do (asking_snapshots home n) (announcing home))))) [
-        | true ↦ let s = serving-onward home (fresh n) in anew-calm n (serving home (fresh n)).after e s.also
+    (elim (n.recovering) as (λ b. n.recovering ≡ b → IsCalmNode n (Stepped.after (cond (not b) (serving_step home n) (cond (may_start_afresh home n) (serving_step home (with_fresh_start n)) (then_do (snapshot_ask_step home n) (announcing_step home)))))) [
+      | false ↦ λ e. let s = serving-onward home n in onward-calm n (serving_step home n).after (s.also ∙ e) s.grown
+      | true ↦ λ e. elim (may_start_afresh home n) as (λ c. IsCalmNode n (Stepped.after (cond c (serving_step home (with_fresh_start n)) (then_do (snapshot_ask_step home n) (announcing_step home))))) [
+        | true ↦ let s = serving-onward home (with_fresh_start n) in anew-calm n (serving_step home (with_fresh_start n)).after e s.also
         | false ↦ still-calm n _ (record { same = refl; also = refl; clock = refl })
       ]
     ]) refl
 
-pub ticked-calm : (home : Home) (now : ℕ) (n : PlainNode) → IsCalmNode n (ticked_at home now n).after
-unfolding ticked_at
-ticked-calm home now n = let c = going-calm home (clocked now (with_marks_ended n)) in record { zeroed = c.zeroed; cursor = c.cursor }
+pub ticked-calm : (home : Home) (now : ℕ) (n : PlainNode) → IsCalmNode n (tick_step home now n).after
+unfolding tick_step
+ticked-calm home now n = let c = going-calm home (after_clock now (with_marks_ended n)) in record { zeroed = c.zeroed; cursor = c.cursor }
 
 -- ---- milling
 
@@ -236,18 +236,18 @@ pub record IsMilled (r : ℕ) (n m : PlainNode) : Type 0 where
   pub closed : m.closed ≡ n.closed
   pub ports : m.ports ≡ n.ports
 
-pub milled-moves : (home : Home) (r : ℕ) (n : PlainNode) → IsMilled r n (milled home r n).after
-unfolding milled
+pub milled-moves : (home : Home) (r : ℕ) (n : PlainNode) → IsMilled r n (mill_step home r n).after
+unfolding mill_step
 milled-moves home r n = record { moved = refl; also = refl; clock = refl; closed = refl; ports = refl }
 
 -- ---- the clock
 
-again-clock : (home : Home) (m : PlainNode) → (recovering_again home m).clock ≡ m.clock
-unfolding recovering_again
+again-clock : (home : Home) (m : PlainNode) → (after_loss home m).clock ≡ m.clock
+unfolding after_loss
 again-clock home m = refl
 
-adopted-clock : (home : Home) (s : Snap) (n : PlainNode) → (adopted home s n).clock ≡ n.clock
-unfolding adopted
+adopted-clock : (home : Home) (s : Snap) (n : PlainNode) → (after_adoption home s n).clock ≡ n.clock
+unfolding after_adoption
 adopted-clock home s n = refl
 
 truncation-clock : (home : Home) (s : Sess) (base : ℕ) (o : Option (ℕ × ℕ)) (n : PlainNode) → (on_truncation home s base o n).clock ≡ n.clock
@@ -256,7 +256,7 @@ truncation-clock home s base (Some (p, r)) n =
     let old = nth no_port n.ports p in
     let port = on_truncated r s base old in
     let m = with_port p (λ _. port) n in
-    elim (same_sess s old.inlet.sess && all_truncated port) as (λ b. PlainNode.clock (cond b (recovering_again home m) m) ≡ n.clock) [
+    elim (same_sess s old.inlet.sess && all_truncated port) as (λ b. PlainNode.clock (cond b (after_loss home m) m) ≡ n.clock) [
       | true ↦ again-clock home m
       | false ↦ refl
     ]
@@ -264,7 +264,7 @@ truncation-clock home s base (Some (p, r)) n =
 message-clock : (home : Home) (a : ℕ) (m : Message) (n : PlainNode) → (on_message home a m n).after.clock ≡ n.clock
 message-clock home a (message.Batch s index items) n = (batch-still home s index items (sender_at home.plan (streams_of home) a) n).clock
 message-clock home a (message.Subscribe asked) n =
-    elim (n.recovering) as (λ b. PlainNode.clock (Stepped.after (cond b (silently n) (on_subscribe home asked (reader_place home a) n))) ≡ n.clock) [
+    elim (n.recovering) as (λ b. PlainNode.clock (Stepped.after (cond b (silent_step n) (on_subscribe home asked (reader_place home a) n))) ≡ n.clock) [
       | true ↦ refl
       | false ↦ (subscribe-still home asked (reader_place home a) n).clock
     ]
@@ -278,32 +278,32 @@ message-clock home a (message.Ack i count) n =
 message-clock home a (message.Ask i ask) n = (ask-still home i ask (replica_number home a) n).clock
 message-clock home a (message.Grant i ask) n = (grant-still home i ask n).clock
 message-clock home a (message.SnapAsk i try) n =
-    elim (n.recovering) as (λ b. PlainNode.clock (Stepped.after (cond b (silently n) (on_snap_ask home a i try n))) ≡ n.clock) [
+    elim (n.recovering) as (λ b. PlainNode.clock (Stepped.after (cond b (silent_step n) (on_snap_ask home a i try n))) ≡ n.clock) [
       | true ↦ refl
       | false ↦ refl
     ]
 
 packet-clock : (home : Home) (a : ℕ) (p : Packet) (n : PlainNode) → (on_packet home a p n).after.clock ≡ n.clock
 packet-clock home a (Plain m) n = message-clock home a m n
-packet-clock home a (SnapFor i try s) n = elim (n.recovering && i == n.grants.inc && try == n.tries) as (λ b. PlainNode.clock (cond b (adopted home s n) n) ≡ n.clock) [
+packet-clock home a (SnapFor i try s) n = elim (n.recovering && i == n.grants.inc && try == n.tries) as (λ b. PlainNode.clock (cond b (after_adoption home s n) n) ≡ n.clock) [
   | true ↦ adopted-clock home s n
   | false ↦ refl
 ]
 
-pub delivered-clock : (home : Home) (a : ℕ) (p : Packet) (n : PlainNode) → (delivered home a p n).after.clock ≡ n.clock
-unfolding delivered
+pub delivered-clock : (home : Home) (a : ℕ) (p : Packet) (n : PlainNode) → (packet_step home a p n).after.clock ≡ n.clock
+unfolding packet_step
 delivered-clock home a p n = packet-clock home a p (with_marks_ended n)
 
-going-clock : (home : Home) (n : PlainNode) → (going_on home n).after.clock ≡ n.clock
+going-clock : (home : Home) (n : PlainNode) → (rest_of_tick home n).after.clock ≡ n.clock
 going-clock home n =
-    elim (n.recovering) as (λ b. PlainNode.clock (Stepped.after (cond (not b) (serving home n) (cond (may_start_afresh home n) (serving home (fresh n)) (then_do (asking_snapshots home n) (announcing home))))) ≡ n.clock) [
+    elim (n.recovering) as (λ b. PlainNode.clock (Stepped.after (cond (not b) (serving_step home n) (cond (may_start_afresh home n) (serving_step home (with_fresh_start n)) (then_do (snapshot_ask_step home n) (announcing_step home))))) ≡ n.clock) [
       | false ↦ (serving-onward home n).clock
-      | true ↦ elim (may_start_afresh home n) as (λ c. PlainNode.clock (Stepped.after (cond c (serving home (fresh n)) (then_do (asking_snapshots home n) (announcing home)))) ≡ n.clock) [
-        | true ↦ (serving-onward home (fresh n)).clock
+      | true ↦ elim (may_start_afresh home n) as (λ c. PlainNode.clock (Stepped.after (cond c (serving_step home (with_fresh_start n)) (then_do (snapshot_ask_step home n) (announcing_step home)))) ≡ n.clock) [
+        | true ↦ (serving-onward home (with_fresh_start n)).clock
         | false ↦ refl
       ]
     ]
 
-pub ticked-clock : (home : Home) (now : ℕ) (n : PlainNode) → (ticked_at home now n).after.clock ≡ now
-unfolding ticked_at
-ticked-clock home now n = going-clock home (clocked now (with_marks_ended n))
+pub ticked-clock : (home : Home) (now : ℕ) (n : PlainNode) → (tick_step home now n).after.clock ≡ now
+unfolding tick_step
+ticked-clock home now n = going-clock home (after_clock now (with_marks_ended n))

@@ -12,7 +12,7 @@ use Rattle.dpc_model.specs.declared.scripts.Directive.{Directive}
 use Rattle.dpc_model.specs.declared.scripts.Script.{Script}
 use Rattle.node_model.specs.Nodes.{PlainNode}
 use Rattle.world_model.specs.Worlds.{World, node_at, ready_at, is_up}
-use Rattle.world_model.specs.Schedules.{Waiting, Progress, Told, tell_all, tell_directive, tell_phase, phase_events, mill_events, deliveries_of, progressed, may_come, all_ticked, all_delivered, all_milled, phase_left, phase_of, pending_in, actors_of}
+use Rattle.world_model.specs.Schedules.{Undelivered, Progress, Told, tell_all, tell_directive, tell_phase, phase_events, mill_events, deliveries_of, next_progress, may_come, all_ticked, all_delivered, all_milled, phase_left, phase_of, pending_in, actors_of}
 use Rattle.world_safety.proofs.Tests.{both-of, le-test, lt-of, not-lt}
 use Rattle.schedule_law.proofs.Stages.{at, Follows, Reached, reached, reached-then}
 use Rattle.schedule_law.proofs.Calm.{like-itself}
@@ -27,7 +27,7 @@ use Rattle.schedule_law.proofs.Directing.{IsDirected, directives-told, IsBetween
 nobody-ready : (w : World) (b : ℕ) → length (roles_of w.plan) ≤ b → ready_at w b ≡ 0
 nobody-ready w b h = rw (slice_get_past (roles_of w.plan) b h) refl
 
-all-ready : (script : Script) (p start : ℕ) (base : World) (ws : List Waiting) (n : ℕ) (y : Progress) → n ≡ length (roles_of base.plan) → IsMilledUpto script p start base ws (0 + n) base y → (b : ℕ) → ready_at y.world b ≡ 0
+all-ready : (script : Script) (p start : ℕ) (base : World) (ws : List Undelivered) (n : ℕ) (y : Progress) → n ≡ length (roles_of base.plan) → IsMilledUpto script p start base ws (0 + n) base y → (b : ℕ) → ready_at y.world b ≡ 0
 all-ready script p start base ws n y e m b =
     (elim (nat_lt b n) as (λ t. nat_lt b n ≡ t → ready_at y.world b ≡ 0) [
       | true ↦ λ k. let less = lt-of b n k in m.below b (omega (arith, less))
@@ -59,7 +59,7 @@ phase-closed script p start base y t =
     subst (λ (plan : Plan). list_all (λ a. not (is_up y.world a) || has y.ticked a) (actors_of plan) ≡ true) (sym d.like.plan)
     (range-all (λ a. not (is_up y.world a) || has y.ticked a) 0 (length (roles_of base.plan)) (λ b less. ap (λ (up : Bool). not up || has y.ticked b) (d.like.up b) ∙ t.done b less)) in
     let delivers : all_delivered y ≡ true =
-    subst (λ (ws : List Waiting). list_all (λ (x : Waiting). not x.pending || not (may_come y.world (slice_get y.world.envelopes x.number))) ws ≡ true) (sym d.waiting)
+    subst (λ (ws : List Undelivered). list_all (λ (x : Undelivered). not x.pending || not (may_come y.world (slice_get y.world.envelopes x.number))) ws ≡ true) (sym d.waiting)
     (blocked-done y.world start t.others (fresh_from start (length y.world.envelopes - start)) t.blocked (fresh-done y.world start (length y.world.envelopes - start))) in
     let mills : all_milled y ≡ true = met-milled y.world y.targets t.going.met in
     let done : is_nil y.todo ≡ true = ap (λ (ds : List Directive). is_nil ds) d.todo in
@@ -91,7 +91,7 @@ behind-told script p first start old ds now y es low order clock f h =
     w : World
     w = y.world
 
-    ws : List Waiting
+    ws : List Undelivered
     ws = pending_in old ds (fresh_from first (start - first))
 
     n : ℕ
@@ -166,6 +166,6 @@ phase-told script p first y es f h left =
     let start = length y.world.envelopes in
     let number = h.phase in
     let ws = pending_in y.world ds (fresh_from first (start - first)) in
-    reached-then script (IsDirected script p start y.world ws []) (IsBetween script (p + 1) start) (λ x. tell_all x (phase_events x.world ds (range_with_len first (start - first)) (phase_of script p).now)) (fold tell_directive (at (progressed script y (Phase p)) (Phase p ∷ es)) ds)
-    (directives-told script p start y.world ws ds (progressed script y (Phase p)) (Phase p ∷ es) opened.0 opened.1)
+    reached-then script (IsDirected script p start y.world ws []) (IsBetween script (p + 1) start) (λ x. tell_all x (phase_events x.world ds (range_with_len first (start - first)) (phase_of script p).now)) (fold tell_directive (at (next_progress script y (Phase p)) (Phase p ∷ es)) ds)
+    (directives-told script p start y.world ws ds (next_progress script y (Phase p)) (Phase p ∷ es) opened.0 opened.1)
     (λ z fs g k. behind-told script p first start y.world ds (phase_of script p).now z fs (omega (arith, number)) h.grown refl g k)

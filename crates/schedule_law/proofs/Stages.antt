@@ -4,7 +4,7 @@ use Rattle.std.specs.Prelude.{reverse}
 use Rattle.std.proofs.lemmas.Grind.{reverse_onto}
 use Rattle.dpc_model.specs.declared.messages.Event.{Event}
 use Rattle.dpc_model.specs.declared.scripts.Script.{Script}
-use Rattle.world_model.specs.Schedules.{Told, Progress, opening, progressed, progress_from, may_follow, follows_from}
+use Rattle.world_model.specs.Schedules.{Told, Progress, first_progress, next_progress, progress_from, may_follow, follows_from}
 use Rattle.world_safety.proofs.Tests.{both, both-of}
 
 -- what is told where the run is as far as this
@@ -13,8 +13,8 @@ at y es = record { world = y.world; events = es }
 
 -- the events, with the last first, lead to this progress, each as it may
 pub record Follows (script : Script) (y : Progress) (es : List Event) : Type 0 where
-  pub come : progress_from script (opening script) (reverse es) ≡ y
-  pub live : follows_from script (opening script) (reverse es) ≡ true
+  pub come : progress_from script (first_progress script) (reverse es) ≡ y
+  pub live : follows_from script (first_progress script) (reverse es) ≡ true
 
 pub record Reached (script : Script) (P : Progress → Type 0) (x : Told) : Type 0 where
   pub here : Progress
@@ -24,21 +24,21 @@ pub record Reached (script : Script) (P : Progress → Type 0) (x : Told) : Type
 
 progress-append : (script : Script) (x : Progress) (es fs : List Event) → progress_from script x (es ++ fs) ≡ progress_from script (progress_from script x es) fs
 progress-append script x [] fs = refl
-progress-append script x (e ∷ es) fs = progress-append script (progressed script x e) es fs
+progress-append script x (e ∷ es) fs = progress-append script (next_progress script x e) es fs
 
 pub follows-append : (script : Script) (x : Progress) (es fs : List Event) → follows_from script x es ≡ true → follows_from script (progress_from script x es) fs ≡ true → follows_from script x (es ++ fs) ≡ true
 follows-append script x [] fs h k = k
 follows-append script x (e ∷ es) fs h k =
-    let p = both (may_follow script x e) (follows_from script (progressed script x e) es) h in
-    both-of (may_follow script x e) (follows_from script (progressed script x e) (es ++ fs)) p.0 (follows-append script (progressed script x e) es fs p.1 k)
+    let p = both (may_follow script x e) (follows_from script (next_progress script x e) es) h in
+    both-of (may_follow script x e) (follows_from script (next_progress script x e) (es ++ fs)) p.0 (follows-append script (next_progress script x e) es fs p.1 k)
 
-pub follows-next : (script : Script) (y : Progress) (es : List Event) (e : Event) → Follows script y es → may_follow script y e ≡ true → Follows script (progressed script y e) (e ∷ es)
+pub follows-next : (script : Script) (y : Progress) (es : List Event) (e : Event) → Follows script y es → may_follow script y e ≡ true → Follows script (next_progress script y e) (e ∷ es)
 follows-next script y es e f h =
     let back : reverse (e ∷ es) ≡ reverse es ++ e ∷ [] = reverse_onto es e [] in
     record {
-      come = ap (λ (l : List Event). progress_from script (opening script) l) back ∙ progress-append script (opening script) (reverse es) (e ∷ []) ∙ ap (λ (z : Progress). progressed script z e) f.come;
-      live = ap (λ (l : List Event). follows_from script (opening script) l) back
-          ∙ follows-append script (opening script) (reverse es) (e ∷ []) f.live (subst (λ (z : Progress). follows_from script z (e ∷ []) ≡ true) (sym f.come) (both-of (may_follow script y e) true h refl));
+      come = ap (λ (l : List Event). progress_from script (first_progress script) l) back ∙ progress-append script (first_progress script) (reverse es) (e ∷ []) ∙ ap (λ (z : Progress). next_progress script z e) f.come;
+      live = ap (λ (l : List Event). follows_from script (first_progress script) l) back
+          ∙ follows-append script (first_progress script) (reverse es) (e ∷ []) f.live (subst (λ (z : Progress). follows_from script z (e ∷ []) ≡ true) (sym f.come) (both-of (may_follow script y e) true h refl));
     }
 
 pub reached : (script : Script) (P : Progress → Type 0) (y : Progress) (es : List Event) → Follows script y es → P y → Reached script P (at y es)

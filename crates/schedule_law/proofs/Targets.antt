@@ -7,7 +7,7 @@ use Rattle.dpc_model.specs.Reading.{Reader}
 use Rattle.dpc_model.specs.declared.messages.Event.TheVariants.{Mill}
 use Rattle.dpc_model.specs.declared.plans.Plan.{Plan}
 use Rattle.node_model.specs.Nodes.{Home, PlainNode, complete_upto, ready}
-use Rattle.node_model.specs.NodeSteps.{milled}
+use Rattle.node_model.specs.NodeSteps.{mill_step}
 use Rattle.world_model.specs.Worlds.{World, Slot, home_of, node_place, slot_of, node_role, node_at, node_stepped, node_mills, mills, ready_in, ready_role, ready_at, happens}
 use Rattle.world_model.specs.Schedules.{target_of, is_recovering, targets_left, may_mill}
 use Rattle.world_safety.proofs.Tests.{both, le-of, eq-of, eq-test}
@@ -123,17 +123,17 @@ none-mills r k h e =
     let high = le-of r k p.1 in absurd (omega (arith, low, high, e))
 
 stepped-at : (w : World) (a f q r : ℕ) (n : PlainNode) → role_of w.plan a ≡ IsNode f q → (slot_of w a).node ≡ Some n →
-    IsCalm w (node_stepped a (milled (home_of w.plan (f, q)) r n) w) → IsMilledAt w a r (node_stepped a (milled (home_of w.plan (f, q)) r n) w)
+    IsCalm w (node_stepped a (mill_step (home_of w.plan (f, q)) r n) w) → IsMilledAt w a r (node_stepped a (mill_step (home_of w.plan (f, q)) r n) w)
 stepped-at w a f q r n role up calm = record { calm = calm; own = own; others = others; meets = meets }
   where
     home : Home
     home = home_of w.plan (f, q)
 
     m : PlainNode
-    m = (milled home r n).after
+    m = (mill_step home r n).after
 
     v : World
-    v = node_stepped a (milled home r n) w
+    v = node_stepped a (mill_step home r n) w
 
     here : (slot_of v a).node ≡ Some m
     here = by-get (slice_get w.nodes (node_place w.plan a)) refl
@@ -208,5 +208,5 @@ mill-at w a r h = by-role (role_of w.plan a) refl h (mill-calm w a r)
             IsMilledAt w a r (node_mills w a r home (slot_of w a).node)
         by-node None up g d = absurd (none-mills r 0 g refl)
         by-node (Some n) up g d =
-            let is : node_mills w a r home (slot_of w a).node ≡ node_stepped a (milled home r n) w = rw (up, g) refl in
+            let is : node_mills w a r home (slot_of w a).node ≡ node_stepped a (mill_step home r n) w = rw (up, g) refl in
             subst (λ (v : World). IsMilledAt w a r v) (sym is) (stepped-at w a f q r n e up (subst (λ (v : World). IsCalm w v) is d))

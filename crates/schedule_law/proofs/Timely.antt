@@ -10,7 +10,7 @@ use Rattle.dpc_model.specs.declared.scripts.Phase.{Phase as PhaseSpec}
 use Rattle.dpc_model.specs.declared.scripts.Script.{Script}
 use Rattle.node_model.specs.Nodes.{PlainNode}
 use Rattle.world_model.specs.Worlds.{World, slot_of, source_at, client_at, is_up, role_up, run, all_settled}
-use Rattle.world_model.specs.Schedules.{Progress, opening, progressed, progress_from, progress, may, may_follow, follows_from, is_live_so_far, is_live, is_phase_complete, phase_left, phase_of, last_clock, now_of, quiet_limit}
+use Rattle.world_model.specs.Schedules.{Progress, first_progress, next_progress, progress_from, progress, may, may_follow, follows_from, is_live_so_far, is_live, is_phase_complete, phase_left, phase_of, last_clock, now_of, quiet_limit}
 use Rattle.world_safety.proofs.Tests.{both, both-of, eq-of, le-of, le-test, lt-of, not-lt, not-of}
 use Rattle.schedule_law.specs.Journals.{phases_in, most_phases, Ticks, node_clock, clock_by, are_rising, IsClocked}
 use Rattle.schedule_law.proofs.Clocks.{IsTimely, ClockWithin, timely-later, new-timely, source-clock, client-clock, node-clock, happens-timely}
@@ -91,7 +91,7 @@ clock-rises script p h =
 
 -- ---- no clock is ahead
 
-next-timely : (script : Script) (x : Progress) (e : Event) → are_rising 0 script.phases ≡ true → may_follow script x e ≡ true → IsTimely (now_of script x) x.world → IsTimely (now_of script (progressed script x e)) (progressed script x e).world
+next-timely : (script : Script) (x : Progress) (e : Event) → are_rising 0 script.phases ≡ true → may_follow script x e ≡ true → IsTimely (now_of script x) x.world → IsTimely (now_of script (next_progress script x e)) (next_progress script x e).world
 next-timely script x (Phase p) r h t =
     let q = both (p == x.phase + 1 && is_phase_complete x) (phase_left script x) h in
     let same = eq-of p (x.phase + 1) (both (p == x.phase + 1) (is_phase_complete x) q.0).0 in
@@ -111,8 +111,8 @@ next-timely script x (Mill a i) r h t = happens-timely (now_of script x) x.world
 timely-from : (script : Script) (x : Progress) (es : List Event) → are_rising 0 script.phases ≡ true → follows_from script x es ≡ true → IsTimely (now_of script x) x.world → IsTimely (now_of script (progress_from script x es)) (progress_from script x es).world
 timely-from script x [] r h t = t
 timely-from script x (e ∷ es) r h t =
-    let p = both (may_follow script x e) (follows_from script (progressed script x e) es) h in
-    timely-from script (progressed script x e) es r p.1 (next-timely script x e r p.0 t)
+    let p = both (may_follow script x e) (follows_from script (next_progress script x e) es) h in
+    timely-from script (next_progress script x e) es r p.1 (next-timely script x e r p.0 t)
 
 -- ---- a tick
 
@@ -164,13 +164,13 @@ settled-few script = elim (script.settle) as (λ b. cond b (length script.phases
 pub ticks-so : (script : Script) (es : List Event) (a now : ℕ) → IsClocked script → is_live_so_far script es ≡ true → may script es (Tick a now) ≡ true → Ticks (run script.plan es) a now
 unfolding may is_live_so_far progress
 ticks-so script es a now clocked l h =
-    let x = progress_from script (opening script) es in
+    let x = progress_from script (first_progress script) es in
     let p = both (nat_lt 0 x.phase && is_nil x.todo && is_up x.world a && not (has x.ticked a)) (now == now_of script x) h in
     let up = (both (nat_lt 0 x.phase && is_nil x.todo) (is_up x.world a) (both (nat_lt 0 x.phase && is_nil x.todo && is_up x.world a) (not (has x.ticked a)) p.0).0).1 in
     let same = eq-of now (now_of script x) p.1 in
-    let timely = timely-from script (opening script) es clocked.rising l (new-timely script.plan (now_of script (opening script))) in
+    let timely = timely-from script (first_progress script) es clocked.rising l (new-timely script.plan (now_of script (first_progress script))) in
     let here = clock-within script x.phase clocked.rising in
-    let few = few-from script (opening script) es l (omega arith) in
+    let few = few-from script (first_progress script) es l (omega arith) in
     let within = clocked.within in
     subst (λ (w : World). Ticks w a now) (progress-run script es) (ticks-here x.world a now (now_of script x) timely (omega (arith, same)) (omega (arith, same, here, few, within)) up)
 

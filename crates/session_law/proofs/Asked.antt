@@ -7,12 +7,12 @@ use Rattle.dpc_model.specs.declared.messages.Event.{Event}
 use Rattle.dpc_model.specs.declared.messages.Event.TheVariants.{Phase, Emit, Release, Cut, Heal, Crash, Restart, Deliver, Tick, Mill}
 use Rattle.dpc_model.specs.declared.messages.Subscribe.{Subscribe}
 use Rattle.dpc_model.specs.declared.plans.Plan.{Plan}
-use Rattle.node_model.specs.NodeSteps.{delivered, milled, ticked_at}
-use Rattle.node_model.specs.Sources.{source_emits, source_releases, source_delivered, source_ticked}
-use Rattle.node_model.specs.Clients.{client_ticked}
+use Rattle.node_model.specs.NodeSteps.{packet_step, mill_step, tick_step}
+use Rattle.node_model.specs.Sources.{source_emits, source_releases, source_packet_step, source_tick_step}
+use Rattle.node_model.specs.Clients.{client_tick_step}
 use Rattle.world_model.specs.Worlds.{World, Envelope, home_of, from, slot_of, source_at, client_at, node_stepped, source_stepped, client_stepped, is_release_time, is_clock, emits, releases, link_up, crashes, restarts, node_takes, taken_by, can_come, comes, node_ticks, ticks, can_mill, node_mills, mills, happens, new_world, run, run_from}
-use Rattle.world_model.specs.SessionLaw.{Line}
-use Rattle.session_law.specs.Openings.{opening, asks_for, brings, has_first, asked_next, opened_by}
+use Rattle.world_model.specs.SessionLaw.{Channel}
+use Rattle.session_law.specs.Openings.{first_subscription, asks_for, brings, has_first, asked_next, opened_by}
 use Rattle.session_law.specs.Laws.{WasAsked}
 
 -- ---- no envelope is taken back
@@ -54,10 +54,10 @@ restart-grows w a i (IsClient c) = still w w refl
 restart-grows w a i Nobody = still w w refl
 
 taken-grows : (w : World) (e : Envelope) (role : Role) → Grows w (taken_by w e role)
-taken-grows w e (IsSource s) = (map (from e.to) (source_delivered w.plan s e.sender e.packet (source_at w s)).sends, refl)
+taken-grows w e (IsSource s) = (map (from e.to) (source_packet_step w.plan s e.sender e.packet (source_at w s)).sends, refl)
 taken-grows w e (IsNode f r) = elim (slot_of w e.to).node as (λ o. Grows w (node_takes w e (home_of w.plan (f, r)) o)) [
   | None ↦ still w w refl
-  | Some n ↦ (map (from e.to) (delivered (home_of w.plan (f, r)) e.sender e.packet n).sends, refl)
+  | Some n ↦ (map (from e.to) (packet_step (home_of w.plan (f, r)) e.sender e.packet n).sends, refl)
 ]
 taken-grows w e (IsClient c) = still w (taken_by w e (IsClient c)) refl
 taken-grows w e Nobody = still w w refl
@@ -67,19 +67,19 @@ deliver-grows w None = still w w refl
 deliver-grows w (Some e) = elim (can_come w e) as (λ b. Grows w (cond b (taken_by w e (role_of w.plan e.to)) w)) [ true ↦ taken-grows w e (role_of w.plan e.to) | false ↦ still w w refl ]
 
 tick-grows : (w : World) (a now : ℕ) (role : Role) → Grows w (ticks w a now role)
-tick-grows w a now (IsSource s) = elim (is_clock (source_at w s).clock now) as (λ b. Grows w (cond b (source_stepped a (source_ticked w.plan s now (source_at w s)) w) w)) [
-  | true ↦ (map (from a) (source_ticked w.plan s now (source_at w s)).sends, refl)
+tick-grows w a now (IsSource s) = elim (is_clock (source_at w s).clock now) as (λ b. Grows w (cond b (source_stepped a (source_tick_step w.plan s now (source_at w s)) w) w)) [
+  | true ↦ (map (from a) (source_tick_step w.plan s now (source_at w s)).sends, refl)
   | false ↦ still w w refl
 ]
 tick-grows w a now (IsNode f r) = elim (slot_of w a).node as (λ o. Grows w (node_ticks w a now (home_of w.plan (f, r)) o)) [
   | None ↦ still w w refl
-  | Some n ↦ elim (is_clock n.clock now) as (λ b. Grows w (cond b (node_stepped a (ticked_at (home_of w.plan (f, r)) now n) w) w)) [
-    | true ↦ (map (from a) (ticked_at (home_of w.plan (f, r)) now n).sends, refl)
+  | Some n ↦ elim (is_clock n.clock now) as (λ b. Grows w (cond b (node_stepped a (tick_step (home_of w.plan (f, r)) now n) w) w)) [
+    | true ↦ (map (from a) (tick_step (home_of w.plan (f, r)) now n).sends, refl)
     | false ↦ still w w refl
   ]
 ]
-tick-grows w a now (IsClient c) = elim (is_clock (client_at w c).clock now) as (λ b. Grows w (cond b (client_stepped a c (client_ticked w.plan c now (client_at w c)) w) w)) [
-  | true ↦ (map (from a) (client_ticked w.plan c now (client_at w c)).sends, refl)
+tick-grows w a now (IsClient c) = elim (is_clock (client_at w c).clock now) as (λ b. Grows w (cond b (client_stepped a c (client_tick_step w.plan c now (client_at w c)) w) w)) [
+  | true ↦ (map (from a) (client_tick_step w.plan c now (client_at w c)).sends, refl)
   | false ↦ still w w refl
 ]
 tick-grows w a now Nobody = still w w refl
@@ -87,8 +87,8 @@ tick-grows w a now Nobody = still w w refl
 mill-grows : (w : World) (a r : ℕ) (role : Role) → Grows w (mills w a r role)
 mill-grows w a r (IsNode f p) = elim (slot_of w a).node as (λ o. Grows w (node_mills w a r (home_of w.plan (f, p)) o)) [
   | None ↦ still w w refl
-  | Some n ↦ elim (can_mill (home_of w.plan (f, p)) r n) as (λ b. Grows w (cond b (node_stepped a (milled (home_of w.plan (f, p)) r n) w) w)) [
-    | true ↦ (map (from a) (milled (home_of w.plan (f, p)) r n).sends, refl)
+  | Some n ↦ elim (can_mill (home_of w.plan (f, p)) r n) as (λ b. Grows w (cond b (node_stepped a (mill_step (home_of w.plan (f, p)) r n) w) w)) [
+    | true ↦ (map (from a) (mill_step (home_of w.plan (f, p)) r n).sends, refl)
     | false ↦ still w w refl
   ]
 ]
@@ -119,13 +119,13 @@ get-before (y ∷ xs) ys (suc k) x e = get-before xs ys k x e
 -- ---- who asked
 
 -- an envelope of a world asks for the session by this subscription
-abbrev IsSent : Line → World → Subscribe → Type 0
+abbrev IsSent : Channel → World → Subscribe → Type 0
 IsSent l w asked = (k : ℕ) × (e : Envelope) × (slice_get w.envelopes k ≡ Some e) × (asks_for l e ≡ Some asked)
 
-sent-later : (l : Line) (w next : World) (asked : Subscribe) → Grows w next → IsSent l w asked → IsSent l next asked
+sent-later : (l : Channel) (w next : World) (asked : Subscribe) → Grows w next → IsSent l w asked → IsSent l next asked
 sent-later l w next asked g h = (h.0, h.1, ap (λ (es : List Envelope). slice_get es h.0) g.1 ∙ get-before w.envelopes g.0 h.0 h.1 h.2, h.3)
 
-brought : (l : Line) (w : World) (e : Event) (asked : Subscribe) → brings l w e ≡ Some asked → IsSent l w asked
+brought : (l : Channel) (w : World) (e : Event) (asked : Subscribe) → brings l w e ≡ Some asked → IsSent l w asked
 brought l w (Deliver k) asked h =
     (elim (slice_get w.envelopes k) as (λ o. slice_get w.envelopes k ≡ o → elim o [ None ↦ None | Some e ↦ asks_for l e ] ≡ Some asked → IsSent l w asked) [
       | None ↦ λ f g. cc
@@ -141,14 +141,14 @@ brought l w (Restart a i) asked h = cc
 brought l w (Tick a now) asked h = cc
 brought l w (Mill a r) asked h = cc
 
-abbrev IsAsked : Line → World → Subscribe → Type 0
-IsAsked l w asked = (asked ≡ opening l) ⊎ IsSent l w asked
+abbrev IsAsked : Channel → World → Subscribe → Type 0
+IsAsked l w asked = (asked ≡ first_subscription l) ⊎ IsSent l w asked
 
-asked-later : (l : Line) (w next : World) (asked : Subscribe) → Grows w next → IsAsked l w asked → IsAsked l next asked
+asked-later : (l : Channel) (w next : World) (asked : Subscribe) → Grows w next → IsAsked l w asked → IsAsked l next asked
 asked-later l w next asked g (inl h) = inl h
 asked-later l w next asked g (inr h) = inr (sent-later l w next asked g h)
 
-event-asked : (l : Line) (w : World) (e : Event) (asked : Subscribe) → IsAsked l w asked → IsAsked l w (asked_next l asked w e)
+event-asked : (l : Channel) (w : World) (e : Event) (asked : Subscribe) → IsAsked l w asked → IsAsked l w (asked_next l asked w e)
 event-asked l w e asked h =
     elim (has_first l (drop (length w.envelopes) (happens w e).envelopes)) as (λ b. IsAsked l w (cond b (unwrap_or (brings l w e) asked) asked)) [
       | false ↦ h
@@ -158,10 +158,10 @@ event-asked l w e asked h =
       ]) refl
     ]
 
-run-asked : (l : Line) (w : World) (events : List Event) (asked : Subscribe) → IsAsked l w asked → IsAsked l (run_from w events) (opened_by l asked w events)
+run-asked : (l : Channel) (w : World) (events : List Event) (asked : Subscribe) → IsAsked l w asked → IsAsked l (run_from w events) (opened_by l asked w events)
 run-asked l w [] asked h = h
 run-asked l w (e ∷ events) asked h = run-asked l (happens w e) events (asked_next l asked w e) (asked-later l w (happens w e) (asked_next l asked w e) (event-grows w e) (event-asked l w e asked h))
 
-pub was-asked : (plan : Plan) (events : List Event) (l : Line) → WasAsked plan events l
+pub was-asked : (plan : Plan) (events : List Event) (l : Channel) → WasAsked plan events l
 unfolding run
-was-asked plan events l = run-asked l (new_world plan) events (opening l) (inl refl)
+was-asked plan events l = run-asked l (new_world plan) events (first_subscription l) (inl refl)

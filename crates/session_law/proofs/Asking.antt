@@ -5,7 +5,7 @@ use Rattle.std.proofs.lemmas.List.{append-nil}
 use Rattle.std.proofs.lemmas.Option.{slice_get_within}
 use Rattle.dpc_model.specs.Lists.{nth, changed}
 use Rattle.dpc_model.specs.Inlets.{is_newer}
-use Rattle.dpc_model.specs.Sessions.{Sub, Shown, Answered, answered, first_batch, is_newer_than_kept}
+use Rattle.dpc_model.specs.Sessions.{Sub, Shown, Answered, answer_to, first_batch, is_newer_than_kept}
 use Rattle.dpc_model.specs.declared.tuples.Item.{Item}
 use Rattle.dpc_model.specs.declared.messages.Sess.{Sess}
 use Rattle.dpc_model.specs.declared.messages.Subscribe.{Subscribe}
@@ -68,7 +68,7 @@ module _ (plan : Plan) (s : StreamRef) (a : ℕ) (readers : List ℕ) (x : Shown
 
   -- the session of the reader that asked
   own-held : (h : Sess → List Item) (q : ℕ → Sess → Subscribe) (sub : Sub) → IsView plan s x → HoldsSession plan s x h (q k) sub →
-      HoldsSession plan s x (λ u. h u ++ mailed a readers (answer_mails (nth 0 readers k) (answered x sub asked).answer) k u) (opens a readers (answer_mails (nth 0 readers k) (answered x sub asked).answer) came q k) (answered x sub asked).after
+      HoldsSession plan s x (λ u. h u ++ mailed a readers (answer_mails (nth 0 readers k) (answer_to x sub asked).answer) k u) (opens a readers (answer_mails (nth 0 readers k) (answer_to x sub asked).answer) came q k) (answer_to x sub asked).after
   own-held h q sub view held =
       let mine : (a == a) ≡ true = eq-test a a refl in
       let here : (nth 0 readers k == nth 0 readers k) ≡ true = eq-test (nth 0 readers k) (nth 0 readers k) refl in
@@ -110,16 +110,16 @@ module _ (plan : Plan) (s : StreamRef) (a : ℕ) (readers : List ℕ) (x : Shown
 
   -- all sessions of the sender
   pub asked-held : (d : Sub) (subs : List Sub) (h : ℕ → Sess → List Item) (q : ℕ → Sess → Subscribe) → AreDistinct readers → length subs ≤ length readers → k < length readers → IsView plan s x → HeldBy plan s x h q subs →
-      let t = answered x (nth d subs k) asked in
+      let t = answer_to x (nth d subs k) asked in
       let ms = answer_mails (nth 0 readers k) t.answer in HeldBy plan s x (λ j u. h j u ++ mailed a readers ms j u) (opens a readers ms came q) (changed k (λ _. t.after) subs)
   asked-held d subs h q distinct few low view held j sub e =
-      (elim (k == j) as (λ b. (k == j) ≡ b → HoldsSession plan s x (λ u. h j u ++ mailed a readers (answer_mails (nth 0 readers k) (answered x (nth d subs k) asked).answer) j u) (opens a readers (answer_mails (nth 0 readers k) (answered x (nth d subs k) asked).answer) came q j) sub) [
+      (elim (k == j) as (λ b. (k == j) ≡ b → HoldsSession plan s x (λ u. h j u ++ mailed a readers (answer_mails (nth 0 readers k) (answer_to x (nth d subs k) asked).answer) j u) (opens a readers (answer_mails (nth 0 readers k) (answer_to x (nth d subs k) asked).answer) came q j) sub) [
         | true ↦ λ f. at-own (eq-of k j f)
         | false ↦ λ f. at-other f
       ]) refl
     where
       t : Answered
-      t = answered x (nth d subs k) asked
+      t = answer_to x (nth d subs k) asked
 
       ms : List Mail
       ms = answer_mails (nth 0 readers k) t.answer

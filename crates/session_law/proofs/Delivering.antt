@@ -3,10 +3,10 @@ use Rattle.std.proofs.Common.{◌≡◌, ℕ, ◌+◌, Bool, true, false, cond, 
 use Rattle.std.proofs.lemmas.List.{append-nil}
 use Rattle.dpc_model.specs.Lists.{nth, changed}
 use Rattle.dpc_model.specs.Inlets.{same_sess, take_batch}
-use Rattle.dpc_model.specs.Granting.{grants, granted, may_enter_by}
+use Rattle.dpc_model.specs.Granting.{grants, with_promise, may_enter_by}
 use Rattle.dpc_model.specs.Actors.{IsNode, role_of, replicas_of}
 use Rattle.dpc_model.specs.Ports.{Port, no_port, sender_at, on_truncated, all_truncated}
-use Rattle.dpc_model.specs.Sessions.{Sub, Shown, answered}
+use Rattle.dpc_model.specs.Sessions.{Sub, Shown, answer_to}
 use Rattle.dpc_model.specs.declared.batches.Taken.{Taken}
 use Rattle.dpc_model.specs.declared.batches.Taken.TheVariants.{Used, Old, Broken}
 use Rattle.dpc_model.specs.declared.tuples.Item.{Item}
@@ -19,9 +19,9 @@ use Rattle.dpc_model.specs.declared.plans.StreamRef.TheVariants.{Frag}
 use Rattle.node_model.specs.Mails.{Snap, Packet, Plain, SnapFor, mail, Stepped}
 use Rattle.dpc_model.specs.NodeStates.{is_up_failure}
 use Rattle.node_model.specs.Nodes.{Home, PlainNode, streams_of, own_readers, shown}
-use Rattle.node_model.specs.NodeSteps.{silently, with_port, took, stamped_by, on_batch, on_subscribe, on_truncation, recovering_again, on_upstream_beat, on_peer_beat, on_ack, on_ask, on_grant, entered, on_snap_ask, on_snap, adopted, reader_place, replica_number, on_message, on_packet, with_marks_ended, delivered}
+use Rattle.node_model.specs.NodeSteps.{silent_step, with_port, after_taking, with_stamps_of, on_batch, on_subscribe, on_truncation, after_loss, on_upstream_beat, on_peer_beat, on_ack, on_ask, on_grant, enter_step, on_snap_ask, on_snap, after_adoption, reader_place, replica_number, on_message, on_packet, with_marks_ended, packet_step}
 use Rattle.world_model.specs.Worlds.{Envelope, from}
-use Rattle.world_model.specs.SessionLaw.{Line}
+use Rattle.world_model.specs.SessionLaw.{Channel}
 use Rattle.world_model.specs.Safe.{IsTruePacket}
 use Rattle.world_model.specs.Orderly.{packet_way, carries_fitting}
 use Rattle.world_safety.specs.Plans.{IsPlace}
@@ -38,7 +38,7 @@ use Rattle.session_law.proofs.Noding.{Goes, SameRest, same-rest, shown-same, res
 
 -- ---- a batch
 
-stamped-rest : (home : Home) (answer : Taken) (n m : PlainNode) → SameRest n m → SameRest n (stamped_by home answer m)
+stamped-rest : (home : Home) (answer : Taken) (n m : PlainNode) → SameRest n m → SameRest n (with_stamps_of home answer m)
 stamped-rest home (Used items) n m h = record { recovering = h.recovering; cursor = h.cursor; closed = h.closed; subs = h.subs }
 stamped-rest home Old n m h = h
 stamped-rest home Broken n m h = h
@@ -51,22 +51,22 @@ batch-rest home u index items None n = same-rest n
 batch-rest home u index items (Some (p, r)) n =
     let port = nth no_port n.ports p in
     let t = take_batch port.inlet u index items in
-    elim (port.chosen == r) as (λ b. SameRest n (cond b (took home p t n) n)) [
+    elim (port.chosen == r) as (λ b. SameRest n (cond b (after_taking home p t n) n)) [
       | true ↦ stamped-rest home t.answer n (with_port p (λ q. record q { inlet = t.after }) n) (port-rest p (λ q. record q { inlet = t.after }) n)
       | false ↦ same-rest n
     ]
 
 -- ---- a truncation, a beat, an acknowledgement
 
-truncation-goes : (home : Home) (a most more : ℕ) (u : Sess) (base : ℕ) (o : Option (ℕ × ℕ)) (n : PlainNode) → IsPlace home → IsGood home most n → IsGood home more (on_truncation home u base o n) → Goes home a n (silently (on_truncation home u base o n))
-unfolding recovering_again
+truncation-goes : (home : Home) (a most more : ℕ) (u : Sess) (base : ℕ) (o : Option (ℕ × ℕ)) (n : PlainNode) → IsPlace home → IsGood home most n → IsGood home more (on_truncation home u base o n) → Goes home a n (silent_step (on_truncation home u base o n))
+unfolding after_loss
 truncation-goes home a most more u base None n place g k = silent-goes home a n [] refl
 truncation-goes home a most more u base (Some (p, r)) n place g k =
     let old = nth no_port n.ports p in
     let port = on_truncated r u base old in
     let m = with_port p (λ _. port) n in
-    (elim (same_sess u old.inlet.sess && all_truncated port) as (λ b. IsGood home more (cond b (recovering_again home m) m) → Goes home a n (silently (cond b (recovering_again home m) m))) [
-      | true ↦ λ h. shut-goes home a n (recovering_again home m) refl
+    (elim (same_sess u old.inlet.sess && all_truncated port) as (λ b. IsGood home more (cond b (after_loss home m) m) → Goes home a n (silent_step (cond b (after_loss home m) m))) [
+      | true ↦ λ h. shut-goes home a n (after_loss home m) refl
       | false ↦ λ h. rest-goes home a most more n m [] place g h (port-rest p (λ _. port) n) refl
     ]) k
 
@@ -87,29 +87,29 @@ ack-rest home i count (Some k) n = record { recovering = refl; cursor = refl; cl
 ask-goes : (home : Home) (a most : ℕ) (i ask : ℕ) (o : Option ℕ) (n : PlainNode) → IsPlace home → IsGood home most n → IsGood home most (on_ask home i ask o n).after → Goes home a n (on_ask home i ask o n)
 ask-goes home a most i ask None n place g k = silent-goes home a n [] refl
 ask-goes home a most i ask (Some r) n place g k =
-    let granting : Stepped PlainNode = record { after = record n { grants = granted n.grants r (i, ask) }; sends = mail (nth 0 (replicas_of home.plan home.frag) r) (message.Grant i ask) ∷ [] } in
-    (elim (grants n.grants n.state r (i, ask)) as (λ b. IsGood home most (cond b granting (silently n)).after → Goes home a n (cond b granting (silently n))) [
+    let granting : Stepped PlainNode = record { after = record n { grants = with_promise n.grants r (i, ask) }; sends = mail (nth 0 (replicas_of home.plan home.frag) r) (message.Grant i ask) ∷ [] } in
+    (elim (grants n.grants n.state r (i, ask)) as (λ b. IsGood home most (cond b granting (silent_step n)).after → Goes home a n (cond b granting (silent_step n))) [
       | true ↦ λ h. rest-goes home a most most n granting.after granting.sends place g h (record { recovering = refl; cursor = refl; closed = refl; subs = refl }) refl
       | false ↦ λ h. silent-goes home a n [] refl
     ]) k
 
 grant-goes : (home : Home) (a i ask : ℕ) (n : PlainNode) → IsServer home n → Goes home a n (on_grant home i ask n)
-grant-goes home a i ask n server = elim (is_up_failure n.state && may_enter_by n.grants (i, ask)) as (λ b. Goes home a n (cond b (entered home n) (silently n))) [
+grant-goes home a i ask n server = elim (is_up_failure n.state && may_enter_by n.grants (i, ask)) as (λ b. Goes home a n (cond b (enter_step home n) (silent_step n))) [
   | true ↦ entered-goes home a n server
   | false ↦ silent-goes home a n [] refl
 ]
 
-snap-goes : (home : Home) (a i try : ℕ) (s : Snap) (n : PlainNode) → Goes home a n (silently (on_snap home i try s n))
-unfolding adopted
-snap-goes home a i try s n = elim (n.recovering && i == n.grants.inc && try == n.tries) as (λ b. Goes home a n (silently (cond b (adopted home s n) n))) [
-  | true ↦ shut-goes home a n (adopted home s n) refl
+snap-goes : (home : Home) (a i try : ℕ) (s : Snap) (n : PlainNode) → Goes home a n (silent_step (on_snap home i try s n))
+unfolding after_adoption
+snap-goes home a i try s n = elim (n.recovering && i == n.grants.inc && try == n.tries) as (λ b. Goes home a n (silent_step (cond b (after_adoption home s n) n))) [
+  | true ↦ shut-goes home a n (after_adoption home s n) refl
   | false ↦ silent-goes home a n [] refl
 ]
 
 -- ---- a message that is no subscription
 
 -- it opens no session
-goes-opens : (home : Home) (a : ℕ) (e : Envelope) (n : PlainNode) (s : Stepped PlainNode) → ((l : Line) → packet_asks l e.packet ≡ None) → Goes home a n s → (h : ℕ → Sess → List Item) (q : ℕ → Sess → Subscribe) → HeldBy home.plan (Frag home.frag) (shown home n) h q n.subs →
+goes-opens : (home : Home) (a : ℕ) (e : Envelope) (n : PlainNode) (s : Stepped PlainNode) → ((l : Channel) → packet_asks l e.packet ≡ None) → Goes home a n s → (h : ℕ → Sess → List Item) (q : ℕ → Sess → Subscribe) → HeldBy home.plan (Frag home.frag) (shown home n) h q n.subs →
     HeldBy home.plan (Frag home.frag) (shown home s.after) (λ k u. h k u ++ mailed a (own_readers home) s.sends k u) (opens a (own_readers home) s.sends e q) s.after.subs
 goes-opens home a e n s none goes h q held k sub at =
     held-same home.plan (Frag home.frag) (shown home s.after) (λ u. h k u ++ mailed a (own_readers home) s.sends k u) (λ u. h k u ++ mailed a (own_readers home) s.sends k u) (q k) (opens a (own_readers home) s.sends e q k) sub
@@ -119,7 +119,7 @@ goes-opens home a e n s none goes h q held k sub at =
     by-line d true = refl
     by-line d false = refl
 
-    by-none : (d : Subscribe) (l : Line) (b : Bool) → cond b (unwrap_or (asks_for l e) d) d ≡ d
+    by-none : (d : Subscribe) (l : Channel) (b : Bool) → cond b (unwrap_or (asks_for l e) d) d ≡ d
     by-none d l true = rw (none l) (by-line d (e.sender == l.reader && e.to == l.sender))
     by-none d l false = refl
 
@@ -136,7 +136,7 @@ subscribe-takes home a most sender asked n place distinct g = by-recovering n.re
     e : Envelope
     e = record { sender = sender; to = a; packet = Plain (message.Subscribe asked) }
 
-    quiet : Takes home a (record { sender = sender; to = a; packet = Plain (message.Subscribe asked) }) n (silently n)
+    quiet : Takes home a (record { sender = sender; to = a; packet = Plain (message.Subscribe asked) }) n (silent_step n)
     quiet h q held = silent-goes home a n [] refl h q held
 
     at-place : n.recovering ≡ false → (o : Option ℕ) → reader_place home sender ≡ o → Takes home a (record { sender = sender; to = a; packet = Plain (message.Subscribe asked) }) n (on_subscribe home asked o n)
@@ -144,7 +144,7 @@ subscribe-takes home a most sender asked n place distinct g = by-recovering n.re
     at-place up (Some k) f h q held =
         let readers = own_readers home in
         let d : Sub = record { kept = None; is_open = false; batches = 0 } in
-        let t = answered (shown home n) (nth d n.subs k) asked in
+        let t = answer_to (shown home n) (nth d n.subs k) asked in
         let subs = changed k (λ _. t.after) n.subs in
         let low = place-below (λ b. sender == b) readers k f in
         let here : nth 0 readers k ≡ sender = place-nth sender readers k f in
@@ -153,7 +153,7 @@ subscribe-takes home a most sender asked n place distinct g = by-recovering n.re
         subst (λ (y : Shown). HeldBy home.plan (Frag home.frag) y (λ j u. h j u ++ mailed a readers (on_subscribe home asked (Some k) n).sends j u) (opens a readers (on_subscribe home asked (Some k) n).sends (record { sender = sender; to = a; packet = Plain (message.Subscribe asked) }) q) subs) (sym (shown-subs home n subs))
         (subst (λ (b : ℕ). HeldBy home.plan (Frag home.frag) (shown home n) (λ j u. h j u ++ mailed a readers (on_subscribe home asked (Some k) n).sends j u) (opens a readers (on_subscribe home asked (Some k) n).sends (record { sender = b; to = a; packet = Plain (message.Subscribe asked) }) q) subs) here taken)
 
-    by-recovering : (b : Bool) → n.recovering ≡ b → Takes home a (record { sender = sender; to = a; packet = Plain (message.Subscribe asked) }) n (cond b (silently n) (on_subscribe home asked (reader_place home sender) n))
+    by-recovering : (b : Bool) → n.recovering ≡ b → Takes home a (record { sender = sender; to = a; packet = Plain (message.Subscribe asked) }) n (cond b (silent_step n) (on_subscribe home asked (reader_place home sender) n))
     by-recovering true f = quiet
     by-recovering false f = at-place f (reader_place home sender) refl
 
@@ -175,7 +175,7 @@ message-takes home a most sender (message.Beat b) n actor distinct way fits trut
 message-takes home a most sender (message.Ack i count) n actor distinct way fits truth g =
     goes-opens home a (record { sender = sender; to = a; packet = Plain (message.Ack i count) }) n (on_message home sender (message.Ack i count) n) (λ l. refl) (by-recovering n.recovering refl)
   where
-    by-recovering : (b : Bool) → n.recovering ≡ b → Goes home a n (silently (cond b n (on_ack home i count (reader_place home sender) n)))
+    by-recovering : (b : Bool) → n.recovering ≡ b → Goes home a n (silent_step (cond b n (on_ack home i count (reader_place home sender) n)))
     by-recovering true f = silent-goes home a n [] refl
     by-recovering false f = rest-goes home a most most n (on_ack home i count (reader_place home sender) n) [] actor.place g (on_ack-good home most i count (reader_place home sender) n f g) (ack-rest home i count (reader_place home sender) n) refl
 message-takes home a most sender (message.Ask i ask) n actor distinct way fits truth g =
@@ -184,7 +184,7 @@ message-takes home a most sender (message.Grant i ask) n actor distinct way fits
     goes-opens home a (record { sender = sender; to = a; packet = Plain (message.Grant i ask) }) n (on_message home sender (message.Grant i ask) n) (λ l. refl) (grant-goes home a i ask n (server-of home most n distinct g))
 message-takes home a most sender (message.SnapAsk i try) n actor distinct way fits truth g =
     goes-opens home a (record { sender = sender; to = a; packet = Plain (message.SnapAsk i try) }) n (on_message home sender (message.SnapAsk i try) n) (λ l. refl)
-    (elim n.recovering as (λ b. Goes home a n (cond b (silently n) (on_snap_ask home sender i try n))) [
+    (elim n.recovering as (λ b. Goes home a n (cond b (silent_step n) (on_snap_ask home sender i try n))) [
       | true ↦ silent-goes home a n [] refl
       | false ↦ silent-goes home a n (on_snap_ask home sender i try n).sends refl
     ])
@@ -197,8 +197,8 @@ packet-takes home a most sender (SnapFor i try s) n actor distinct way fits trut
 
 pub delivered-takes : (home : Home) (a most sender : ℕ) (packet : Packet) (n : PlainNode) → IsActor home a → AreDistinct (own_readers home) → packet_way home.plan (role_of home.plan sender) (IsNode home.frag home.replica) packet ≡ true →
     carries_fitting home.plan (role_of home.plan sender) packet ≡ true → IsTruePacket home.plan (role_of home.plan sender) packet → IsGood home most n →
-    Takes home a (record { sender = sender; to = a; packet = packet }) n (delivered home sender packet n)
-unfolding delivered
+    Takes home a (record { sender = sender; to = a; packet = packet }) n (packet_step home sender packet n)
+unfolding packet_step
 delivered-takes home a most sender packet n actor distinct way fits truth g h q held =
     let m = with_marks_ended n in
     let marked : HeldBy home.plan (Frag home.frag) (shown home m) h q m.subs = by-recovering (recovers-or n) in

@@ -14,11 +14,11 @@ use Rattle.dpc_model.specs.declared.plans.Plan.{Plan}
 use Rattle.dpc_model.specs.declared.plans.StreamRef.TheVariants.{Source, Frag}
 use Rattle.node_model.specs.Nodes.{Home, PlainNode, own_readers, shown, restarted_node}
 use Rattle.node_model.specs.Mails.{Stepped}
-use Rattle.node_model.specs.NodeSteps.{delivered, milled, ticked_at}
-use Rattle.node_model.specs.Sources.{SourceState, source_readers, source_shown, source_emits, source_releases, source_delivered, source_ticked}
-use Rattle.node_model.specs.Clients.{client_delivered, client_ticked, ClientState}
+use Rattle.node_model.specs.NodeSteps.{packet_step, mill_step, tick_step}
+use Rattle.node_model.specs.Sources.{SourceState, source_readers, source_shown, source_emits, source_releases, source_packet_step, source_tick_step}
+use Rattle.node_model.specs.Clients.{client_after_packet, client_tick_step, ClientState}
 use Rattle.world_model.specs.Worlds.{World, Envelope, Slot, home_of, node_place, from, slot_of, source_at, client_at, node_stepped, source_stepped, client_stepped, is_release_time, is_clock, emits, releases, link_up, heals_link, crashes, restart_slot, restarts, node_takes, taken_by, can_come, comes, node_ticks, ticks, can_mill, node_mills, mills, happens, run_from}
-use Rattle.world_model.specs.SessionLaw.{Line, carried, goes_down, sent_after}
+use Rattle.world_model.specs.SessionLaw.{Channel, carried, goes_down, sent_after}
 use Rattle.world_model.specs.Safe.{IsTruePacket}
 use Rattle.world_model.specs.Orderly.{is_fitting, packet_way, carries_fitting}
 use Rattle.world_safety.proofs.Tests.{both, le-of, eq-of}
@@ -34,7 +34,7 @@ use Rattle.session_law.proofs.Sources.{SourceGoes, emits-goes, releases-goes, so
 use Rattle.session_law.proofs.Worlds.{no_slot, HeldNode, HeldAt, AreHeld, past_next, opened_next, AreHeldNext, untouched, quiet-held, void-held, other-held, other-slot, stepped-slot, StepTakes, node-held, SourceStepTakes, source-held}
 
 -- nothing is brought
-abbrev nothing : Line → Option Subscribe
+abbrev nothing : Channel → Option Subscribe
 nothing l = None
 
 either-same : {X : Type 0} (b : Bool) (x : X) → cond b x x ≡ x
@@ -53,7 +53,7 @@ source-step plan a s x t goes h q held k sub e =
 
 -- ---- emit and release
 
-emit-held : (w : World) (most a t : ℕ) (role : Role) (h : Line → List Item) (q : Line → Subscribe) → role_of w.plan a ≡ role → IsFine w most → AreHeld w h q → AreHeldNext w (emits w a t role) nothing h q
+emit-held : (w : World) (most a t : ℕ) (role : Role) (h : Channel → List Item) (q : Channel → Subscribe) → role_of w.plan a ≡ role → IsFine w most → AreHeld w h q → AreHeldNext w (emits w a t role) nothing h q
 emit-held w most a t (IsSource s) h q e fine held =
     elim (is_release_time w.plan t) as (λ b. AreHeldNext w (cond b (source_stepped a (source_emits w.plan s t (source_at w s)) w) w) nothing h q) [
       | true ↦ source-held w a s (source_emits w.plan s t (source_at w s)) nothing h q e
@@ -64,7 +64,7 @@ emit-held w most a t (IsNode f r) h q e fine held = void-held w nothing h q held
 emit-held w most a t (IsClient c) h q e fine held = void-held w nothing h q held
 emit-held w most a t Nobody h q e fine held = void-held w nothing h q held
 
-release-held : (w : World) (most a t : ℕ) (role : Role) (h : Line → List Item) (q : Line → Subscribe) → role_of w.plan a ≡ role → IsFine w most → AreHeld w h q → AreHeldNext w (releases w a t role) nothing h q
+release-held : (w : World) (most a t : ℕ) (role : Role) (h : Channel → List Item) (q : Channel → Subscribe) → role_of w.plan a ≡ role → IsFine w most → AreHeld w h q → AreHeldNext w (releases w a t role) nothing h q
 release-held w most a t (IsSource s) h q e fine held =
     (elim (is_release_time w.plan t) as (λ b. is_release_time w.plan t ≡ b → AreHeldNext w (cond b (source_stepped a (source_releases w.plan s t (source_at w s)) w) w) nothing h q) [
       | true ↦ λ f. source-held w a s (source_releases w.plan s t (source_at w s)) nothing h q e
@@ -87,13 +87,13 @@ gone true xs h = refl
 gone false xs h = h refl
 
 -- nothing is sent, and what was sent before is gone
-past-gone : (l : Line) (items : List Item) (w next : World) → next.envelopes ≡ w.envelopes → (goes_down l w next ≡ false → items ≡ []) → past_next l items w next ≡ []
+past-gone : (l : Channel) (items : List Item) (w next : World) → next.envelopes ≡ w.envelopes → (goes_down l w next ≡ false → items ≡ []) → past_next l items w next ≡ []
 past-gone l items w next same h =
     ap (λ (es : List Envelope). cond (goes_down l w next) [] items ++ carried l es) (ap (λ (es : List Envelope). drop (length w.envelopes) es) same ∙ drop-whole w.envelopes)
     ∙ append-nil (cond (goes_down l w next) [] items) ∙ gone (goes_down l w next) items h
 
 -- the slots of one node are changed
-slots-held : (w : World) (b f r : ℕ) (change : Slot → Slot) (h : Line → List Item) (q : Line → Subscribe) → role_of w.plan b ≡ IsNode f r → AreHeld w h q →
+slots-held : (w : World) (b f r : ℕ) (change : Slot → Slot) (h : Channel → List Item) (q : Channel → Subscribe) → role_of w.plan b ≡ IsNode f r → AreHeld w h q →
     let next = record w { nodes = changed (node_place w.plan b) change w.nodes } in
     HeldNode (home_of w.plan (f, r)) b (λ l. past_next l (h l) w next) (λ l. opened_next l None (q l) w next) (nth no_slot (changed (node_place w.plan b) change w.nodes) (node_place w.plan b)).node → AreHeldNext w next nothing h q
 slots-held w b f r change h q role held own a =
@@ -105,12 +105,12 @@ slots-held w b f r change h q role held own a =
       | false ↦ λ e. untouched w w w.sources nodes nothing h q [] a (sym (append-nil w.envelopes)) (λ to u. refl) (λ to u. refl) (λ s g. refl) (λ g p k. other-slot w.plan a b g p f r change w.nodes e role k) held
     ]) refl
 
-crash-own : (w : World) (most b f r : ℕ) (h : Line → List Item) (q : Line → Subscribe) → IsFine w most → role_of w.plan b ≡ IsNode f r → AreHeld w h q →
+crash-own : (w : World) (most b f r : ℕ) (h : Channel → List Item) (q : Channel → Subscribe) → IsFine w most → role_of w.plan b ≡ IsNode f r → AreHeld w h q →
     let next = record w { nodes = changed (node_place w.plan b) (λ (slot : Slot). record slot { node = None }) w.nodes } in
     HeldNode (home_of w.plan (f, r)) b (λ l. past_next l (h l) w next) (λ l. opened_next l None (q l) w next) None
 crash-own w most b f r h q fine role held to u =
     let next = record w { nodes = changed (node_place w.plan b) (λ (slot : Slot). record slot { node = None }) w.nodes } in
-    let l : Line = record { sender = b; reader = to; sess = u } in
+    let l : Channel = record { sender = b; reader = to; sess = u } in
     past-gone l (h l) w next refl (by-node (slot_of w b).node refl)
   where
     by-node : (x : Option PlainNode) → (slot_of w b).node ≡ x → goes_down (record { sender = b; reader = to; sess = u }) w (record w { nodes = changed (node_place w.plan b) (λ (slot : Slot). record slot { node = None }) w.nodes }) ≡ false → h (record { sender = b; reader = to; sess = u }) ≡ []
@@ -122,7 +122,7 @@ crash-own w most b f r h q fine role held to u =
         let clash : (is_some (slot_of w b).node && not (is_some (nth no_slot (changed (node_place w.plan b) (λ (slot : Slot). record slot { node = None }) w.nodes) (node_place w.plan b)).node)) ≡ false = rw role at e in
         let wrong : true ≡ false = rw (up, slot) at clash in cc
 
-crash-held : (w : World) (most b : ℕ) (role : Role) (h : Line → List Item) (q : Line → Subscribe) → role_of w.plan b ≡ role → IsFine w most → AreHeld w h q → AreHeldNext w (crashes w b role) nothing h q
+crash-held : (w : World) (most b : ℕ) (role : Role) (h : Channel → List Item) (q : Channel → Subscribe) → role_of w.plan b ≡ role → IsFine w most → AreHeld w h q → AreHeldNext w (crashes w b role) nothing h q
 crash-held w most b (IsNode f r) h q e fine held =
     let change = λ (slot : Slot). record slot { node = None } in
     let next = record w { nodes = changed (node_place w.plan b) change w.nodes } in
@@ -133,7 +133,7 @@ crash-held w most b (IsClient c) h q e fine held = void-held w nothing h q held
 crash-held w most b Nobody h q e fine held = void-held w nothing h q held
 
 -- a node that was restarted has no session
-restarted-held : (home : Home) (a i : ℕ) (h : Line → List Item) (q : Line → Subscribe) → ((to : ℕ) (u : Sess) → h (record { sender = a; reader = to; sess = u }) ≡ []) → HeldNode home a h q (Some (restarted_node home i))
+restarted-held : (home : Home) (a i : ℕ) (h : Channel → List Item) (q : Channel → Subscribe) → ((to : ℕ) (u : Sess) → h (record { sender = a; reader = to; sess = u }) ≡ []) → HeldNode home a h q (Some (restarted_node home i))
 unfolding restarted_node
 restarted-held home a i h q none k sub e =
     let c = mapped (λ (x : ℕ). no_session) (own_readers home) k sub e in
@@ -146,7 +146,7 @@ restart-by home i slot o e = ap (λ (x : Option PlainNode). elim x [ Some n ↦ 
 restart-none : (home : Home) (i : ℕ) (slot : Slot) (b : Bool) → slot.node ≡ None → nat_lt slot.last_inc i ≡ b → restart_slot home i slot ≡ cond b (record { last_inc = i; node = Some (restarted_node home i) }) slot
 restart-none home i slot b e f = restart-by home i slot None e ∙ ap (λ (c : Bool). cond c (record { last_inc = i; node = Some (restarted_node home i) }) slot) f
 
-restart-held : (w : World) (most b i : ℕ) (role : Role) (h : Line → List Item) (q : Line → Subscribe) → role_of w.plan b ≡ role → IsFine w most → AreHeld w h q → AreHeldNext w (restarts w b i role) nothing h q
+restart-held : (w : World) (most b i : ℕ) (role : Role) (h : Channel → List Item) (q : Channel → Subscribe) → role_of w.plan b ≡ role → IsFine w most → AreHeld w h q → AreHeldNext w (restarts w b i role) nothing h q
 restart-held w most b i (IsNode f r) h q e fine held = by-node (slot_of w b).node refl
   where
     same-slot : restart_slot (home_of w.plan (f, r)) i (slot_of w b) ≡ slot_of w b → AreHeldNext w (restarts w b i (IsNode f r)) nothing h q
@@ -183,10 +183,10 @@ restart-held w most b i Nobody h q e fine held = void-held w nothing h q held
 
 -- ---- an envelope comes
 
-taken-held : (w : World) (most : ℕ) (e : Envelope) (role : Role) (h : Line → List Item) (q : Line → Subscribe) → role_of w.plan e.to ≡ role → IsTruePacket w.plan (role_of w.plan e.sender) e.packet → is_fitting w.plan e ≡ true → IsFine w most →
+taken-held : (w : World) (most : ℕ) (e : Envelope) (role : Role) (h : Channel → List Item) (q : Channel → Subscribe) → role_of w.plan e.to ≡ role → IsTruePacket w.plan (role_of w.plan e.sender) e.packet → is_fitting w.plan e ≡ true → IsFine w most →
     AreHeld w h q → AreHeldNext w (taken_by w e role) (λ l. asks_for l e) h q
 taken-held w most e (IsSource s) h q role truth fits fine held =
-    source-held w e.to s (source_delivered w.plan s e.sender e.packet (source_at w s)) (λ l. asks_for l e) h q role
+    source-held w e.to s (source_packet_step w.plan s e.sender e.packet (source_at w s)) (λ l. asks_for l e) h q role
     (source_delivered-takes w.plan e.to s e.sender e.packet (source_at w s) fine.checked.checked (source-here w most s fine)) held
 taken-held w most e (IsNode f r) h q role truth fits fine held = by-node (slot_of w e.to).node refl
   where
@@ -195,12 +195,12 @@ taken-held w most e (IsNode f r) h q role truth fits fine held = by-node (slot_o
     by-node (Some n) up =
         let home = home_of w.plan (f, r) in
         let p = both (packet_way w.plan (role_of w.plan e.sender) (role_of w.plan e.to) e.packet) (carries_fitting w.plan (role_of w.plan e.sender) e.packet) fits in
-        node-held w most e.to f r n (delivered home e.sender e.packet n) (λ l. asks_for l e) h q fine role up
+        node-held w most e.to f r n (packet_step home e.sender e.packet n) (λ l. asks_for l e) h q fine role up
         (delivered-takes home e.to most e.sender e.packet n (actor-at w.plan e.to f r fine.checked role) (readers-distinct w.plan (Frag f)) (rw role at p.0) p.1 truth (node-here w most e.to f r n fine role up)) held
-taken-held w most e (IsClient c) h q role truth fits fine held = quiet-held w (record w { clients = changed c (client_delivered w.plan c e.sender e.packet) w.clients }) (λ l. asks_for l e) h q refl held
+taken-held w most e (IsClient c) h q role truth fits fine held = quiet-held w (record w { clients = changed c (client_after_packet w.plan c e.sender e.packet) w.clients }) (λ l. asks_for l e) h q refl held
 taken-held w most e Nobody h q role truth fits fine held = void-held w (λ l. asks_for l e) h q held
 
-deliver-held : (w : World) (most k : ℕ) (o : Option Envelope) (h : Line → List Item) (q : Line → Subscribe) → slice_get w.envelopes k ≡ o → IsFine w most → AreHeld w h q → AreHeldNext w (comes w o) (λ l. elim o [ None ↦ None | Some e ↦ asks_for l e ]) h q
+deliver-held : (w : World) (most k : ℕ) (o : Option Envelope) (h : Channel → List Item) (q : Channel → Subscribe) → slice_get w.envelopes k ≡ o → IsFine w most → AreHeld w h q → AreHeldNext w (comes w o) (λ l. elim o [ None ↦ None | Some e ↦ asks_for l e ]) h q
 deliver-held w most k None h q f fine held = void-held w nothing h q held
 deliver-held w most k (Some e) h q f fine held =
     elim (can_come w e) as (λ b. AreHeldNext w (cond b (taken_by w e (role_of w.plan e.to)) w) (λ l. asks_for l e) h q) [
@@ -211,7 +211,7 @@ deliver-held w most k (Some e) h q f fine held =
 -- ---- ticks and milling
 
 -- a client's step
-client-held : (w : World) (b c : ℕ) (t : Stepped ClientState) (h : Line → List Item) (q : Line → Subscribe) → role_of w.plan b ≡ IsClient c → AreHeld w h q → AreHeldNext w (client_stepped b c t w) nothing h q
+client-held : (w : World) (b c : ℕ) (t : Stepped ClientState) (h : Channel → List Item) (q : Channel → Subscribe) → role_of w.plan b ≡ IsClient c → AreHeld w h q → AreHeldNext w (client_stepped b c t w) nothing h q
 client-held w b c t h q role held a =
     let next = client_stepped b c t w in
     (elim (a == b) as (λ d. (a == b) ≡ d → HeldAt w.plan w.sources w.nodes (λ l. past_next l (h l) w next) (λ l. opened_next l None (q l) w next) a (role_of w.plan a)) [
@@ -220,10 +220,10 @@ client-held w b c t h q role held a =
       | false ↦ λ e. other-held w next w.sources w.nodes nothing h q b t.sends a e refl (λ s g. refl) (λ f r g. refl) held
     ]) refl
 
-tick-held : (w : World) (most a now : ℕ) (role : Role) (h : Line → List Item) (q : Line → Subscribe) → role_of w.plan a ≡ role → IsFine w most → AreHeld w h q → AreHeldNext w (ticks w a now role) nothing h q
+tick-held : (w : World) (most a now : ℕ) (role : Role) (h : Channel → List Item) (q : Channel → Subscribe) → role_of w.plan a ≡ role → IsFine w most → AreHeld w h q → AreHeldNext w (ticks w a now role) nothing h q
 tick-held w most a now (IsSource s) h q e fine held =
-    elim (is_clock (source_at w s).clock now) as (λ b. AreHeldNext w (cond b (source_stepped a (source_ticked w.plan s now (source_at w s)) w) w) nothing h q) [
-      | true ↦ source-held w a s (source_ticked w.plan s now (source_at w s)) nothing h q e (source-step w.plan a s (source_at w s) (source_ticked w.plan s now (source_at w s)) (source_ticked-goes w.plan a s now (source_at w s))) held
+    elim (is_clock (source_at w s).clock now) as (λ b. AreHeldNext w (cond b (source_stepped a (source_tick_step w.plan s now (source_at w s)) w) w) nothing h q) [
+      | true ↦ source-held w a s (source_tick_step w.plan s now (source_at w s)) nothing h q e (source-step w.plan a s (source_at w s) (source_tick_step w.plan s now (source_at w s)) (source_ticked-goes w.plan a s now (source_at w s))) held
       | false ↦ void-held w nothing h q held
     ]
 tick-held w most a now (IsNode f r) h q e fine held = by-node (slot_of w a).node refl
@@ -232,31 +232,31 @@ tick-held w most a now (IsNode f r) h q e fine held = by-node (slot_of w a).node
     by-node None up = void-held w nothing h q held
     by-node (Some n) up =
         let home = home_of w.plan (f, r) in
-        elim (is_clock n.clock now) as (λ b. AreHeldNext w (cond b (node_stepped a (ticked_at home now n) w) w) nothing h q) [
-          | true ↦ node-held w most a f r n (ticked_at home now n) nothing h q fine e up
-              (goes-step home a n (ticked_at home now n) (ticked-goes home a most now n (actor-at w.plan a f r fine.checked e) (readers-distinct w.plan (Frag f)) (node-here w most a f r n fine e up))) held
+        elim (is_clock n.clock now) as (λ b. AreHeldNext w (cond b (node_stepped a (tick_step home now n) w) w) nothing h q) [
+          | true ↦ node-held w most a f r n (tick_step home now n) nothing h q fine e up
+              (goes-step home a n (tick_step home now n) (ticked-goes home a most now n (actor-at w.plan a f r fine.checked e) (readers-distinct w.plan (Frag f)) (node-here w most a f r n fine e up))) held
           | false ↦ void-held w nothing h q held
         ]
 tick-held w most a now (IsClient c) h q e fine held =
-    elim (is_clock (client_at w c).clock now) as (λ b. AreHeldNext w (cond b (client_stepped a c (client_ticked w.plan c now (client_at w c)) w) w) nothing h q) [
-      | true ↦ client-held w a c (client_ticked w.plan c now (client_at w c)) h q e held
+    elim (is_clock (client_at w c).clock now) as (λ b. AreHeldNext w (cond b (client_stepped a c (client_tick_step w.plan c now (client_at w c)) w) w) nothing h q) [
+      | true ↦ client-held w a c (client_tick_step w.plan c now (client_at w c)) h q e held
       | false ↦ void-held w nothing h q held
     ]
 tick-held w most a now Nobody h q e fine held = void-held w nothing h q held
 
-mill-held : (w : World) (most a r : ℕ) (role : Role) (h : Line → List Item) (q : Line → Subscribe) → role_of w.plan a ≡ role → IsFine w most → AreHeld w h q → AreHeldNext w (mills w a r role) nothing h q
+mill-held : (w : World) (most a r : ℕ) (role : Role) (h : Channel → List Item) (q : Channel → Subscribe) → role_of w.plan a ≡ role → IsFine w most → AreHeld w h q → AreHeldNext w (mills w a r role) nothing h q
 mill-held w most a r (IsNode f p) h q e fine held = by-node (slot_of w a).node refl
   where
     by-node : (o : Option PlainNode) → (slot_of w a).node ≡ o → AreHeldNext w (node_mills w a r (home_of w.plan (f, p)) o) nothing h q
     by-node None up = void-held w nothing h q held
     by-node (Some n) up =
         let home = home_of w.plan (f, p) in
-        (elim (can_mill home r n) as (λ b. can_mill home r n ≡ b → AreHeldNext w (cond b (node_stepped a (milled home r n) w) w) nothing h q) [
+        (elim (can_mill home r n) as (λ b. can_mill home r n ≡ b → AreHeldNext w (cond b (node_stepped a (mill_step home r n) w) w) nothing h q) [
           | true ↦ λ can.
               let m = may-mill home r n can in
               let g = node-here w most a f p n fine e up in
-              node-held w most a f p n (milled home r n) nothing h q fine e up
-              (goes-step home a n (milled home r n) (milled-goes home a most r n (actor-at w.plan a f p fine.checked e).place (server-of home most n (readers-distinct w.plan (Frag f)) g) m.up m.none m.few g)) held
+              node-held w most a f p n (mill_step home r n) nothing h q fine e up
+              (goes-step home a n (mill_step home r n) (milled-goes home a most r n (actor-at w.plan a f p fine.checked e).place (server-of home most n (readers-distinct w.plan (Frag f)) g) m.up m.none m.few g)) held
           | false ↦ λ can. void-held w nothing h q held
         ]) refl
 mill-held w most a r (IsSource s) h q e fine held = void-held w nothing h q held
@@ -265,7 +265,7 @@ mill-held w most a r Nobody h q e fine held = void-held w nothing h q held
 
 -- ---- any event
 
-pub event-held : (w : World) (most : ℕ) (e : Event) (h : Line → List Item) (q : Line → Subscribe) → IsFine w most → AreHeld w h q → AreHeldNext w (happens w e) (λ l. brings l w e) h q
+pub event-held : (w : World) (most : ℕ) (e : Event) (h : Channel → List Item) (q : Channel → Subscribe) → IsFine w most → AreHeld w h q → AreHeldNext w (happens w e) (λ l. brings l w e) h q
 event-held w most (Phase p) h q fine held = void-held w nothing h q held
 event-held w most (Emit a t) h q fine held = emit-held w most a t (role_of w.plan a) h q refl fine held
 event-held w most (Release a t) h q fine held = release-held w most a t (role_of w.plan a) h q refl fine held
@@ -282,7 +282,7 @@ event-held w most (Mill a r) h q fine held = mill-held w most a r (role_of w.pla
 
 -- ---- a run
 
-pub run-held : (w : World) (most : ℕ) (events : List Event) (h : Line → List Item) (q : Line → Subscribe) → IsFine w most → AreHeld w h q →
+pub run-held : (w : World) (most : ℕ) (events : List Event) (h : Channel → List Item) (q : Channel → Subscribe) → IsFine w most → AreHeld w h q →
     AreHeld (run_from w events) (λ l. sent_after l (h l) w events) (λ l. opened_by l (q l) w events)
 run-held w most [] h q fine held = held
 run-held w most (e ∷ events) h q fine held =

@@ -12,14 +12,14 @@ use Rattle.dpc_model.specs.declared.messages.Message.TheVariants as message
 use Rattle.dpc_model.specs.declared.plans.Plan.{Plan}
 use Rattle.node_model.specs.Mails.{Mail, mails, Stepped}
 use Rattle.node_model.specs.Nodes.{PlainNode, out_tentative}
-use Rattle.node_model.specs.NodeSteps.{delivered, milled, ticked_at}
-use Rattle.node_model.specs.Sources.{source_emits, source_releases, source_delivered, source_ticked, SourceState}
-use Rattle.node_model.specs.Clients.{ClientState, client_stream, client_ticked}
-use Rattle.dpc_model.specs.Ports.{marks_ended, port_ticked, subscriptions, acks_to}
+use Rattle.node_model.specs.NodeSteps.{packet_step, mill_step, tick_step}
+use Rattle.node_model.specs.Sources.{source_emits, source_releases, source_packet_step, source_tick_step, SourceState}
+use Rattle.node_model.specs.Clients.{ClientState, client_stream, client_tick_step}
+use Rattle.dpc_model.specs.Ports.{without_ended_marks, port_after_tick, subscriptions, acks_to}
 use Rattle.dpc_model.specs.Actors.{senders_of}
 use Rattle.world_model.specs.Worlds.{World, Envelope, Slot, home_of, from, slot_of, source_at, client_at, node_stepped, source_stepped, client_stepped, is_release_time, is_clock, emits, releases, link_up, crashes, restarts, node_takes, taken_by, can_come, comes, node_ticks, ticks, can_mill, node_mills, mills, happens, new_world}
 use Rattle.world_model.specs.Safe.{EachStep}
-use Rattle.world_model.specs.Orderly.{items_of}
+use Rattle.world_model.specs.Orderly.{items_carried}
 use Rattle.world_safety.specs.Plans.{IsCheckedPlan}
 use Rattle.world_safety.proofs.Tests.{all-append}
 use Rattle.world_safety.proofs.Happening.{IsFine, happens-next}
@@ -33,21 +33,21 @@ use Rattle.session_law.proofs.Standing.{AreStanding, Stands, bare-standing, tick
 
 -- what a world sent anew stands
 abbrev AllStand : World → World → Type 0
-AllStand w next = All (λ (x : Envelope). TentativesStand (tentative_output next x.sender (role_of next.plan x.sender)) (items_of x.packet)) (drop (length w.envelopes) next.envelopes)
+AllStand w next = All (λ (x : Envelope). TentativesStand (tentative_output next x.sender (role_of next.plan x.sender)) (items_carried x.packet)) (drop (length w.envelopes) next.envelopes)
 
 none-sent : (w next : World) → next.envelopes ≡ w.envelopes → AllStand w next
 none-sent w next same =
-    subst (λ (es : List Envelope). All (λ (x : Envelope). TentativesStand (tentative_output next x.sender (role_of next.plan x.sender)) (items_of x.packet)) es)
-    (sym (ap (λ (es : List Envelope). drop (length w.envelopes) es) same ∙ drop-whole w.envelopes)) (All-nil (λ (x : Envelope). TentativesStand (tentative_output next x.sender (role_of next.plan x.sender)) (items_of x.packet)))
+    subst (λ (es : List Envelope). All (λ (x : Envelope). TentativesStand (tentative_output next x.sender (role_of next.plan x.sender)) (items_carried x.packet)) es)
+    (sym (ap (λ (es : List Envelope). drop (length w.envelopes) es) same ∙ drop-whole w.envelopes)) (All-nil (λ (x : Envelope). TentativesStand (tentative_output next x.sender (role_of next.plan x.sender)) (items_carried x.packet)))
 
 mails-sent : (w next : World) (a : ℕ) (ms : List Mail) → next.envelopes ≡ w.envelopes ++ map (from a) ms → AreStanding (tentative_output next a (role_of next.plan a)) ms → AllStand w next
 mails-sent w next a ms same h =
-    subst (λ (es : List Envelope). All (λ (x : Envelope). TentativesStand (tentative_output next x.sender (role_of next.plan x.sender)) (items_of x.packet)) es)
+    subst (λ (es : List Envelope). All (λ (x : Envelope). TentativesStand (tentative_output next x.sender (role_of next.plan x.sender)) (items_carried x.packet)) es)
     (sym (ap (λ (es : List Envelope). drop (length w.envelopes) es) same ∙ drop-append_seam w.envelopes (map (from a) ms))) (each ms h)
   where
-    each : (ms : List Mail) → AreStanding (tentative_output next a (role_of next.plan a)) ms → All (λ (x : Envelope). TentativesStand (tentative_output next x.sender (role_of next.plan x.sender)) (items_of x.packet)) (map (from a) ms)
-    each [] h = All-nil (λ (x : Envelope). TentativesStand (tentative_output next x.sender (role_of next.plan x.sender)) (items_of x.packet))
-    each (m ∷ ms) h = All-cons (λ (x : Envelope). TentativesStand (tentative_output next x.sender (role_of next.plan x.sender)) (items_of x.packet)) (from a m) (map (from a) ms) h.0 (each ms h.1)
+    each : (ms : List Mail) → AreStanding (tentative_output next a (role_of next.plan a)) ms → All (λ (x : Envelope). TentativesStand (tentative_output next x.sender (role_of next.plan x.sender)) (items_carried x.packet)) (map (from a) ms)
+    each [] h = All-nil (λ (x : Envelope). TentativesStand (tentative_output next x.sender (role_of next.plan x.sender)) (items_carried x.packet))
+    each (m ∷ ms) h = All-cons (λ (x : Envelope). TentativesStand (tentative_output next x.sender (role_of next.plan x.sender)) (items_carried x.packet)) (from a m) (map (from a) ms) h.0 (each ms h.1)
 
 node-sent : (w : World) (most a f r : ℕ) (s : Stepped PlainNode) → IsFine w most → role_of w.plan a ≡ IsNode f r → Stands (home_of w.plan (f, r)) s → AllStand w (node_stepped a s w)
 node-sent w most a f r s fine role stands =
@@ -95,12 +95,12 @@ restart-stands w a i (IsClient c) = none-sent w w refl
 restart-stands w a i Nobody = none-sent w w refl
 
 taken-stands : (w : World) (most : ℕ) (e : Envelope) (role : Role) → IsFine w most → role_of w.plan e.to ≡ role → AllStand w (taken_by w e role)
-taken-stands w most e (IsSource s) fine f = source-sent w e.to s (source_delivered w.plan s e.sender e.packet (source_at w s)) f (source_delivered-standing w.plan s e.sender e.packet (source_at w s))
+taken-stands w most e (IsSource s) fine f = source-sent w e.to s (source_packet_step w.plan s e.sender e.packet (source_at w s)) f (source_delivered-standing w.plan s e.sender e.packet (source_at w s))
 taken-stands w most e (IsNode f r) fine g = by-node (slot_of w e.to).node
   where
     by-node : (o : Option PlainNode) → AllStand w (node_takes w e (home_of w.plan (f, r)) o)
     by-node None = none-sent w w refl
-    by-node (Some n) = node-sent w most e.to f r (delivered (home_of w.plan (f, r)) e.sender e.packet n) fine g (delivered-stands (home_of w.plan (f, r)) e.sender e.packet n)
+    by-node (Some n) = node-sent w most e.to f r (packet_step (home_of w.plan (f, r)) e.sender e.packet n) fine g (delivered-stands (home_of w.plan (f, r)) e.sender e.packet n)
 taken-stands w most e (IsClient c) fine f = none-sent w (taken_by w e (IsClient c)) refl
 taken-stands w most e Nobody fine f = none-sent w w refl
 
@@ -111,10 +111,10 @@ deliver-stands w most (Some e) fine = elim (can_come w e) as (λ b. AllStand w (
   | false ↦ none-sent w w refl
 ]
 
-client-bare : (plan : Plan) (c now : ℕ) (x : ClientState) → list_all is_bare (client_ticked plan c now x).sends ≡ true
-unfolding client_ticked
+client-bare : (plan : Plan) (c now : ℕ) (x : ClientState) → list_all is_bare (client_tick_step plan c now x).sends ≡ true
+unfolding client_tick_step
 client-bare plan c now x =
-    let port = port_ticked (marks_ended x.port) in
+    let port = port_after_tick (without_ended_marks x.port) in
     all-append is_bare (mails (subscriptions plan (port ∷ []) (client_stream plan c ∷ []))) (mails (acks_to plan 1 (length x.port.inlet.held.stable) (client_stream plan c)))
     (subscriptions-bare plan (port ∷ []) (client_stream plan c ∷ [])) (acked (senders_of plan (client_stream plan c)))
   where
@@ -123,21 +123,21 @@ client-bare plan c now x =
     acked (b ∷ ids) = acked ids
 
 tick-stands : (w : World) (most a now : ℕ) (role : Role) → IsFine w most → role_of w.plan a ≡ role → AllStand w (ticks w a now role)
-tick-stands w most a now (IsSource s) fine e = elim (is_clock (source_at w s).clock now) as (λ b. AllStand w (cond b (source_stepped a (source_ticked w.plan s now (source_at w s)) w) w)) [
-  | true ↦ source-sent w a s (source_ticked w.plan s now (source_at w s)) e (source_ticked-standing w.plan s now (source_at w s))
+tick-stands w most a now (IsSource s) fine e = elim (is_clock (source_at w s).clock now) as (λ b. AllStand w (cond b (source_stepped a (source_tick_step w.plan s now (source_at w s)) w) w)) [
+  | true ↦ source-sent w a s (source_tick_step w.plan s now (source_at w s)) e (source_ticked-standing w.plan s now (source_at w s))
   | false ↦ none-sent w w refl
 ]
 tick-stands w most a now (IsNode f r) fine e = by-node (slot_of w a).node
   where
     by-node : (o : Option PlainNode) → AllStand w (node_ticks w a now (home_of w.plan (f, r)) o)
     by-node None = none-sent w w refl
-    by-node (Some n) = elim (is_clock n.clock now) as (λ b. AllStand w (cond b (node_stepped a (ticked_at (home_of w.plan (f, r)) now n) w) w)) [
-      | true ↦ node-sent w most a f r (ticked_at (home_of w.plan (f, r)) now n) fine e (ticked-stands (home_of w.plan (f, r)) now n)
+    by-node (Some n) = elim (is_clock n.clock now) as (λ b. AllStand w (cond b (node_stepped a (tick_step (home_of w.plan (f, r)) now n) w) w)) [
+      | true ↦ node-sent w most a f r (tick_step (home_of w.plan (f, r)) now n) fine e (ticked-stands (home_of w.plan (f, r)) now n)
       | false ↦ none-sent w w refl
     ]
-tick-stands w most a now (IsClient c) fine e = elim (is_clock (client_at w c).clock now) as (λ b. AllStand w (cond b (client_stepped a c (client_ticked w.plan c now (client_at w c)) w) w)) [
+tick-stands w most a now (IsClient c) fine e = elim (is_clock (client_at w c).clock now) as (λ b. AllStand w (cond b (client_stepped a c (client_tick_step w.plan c now (client_at w c)) w) w)) [
   | true ↦
-      let t = client_ticked w.plan c now (client_at w c) in
+      let t = client_tick_step w.plan c now (client_at w c) in
       let next = client_stepped a c t w in
       mails-sent w next a t.sends refl (bare-standing (tentative_output next a (role_of w.plan a)) t.sends (client-bare w.plan c now (client_at w c)))
   | false ↦ none-sent w w refl
@@ -149,8 +149,8 @@ mill-stands w most a r (IsNode f p) fine e = by-node (slot_of w a).node
   where
     by-node : (o : Option PlainNode) → AllStand w (node_mills w a r (home_of w.plan (f, p)) o)
     by-node None = none-sent w w refl
-    by-node (Some n) = elim (can_mill (home_of w.plan (f, p)) r n) as (λ b. AllStand w (cond b (node_stepped a (milled (home_of w.plan (f, p)) r n) w) w)) [
-      | true ↦ node-sent w most a f p (milled (home_of w.plan (f, p)) r n) fine e (milled-stands (home_of w.plan (f, p)) r n)
+    by-node (Some n) = elim (can_mill (home_of w.plan (f, p)) r n) as (λ b. AllStand w (cond b (node_stepped a (mill_step (home_of w.plan (f, p)) r n) w) w)) [
+      | true ↦ node-sent w most a f p (mill_step (home_of w.plan (f, p)) r n) fine e (milled-stands (home_of w.plan (f, p)) r n)
       | false ↦ none-sent w w refl
     ]
 mill-stands w most a r (IsSource s) fine e = none-sent w w refl

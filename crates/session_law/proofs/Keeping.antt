@@ -2,7 +2,7 @@
 use Rattle.std.proofs.Common.{◌≡◌, ℕ, zero, suc, ◌≤◌, Bool, true, false, cond, ◌&&◌, ◌==◌, List, [], ◌∷◌, ◌++◌, map, length, refl, sym, ap, subst, ◌∙◌, Option, Some, None, slice_get, append_assoc}
 use Rattle.std.proofs.lemmas.List.{append-nil}
 use Rattle.dpc_model.specs.Lists.{nth, list_all}
-use Rattle.dpc_model.specs.Sessions.{Sub, Shown, link_of, counted, counted_all, batches_of, is_newer_than_kept}
+use Rattle.dpc_model.specs.Sessions.{Sub, Shown, link_of, with_batch, with_batches, batches_of, is_newer_than_kept}
 use Rattle.dpc_model.specs.declared.tuples.Item.{Item}
 use Rattle.dpc_model.specs.declared.messages.Sess.{Sess}
 use Rattle.dpc_model.specs.declared.messages.Subscribe.{Subscribe}
@@ -12,7 +12,7 @@ use Rattle.dpc_model.specs.declared.plans.Plan.{Plan}
 use Rattle.dpc_model.specs.declared.plans.StreamRef.{StreamRef}
 use Rattle.node_model.specs.Mails.{Packet, Plain, SnapFor, Mail, to_readers}
 use Rattle.world_model.specs.Worlds.{from}
-use Rattle.world_model.specs.SessionLaw.{Line, packet_items, carried, LeavesView}
+use Rattle.world_model.specs.SessionLaw.{Channel, packet_items, carried, LeavesView}
 use Rattle.world_safety.proofs.Tests.{both}
 use Rattle.world_safety.proofs.Histories.{HoldsSession, AreDistinct, Carries, gave-held}
 
@@ -35,7 +35,7 @@ is_bare_packet (SnapFor i try s) = true
 abbrev pub is_bare : Mail → Bool
 is_bare m = is_bare_packet m.packet
 
-bare-message : (l : Line) (m : Message) → no_batch m ≡ true → packet_items l (Plain m) ≡ []
+bare-message : (l : Channel) (m : Message) → no_batch m ≡ true → packet_items l (Plain m) ≡ []
 bare-message l (message.Batch s index items) e = cc
 bare-message l (message.Subscribe asked) e = refl
 bare-message l (message.Truncated s base) e = refl
@@ -45,11 +45,11 @@ bare-message l (message.Ask i n) e = refl
 bare-message l (message.Grant i n) e = refl
 bare-message l (message.SnapAsk i n) e = refl
 
-bare-items : (l : Line) (p : Packet) → is_bare_packet p ≡ true → packet_items l p ≡ []
+bare-items : (l : Channel) (p : Packet) → is_bare_packet p ≡ true → packet_items l p ≡ []
 bare-items l (Plain m) e = bare-message l m e
 bare-items l (SnapFor i try s) e = refl
 
-pub bare-carried : (l : Line) (a : ℕ) (ms : List Mail) → list_all is_bare ms ≡ true → carried l (map (from a) ms) ≡ []
+pub bare-carried : (l : Channel) (a : ℕ) (ms : List Mail) → list_all is_bare ms ≡ true → carried l (map (from a) ms) ≡ []
 bare-carried l a [] h = refl
 bare-carried l a (m ∷ ms) h =
     let p = both (is_bare m) (list_all is_bare ms) h in
@@ -59,7 +59,7 @@ bare-carried l a (m ∷ ms) h =
     none true = refl
     none false = refl
 
-pub carried-append : (l : Line) (a : ℕ) (ms ns : List Mail) → carried l (map (from a) (ms ++ ns)) ≡ carried l (map (from a) ms) ++ carried l (map (from a) ns)
+pub carried-append : (l : Channel) (a : ℕ) (ms ns : List Mail) → carried l (map (from a) (ms ++ ns)) ≡ carried l (map (from a) ms) ++ carried l (map (from a) ns)
 carried-append l a [] ns = refl
 carried-append l a (m ∷ ms) ns =
     let here : List Item = cond (a == l.sender && m.to == l.reader) (packet_items l m.packet) [] in
@@ -76,7 +76,7 @@ mapped f (x ∷ xs) (suc k) y e = mapped f xs k y e
 abbrev pub HeldBy : Plan → StreamRef → Shown → (ℕ → Sess → List Item) → (ℕ → Sess → Subscribe) → List Sub → Type 0
 HeldBy plan s x h q subs = (k : ℕ) (sub : Sub) → slice_get subs k ≡ Some sub → HoldsSession plan s x (h k) (q k) sub
 
-abbrev pub line_of : ℕ → List ℕ → ℕ → Sess → Line
+abbrev pub line_of : ℕ → List ℕ → ℕ → Sess → Channel
 line_of a readers k u = record { sender = a; reader = nth 0 readers k; sess = u }
 
 -- what these mails carry, by reader
@@ -144,10 +144,10 @@ module _ (plan : Plan) (s : StreamRef) (a : ℕ) (readers : List ℕ) where
 
   -- items are given
   pub keeps-gave : (x y : Shown) (subs : List Sub) (items : List Item) → AreDistinct readers → length subs ≤ length readers → Carries plan s x y items →
-      Keeps plan s a readers x subs y (counted_all items subs) (to_readers readers (batches_of items subs))
+      Keeps plan s a readers x subs y (with_batches items subs) (to_readers readers (batches_of items subs))
   keeps-gave x y subs [] distinct few carries h q held k sub e =
       let old = held k sub e in
       record { open_one = λ l f. carries (q k l.0) (h k l.0) (old.open_one l f); newer = λ u f. append-nil (h k u) ∙ old.newer u f }
   keeps-gave x y subs (i ∷ items) distinct few carries h q held k sub e =
-      let c = mapped counted subs k sub e in
+      let c = mapped with_batch subs k sub e in
       rw c.2 (gave-held plan s x y (i ∷ items) (h k) (q k) readers a k subs c.0 distinct few c.1 carries (held k c.0 c.1))

@@ -5,11 +5,11 @@ use Rattle.dpc_model.specs.Lists.{nth, list_all}
 use Rattle.dpc_model.specs.Fragments.{serial, fragment_value, ideal_upto}
 use Rattle.dpc_model.specs.Operators.{all_of}
 use Rattle.dpc_model.specs.Replicas.{is_silent}
-use Rattle.dpc_model.specs.Granting.{asking, own_key}
+use Rattle.dpc_model.specs.Granting.{with_ask, own_key}
 use Rattle.dpc_model.specs.Ports.{Port, must_reopen, choice_at, subscriptions, acks_to}
-use Rattle.dpc_model.specs.Inlets.{reopened, asked_by}
+use Rattle.dpc_model.specs.Inlets.{with_next_session, asked_by}
 use Rattle.dpc_model.specs.Actors.{senders_of}
-use Rattle.dpc_model.specs.Sessions.{Sub, Shown, shut, link_of, given_items, counted_all}
+use Rattle.dpc_model.specs.Sessions.{Sub, Shown, with_session_shut, link_of, given_items, with_batches}
 use Rattle.dpc_model.specs.declared.tuples.Tuple.{Tuple}
 use Rattle.dpc_model.specs.declared.tuples.Tagged.{Tagged}
 use Rattle.dpc_model.specs.declared.tuples.Item.{Item}
@@ -23,7 +23,7 @@ use Rattle.dpc_model.specs.declared.plans.StreamRef.TheVariants.{Frag}
 use Rattle.node_model.specs.Mails.{Mail, mail, mails, in_actor_order, to_each, Stepped}
 use Rattle.dpc_model.specs.NodeStates.{is_stabilization}
 use Rattle.node_model.specs.Nodes.{Home, PlainNode, spec_of, streams_of, own_readers, inputs_done, view_cursor, out_stable, out_view, out_tentative, shown, ready, complete_upto, due_at, wants_to_reconcile, buckets_of}
-use Rattle.node_model.specs.NodeSteps.{silently, then_do, give, given_by, given_stable, entered, advanced, closing, with_failure, stably, processed_upto, processing, reconciled, milled, peers_of, peer_watches, clocked, may_start_afresh, choosing, reconciling, done_at, acks_from, beat_of, beats, announcing, serving, asking_snapshots, going_on, fresh, with_marks_ended, ticked_at}
+use Rattle.node_model.specs.NodeSteps.{silent_step, then_do, give, given_by, given_stable, enter_step, after_stable_buckets, with_closed, with_failure, stably, processing_upto, processing_step, after_last_correction, mill_step, peers_of, peer_watches, after_clock, may_start_afresh, choice_step, ask_step, done_at, acks_from, beat_of, beats, announcing_step, serving_step, snapshot_ask_step, rest_of_tick, with_fresh_start, with_marks_ended, tick_step}
 use Rattle.world_safety.proofs.Outputs.{inputs-held}
 use Rattle.world_safety.specs.Plans.{IsPlace}
 use Rattle.world_safety.proofs.Tests.{all-append, all-sort, all-map}
@@ -94,7 +94,7 @@ shown-same home most more n m place g k up same =
     let view = view-same home n m inputs same.cursor same.closed in
     record { stable = stable; bound = rw (stable, same.cursor) refl; tentative = tentative-same home n m stable view; passed = rw (same.cursor, same.closed) refl }
 
--- sessions that are all shut
+-- sessions that are all with_session_shut
 all-shut : (subs : List Sub) → list_all is_shut subs ≡ true → (k : ℕ) (sub : Sub) → slice_get subs k ≡ Some sub → sub.is_open ≡ false
 all-shut subs h k sub e = let q = all-at is_shut subs k sub h e in not-open sub.is_open q
   where
@@ -108,11 +108,11 @@ recovering-goes home a most n m ms down g same bare =
     keeps-shut home.plan (Frag home.frag) a (own_readers home) (shown home n) (shown home m) n.subs m.subs ms
     (λ k sub e. let f = ap (λ (l : List Sub). slice_get l k) (sym same) ∙ e in (sub, f, refl, all-shut n.subs (emptied-of n down g.orderly.recovering).subs k sub f)) bare
 
--- one whose sessions are shut has none
-pub shut-goes : (home : Home) (a : ℕ) (n m : PlainNode) → m.subs ≡ map shut n.subs → Goes home a n (silently m)
+-- one whose sessions are with_session_shut has none
+pub shut-goes : (home : Home) (a : ℕ) (n m : PlainNode) → m.subs ≡ map with_session_shut n.subs → Goes home a n (silent_step m)
 shut-goes home a n m same =
     keeps-shut home.plan (Frag home.frag) a (own_readers home) (shown home n) (shown home m) n.subs m.subs []
-    (λ k sub e. let f = mapped shut n.subs k sub (ap (λ (l : List Sub). slice_get l k) (sym same) ∙ e) in (f.0, f.1, ap (λ (x : Sub). x.kept) f.2, ap (λ (x : Sub). x.is_open) f.2)) refl
+    (λ k sub e. let f = mapped with_session_shut n.subs k sub (ap (λ (l : List Sub). slice_get l k) (sym same) ∙ e) in (f.0, f.1, ap (λ (x : Sub). x.kept) f.2, ap (λ (x : Sub). x.is_open) f.2)) refl
 
 pub rest-goes : (home : Home) (a most more : ℕ) (n m : PlainNode) (ms : List Mail) → IsPlace home → IsGood home most n → IsGood home more m → SameRest n m → list_all is_bare ms ≡ true → Goes home a n (record { after = m; sends = ms })
 rest-goes home a most more n m ms place g k same bare = by-recovering (recovers-or n)
@@ -134,7 +134,7 @@ pub record IsServer (home : Home) (n : PlainNode) : Type 0 where
 pub give-goes : (home : Home) (a : ℕ) (items : List Item) (n m : PlainNode) → IsServer home n → m.subs ≡ n.subs → Carries home.plan (Frag home.frag) (shown home n) (shown home m) items → Goes home a n (give home items m)
 give-goes home a items n m server same carries =
     subst (λ (subs : List Sub). Keeps home.plan (Frag home.frag) a (own_readers home) (shown home n) subs (shown home (give home items m).after) (give home items m).after.subs (give home items m).sends) same
-    (subst (λ (y : Shown). Keeps home.plan (Frag home.frag) a (own_readers home) (shown home n) m.subs y (counted_all items m.subs) (give home items m).sends) (sym (shown-subs home m (counted_all items m.subs)))
+    (subst (λ (y : Shown). Keeps home.plan (Frag home.frag) a (own_readers home) (shown home n) m.subs y (with_batches items m.subs) (give home items m).sends) (sym (shown-subs home m (with_batches items m.subs)))
     (keeps-gave home.plan (Frag home.frag) a (own_readers home) (shown home n) (shown home m) m.subs items server.distinct (subst (λ (subs : List Sub). length subs ≤ length (own_readers home)) (sym same) server.few) carries))
 
 -- entering
@@ -142,25 +142,25 @@ stable-entered : (home : Home) (n m : PlainNode) → m.ports ≡ n.ports → m.c
 unfolding out_stable
 stable-entered home n m ports cursor = rw (ports, cursor) refl
 
-pub entered-goes : (home : Home) (a : ℕ) (n : PlainNode) → IsServer home n → Goes home a n (entered home n)
-unfolding entered
+pub entered-goes : (home : Home) (a : ℕ) (n : PlainNode) → IsServer home n → Goes home a n (enter_step home n)
+unfolding enter_step
 entered-goes home a n server =
-    let m = record n { closed = []; state = Stabilization; grants = asking n.grants } in
+    let m = record n { closed = []; state = Stabilization; grants = with_ask n.grants } in
     let stable : out_stable home m ≡ out_stable home n = stable-entered home n m refl refl in
     let bound : (shown home m).bound ≡ (shown home n).bound = rw stable refl in
     give-goes home a (Undo (length (out_stable home n)) ∷ []) n m server refl
     (λ asked before law. undo-law home.plan (Frag home.frag) asked (shown home n) (shown home m) (length (out_stable home n)) before stable bound (clear-shown home m refl) law)
 
--- processing
+-- processing_step
 with_failure-subs : (m : PlainNode) → (with_failure m).subs ≡ m.subs
 with_failure-subs m = refl
 
 processed_upto-goes : (home : Home) (a most last : ℕ) (n : PlainNode) → IsPlace home → IsServer home n → IsGood home most n → n.recovering ≡ false → is_stabilization n.state ≡ false →
-    view_cursor n ≤ last → suc last ≤ buckets_of home.plan → Goes home a n (processed_upto home last n)
+    view_cursor n ≤ last → suc last ≤ buckets_of home.plan → Goes home a n (processing_upto home last n)
 processed_upto-goes home a most last n place server g up calm low high =
     let count = last + 1 - view_cursor n in
     let r = stably home n count in
-    let m = closing home (count - r) (advanced home r n) in
+    let m = with_closed home (count - r) (after_stable_buckets home r n) in
     let new = with_failure m in
     let good : IsGood home most new = record {
       safe = processed-safe home r (count - r) n place g.safe up (stably-complete home n count (cursor-complete home n place g.safe up));
@@ -170,29 +170,29 @@ processed_upto-goes home a most last n place server g up calm low high =
     give-goes home a (given_items (length (out_stable home n)) (given_by home n new (nat_lt 0 r) (nat_lt r count))) n new server (with_failure-subs m)
     (λ asked before law. given-law home.plan (Frag home.frag) asked (shown home n) (shown home new) (given_by home n new (nat_lt 0 r) (nat_lt r count)) before step law)
 
-processing-goes : (home : Home) (a most : ℕ) (n : PlainNode) → IsPlace home → IsServer home n → IsGood home most n → n.recovering ≡ false → Goes home a n (processing home n)
+processing-goes : (home : Home) (a most : ℕ) (n : PlainNode) → IsPlace home → IsServer home n → IsGood home most n → n.recovering ≡ false → Goes home a n (processing_step home n)
 processing-goes home a most n place server g up =
-    (elim (is_stabilization n.state) as (λ b. is_stabilization n.state ≡ b → Goes home a n (cond b (silently n) (elim (due_at home n n.clock) [ None ↦ silently n | Some last ↦ processed_upto home last n ]))) [
+    (elim (is_stabilization n.state) as (λ b. is_stabilization n.state ≡ b → Goes home a n (cond b (silent_step n) (elim (due_at home n n.clock) [ None ↦ silent_step n | Some last ↦ processing_upto home last n ]))) [
       | true ↦ λ e. silent-goes home a n [] refl
-      | false ↦ λ e. (elim (due_at home n n.clock) as (λ o. due_at home n n.clock ≡ o → Goes home a n (elim o [ None ↦ silently n | Some last ↦ processed_upto home last n ])) [
+      | false ↦ λ e. (elim (due_at home n n.clock) as (λ o. due_at home n n.clock ≡ o → Goes home a n (elim o [ None ↦ silent_step n | Some last ↦ processing_upto home last n ])) [
         | None ↦ λ f. silent-goes home a n [] refl
         | Some last ↦ λ f. let range = due-range home n n.clock last f in processed_upto-goes home a most last n place server g up e range.0 range.1
       ]) refl
     ]) refl
 
 -- milling
-pub milled-goes : (home : Home) (a most r : ℕ) (n : PlainNode) → IsPlace home → IsServer home n → n.recovering ≡ false → n.closed ≡ [] → n.cursor + r ≤ complete_upto home n → IsGood home most n → Goes home a n (milled home r n)
-unfolding milled out_stable
+pub milled-goes : (home : Home) (a most r : ℕ) (n : PlainNode) → IsPlace home → IsServer home n → n.recovering ≡ false → n.closed ≡ [] → n.cursor + r ≤ complete_upto home n → IsGood home most n → Goes home a n (mill_step home r n)
+unfolding mill_step out_stable
 milled-goes home a most r n place server up none few g =
-    let m = advanced home r n in
+    let m = after_stable_buckets home r n in
     let good = advanced-good home most r n place up none few g in
     let done = is_stabilization n.state && ready home m == 0 in
-    elim done as (λ b. Goes home a n (give home (given_items (length (out_stable home n)) (given_stable home n m b)) (reconciled b m))) [
-      | true ↦ give-goes home a (given_items (length (out_stable home n)) (given_stable home n m true)) n (reconciled true m) server refl
-          (λ asked before law. given-law home.plan (Frag home.frag) asked (shown home n) (shown home (reconciled true m)) (given_stable home n (reconciled true m) true) before
-          (milled-step home (most + 1) r n (reconciled true m) true place up up (later-good home most n g) (reconciled-good home most m up none good) refl refl none none) law)
-      | false ↦ give-goes home a (given_items (length (out_stable home n)) (given_stable home n m false)) n (reconciled false m) server refl
-          (λ asked before law. given-law home.plan (Frag home.frag) asked (shown home n) (shown home (reconciled false m)) (given_stable home n (reconciled false m) false) before (milled-step home most r n (reconciled false m) false place up up g good refl refl none none) law)
+    elim done as (λ b. Goes home a n (give home (given_items (length (out_stable home n)) (given_stable home n m b)) (after_last_correction b m))) [
+      | true ↦ give-goes home a (given_items (length (out_stable home n)) (given_stable home n m true)) n (after_last_correction true m) server refl
+          (λ asked before law. given-law home.plan (Frag home.frag) asked (shown home n) (shown home (after_last_correction true m)) (given_stable home n (after_last_correction true m) true) before
+          (milled-step home (most + 1) r n (after_last_correction true m) true place up up (later-good home most n g) (reconciled-good home most m up none good) refl refl none none) law)
+      | false ↦ give-goes home a (given_items (length (out_stable home n)) (given_stable home n m false)) n (after_last_correction false m) server refl
+          (λ asked before law. given-law home.plan (Frag home.frag) asked (shown home n) (shown home (after_last_correction false m)) (given_stable home n (after_last_correction false m) false) before (milled-step home most r n (after_last_correction false m) false place up up g good refl refl none none) law)
     ]
 
 -- ---- a tick
@@ -201,7 +201,7 @@ pub subscriptions-bare : (plan : Plan) (ports : List Port) (ss : List StreamRef)
 subscriptions-bare plan [] ss = refl
 subscriptions-bare plan (p ∷ ports) [] = refl
 subscriptions-bare plan (p ∷ ports) (s ∷ ss) =
-    elim (must_reopen p) as (λ b. list_all is_bare (mails (cond b (record { to = nth 0 (senders_of plan s) (choice_at p); message = message.Subscribe (asked_by (reopened p.inlet)) } ∷ []) [] ++ subscriptions plan ports ss)) ≡ true) [
+    elim (must_reopen p) as (λ b. list_all is_bare (mails (cond b (record { to = nth 0 (senders_of plan s) (choice_at p); message = message.Subscribe (asked_by (with_next_session p.inlet)) } ∷ []) [] ++ subscriptions plan ports ss)) ≡ true) [
       | true ↦ subscriptions-bare plan ports ss
       | false ↦ subscriptions-bare plan ports ss
     ]
@@ -225,76 +225,76 @@ beats-bare home n =
     all-append is_bare (to_each (beat_of n None) (peers_of home)) (map (λ (x : ℕ × Sub). mail x.0 (beat_of n (link_of x.1))) (zip (own_readers home) n.subs))
     (each-bare (beat_of n None) (peers_of home) (λ a. refl)) (all-map is_bare (λ (x : ℕ × Sub). mail x.0 (beat_of n (link_of x.1))) (zip (own_readers home) n.subs) (λ x. refl))
 
-pub choosing-bare : (home : Home) (n : PlainNode) → list_all is_bare (choosing home n).sends ≡ true
+pub choosing-bare : (home : Home) (n : PlainNode) → list_all is_bare (choice_step home n).sends ≡ true
 choosing-bare home n = all-sort is_bare (λ (m : Mail). m.to) (mails (subscriptions home.plan n.ports (streams_of home))) (subscriptions-bare home.plan n.ports (streams_of home))
 
-choosing-goes : (home : Home) (a most : ℕ) (n : PlainNode) → IsActor home a → n.recovering ≡ false → IsGood home most n → Goes home a n (choosing home n)
+choosing-goes : (home : Home) (a most : ℕ) (n : PlainNode) → IsActor home a → n.recovering ≡ false → IsGood home most n → Goes home a n (choice_step home n)
 choosing-goes home a most n actor up g =
-    rest-goes home a most (most + 1) n (choosing home n).after (choosing home n).sends actor.place g (choosing-good home a most n actor up g).after (record { recovering = refl; cursor = refl; closed = refl; subs = refl }) (choosing-bare home n)
+    rest-goes home a most (most + 1) n (choice_step home n).after (choice_step home n).sends actor.place g (choosing-good home a most n actor up g).after (record { recovering = refl; cursor = refl; closed = refl; subs = refl }) (choosing-bare home n)
 
-reconciling-goes : (home : Home) (a most : ℕ) (n : PlainNode) → IsActor home a → IsServer home n → n.recovering ≡ false → IsGood home most n → Goes home a n (reconciling home n)
+reconciling-goes : (home : Home) (a most : ℕ) (n : PlainNode) → IsActor home a → IsServer home n → n.recovering ≡ false → IsGood home most n → Goes home a n (ask_step home n)
 reconciling-goes home a most n actor server up g =
-    let m = record n { grants = asking n.grants } in
+    let m = record n { grants = with_ask n.grants } in
     let asks = to_each (message.Ask (own_key n.grants).0 (own_key n.grants).1) (peers_of home) in
-    (elim (wants_to_reconcile home n && is_none n.grants.promise) as (λ b. IsGood home most (cond b (cond (list_all is_silent (peer_watches home n)) (entered home n) (record { after = m; sends = asks })) (silently n)).after →
-    Goes home a n (cond b (cond (list_all is_silent (peer_watches home n)) (entered home n) (record { after = m; sends = asks })) (silently n))) [
-      | true ↦ elim (list_all is_silent (peer_watches home n)) as (λ b. IsGood home most (cond b (entered home n) (record { after = m; sends = asks })).after → Goes home a n (cond b (entered home n) (record { after = m; sends = asks }))) [
+    (elim (wants_to_reconcile home n && is_none n.grants.promise) as (λ b. IsGood home most (cond b (cond (list_all is_silent (peer_watches home n)) (enter_step home n) (record { after = m; sends = asks })) (silent_step n)).after →
+    Goes home a n (cond b (cond (list_all is_silent (peer_watches home n)) (enter_step home n) (record { after = m; sends = asks })) (silent_step n))) [
+      | true ↦ elim (list_all is_silent (peer_watches home n)) as (λ b. IsGood home most (cond b (enter_step home n) (record { after = m; sends = asks })).after → Goes home a n (cond b (enter_step home n) (record { after = m; sends = asks }))) [
         | true ↦ λ k. entered-goes home a n server
         | false ↦ λ k. rest-goes home a most most n m asks actor.place g k (record { recovering = refl; cursor = refl; closed = refl; subs = refl }) (each-bare (message.Ask (own_key n.grants).0 (own_key n.grants).1) (peers_of home) (λ b. refl))
       ]
       | false ↦ λ k. silent-goes home a n [] refl
     ]) (reconciling-good home a most n actor up g).after
 
-pub announcing-bare : (home : Home) (n : PlainNode) → list_all is_bare (announcing home n).sends ≡ true
+pub announcing-bare : (home : Home) (n : PlainNode) → list_all is_bare (announcing_step home n).sends ≡ true
 announcing-bare home n =
     all-append is_bare (in_actor_order (acks_from home n n.ports (streams_of home))) (in_actor_order (beats home n))
     (all-sort is_bare (λ (m : Mail). m.to) (acks_from home n n.ports (streams_of home)) (acks-bare home n n.ports (streams_of home))) (all-sort is_bare (λ (m : Mail). m.to) (beats home n) (beats-bare home n))
 
-announcing-goes : (home : Home) (a : ℕ) (n : PlainNode) → Goes home a n (announcing home n)
-announcing-goes home a n = silent-goes home a n (announcing home n).sends (announcing-bare home n)
+announcing-goes : (home : Home) (a : ℕ) (n : PlainNode) → Goes home a n (announcing_step home n)
+announcing-goes home a n = silent-goes home a n (announcing_step home n).sends (announcing-bare home n)
 
 -- a good node is a server
 pub server-of : (home : Home) (most : ℕ) (n : PlainNode) → AreDistinct (own_readers home) → IsGood home most n → IsServer home n
 server-of home most n distinct g = let same = (shape-of home most n g.orderly.shape).subs in record { distinct = distinct; few = omega (arith, same) }
 
-serving-goes : (home : Home) (a most : ℕ) (n : PlainNode) → IsActor home a → AreDistinct (own_readers home) → n.recovering ≡ false → IsGood home most n → Goes home a n (serving home n)
+serving-goes : (home : Home) (a most : ℕ) (n : PlainNode) → IsActor home a → AreDistinct (own_readers home) → n.recovering ≡ false → IsGood home most n → Goes home a n (serving_step home n)
 serving-goes home a most n actor distinct up g =
-    let s = choosing home n in
-    let t = reconciling home s.after in
-    let v = processing home t.after in
+    let s = choice_step home n in
+    let t = ask_step home s.after in
+    let v = processing_step home t.after in
     let one = choosing-good home a most n actor up g in
     let two = reconciling-good home a (most + 1) s.after actor up one.after in
-    goes-then home a n (then_do (then_do s (reconciling home)) (processing home)) (announcing home)
-    (goes-then home a n (then_do s (reconciling home)) (processing home)
-    (goes-then home a n s (reconciling home) (choosing-goes home a most n actor up g) (reconciling-goes home a (most + 1) s.after actor (server-of home (most + 1) s.after distinct one.after) up one.after))
+    goes-then home a n (then_do (then_do s (ask_step home)) (processing_step home)) (announcing_step home)
+    (goes-then home a n (then_do s (ask_step home)) (processing_step home)
+    (goes-then home a n s (ask_step home) (choosing-goes home a most n actor up g) (reconciling-goes home a (most + 1) s.after actor (server-of home (most + 1) s.after distinct one.after) up one.after))
     (processing-goes home a (most + 1) t.after actor.place (server-of home (most + 1) t.after distinct two.after) two.after (reconciling-recovering home s.after ∙ up)))
     (announcing-goes home a v.after)
 
-snapshots-goes : (home : Home) (a : ℕ) (n : PlainNode) → Goes home a n (asking_snapshots home n)
-snapshots-goes home a n = silent-goes home a n (asking_snapshots home n).sends (each-bare (message.SnapAsk n.grants.inc n.tries) (peers_of home) (λ b. refl))
+snapshots-goes : (home : Home) (a : ℕ) (n : PlainNode) → Goes home a n (snapshot_ask_step home n)
+snapshots-goes home a n = silent-goes home a n (snapshot_ask_step home n).sends (each-bare (message.SnapAsk n.grants.inc n.tries) (peers_of home) (λ b. refl))
 
 -- a step behind one that sends nothing
-pub behind : (home : Home) (a : ℕ) (n m : PlainNode) (s : Stepped PlainNode) → Goes home a n (silently m) → Goes home a m s → Goes home a n s
-behind home a n m s h k = goes-then home a n (silently m) (λ _. s) h k
+pub behind : (home : Home) (a : ℕ) (n m : PlainNode) (s : Stepped PlainNode) → Goes home a n (silent_step m) → Goes home a m s → Goes home a n s
+behind home a n m s h k = goes-then home a n (silent_step m) (λ _. s) h k
 
-going_on-goes : (home : Home) (a most : ℕ) (n : PlainNode) → IsActor home a → AreDistinct (own_readers home) → IsGood home most n → Goes home a n (going_on home n)
+going_on-goes : (home : Home) (a most : ℕ) (n : PlainNode) → IsActor home a → AreDistinct (own_readers home) → IsGood home most n → Goes home a n (rest_of_tick home n)
 going_on-goes home a most n actor distinct g =
-    (elim n.recovering as (λ b. n.recovering ≡ b → Goes home a n (cond (not b) (serving home n) (cond (may_start_afresh home n) (serving home (fresh n)) (then_do (asking_snapshots home n) (announcing home))))) [
+    (elim n.recovering as (λ b. n.recovering ≡ b → Goes home a n (cond (not b) (serving_step home n) (cond (may_start_afresh home n) (serving_step home (with_fresh_start n)) (then_do (snapshot_ask_step home n) (announcing_step home))))) [
       | false ↦ λ up. serving-goes home a most n actor distinct up g
-      | true ↦ λ down. elim (may_start_afresh home n) as (λ b. Goes home a n (cond b (serving home (fresh n)) (then_do (asking_snapshots home n) (announcing home)))) [
-        | true ↦ behind home a n (fresh n) (serving home (fresh n)) (recovering-goes home a most n (fresh n) [] down g refl refl)
-            (serving-goes home a most (fresh n) actor distinct refl (fresh-good home most n actor.place down g))
-        | false ↦ goes-then home a n (asking_snapshots home n) (announcing home) (snapshots-goes home a n) (announcing-goes home a n)
+      | true ↦ λ down. elim (may_start_afresh home n) as (λ b. Goes home a n (cond b (serving_step home (with_fresh_start n)) (then_do (snapshot_ask_step home n) (announcing_step home)))) [
+        | true ↦ behind home a n (with_fresh_start n) (serving_step home (with_fresh_start n)) (recovering-goes home a most n (with_fresh_start n) [] down g refl refl)
+            (serving-goes home a most (with_fresh_start n) actor distinct refl (fresh-good home most n actor.place down g))
+        | false ↦ goes-then home a n (snapshot_ask_step home n) (announcing_step home) (snapshots-goes home a n) (announcing-goes home a n)
       ]
     ]) refl
 
-pub marks-goes : (home : Home) (a most : ℕ) (n : PlainNode) → IsPlace home → IsGood home most n → Goes home a n (silently (with_marks_ended n))
+pub marks-goes : (home : Home) (a most : ℕ) (n : PlainNode) → IsPlace home → IsGood home most n → Goes home a n (silent_step (with_marks_ended n))
 marks-goes home a most n place g =
     rest-goes home a most most n (with_marks_ended n) [] place g (marks-good home most n g) (record { recovering = refl; cursor = refl; closed = refl; subs = refl }) refl
 
-pub ticked-goes : (home : Home) (a most now : ℕ) (n : PlainNode) → IsActor home a → AreDistinct (own_readers home) → IsGood home most n → Goes home a n (ticked_at home now n)
-unfolding ticked_at
+pub ticked-goes : (home : Home) (a most now : ℕ) (n : PlainNode) → IsActor home a → AreDistinct (own_readers home) → IsGood home most n → Goes home a n (tick_step home now n)
+unfolding tick_step
 ticked-goes home a most now n actor distinct g =
-    let x = clocked now (with_marks_ended n) in
+    let x = after_clock now (with_marks_ended n) in
     let good = clocked-good home most now (with_marks_ended n) (marks-good home most n g) in
-    behind home a n x (going_on home x) (rest-goes home a most most n x [] actor.place g good (record { recovering = refl; cursor = refl; closed = refl; subs = refl }) refl) (going_on-goes home a most x actor distinct good)
+    behind home a n x (rest_of_tick home x) (rest-goes home a most most n x [] actor.place g good (record { recovering = refl; cursor = refl; closed = refl; subs = refl }) refl) (going_on-goes home a most x actor distinct good)

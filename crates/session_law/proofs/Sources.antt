@@ -6,7 +6,7 @@ use Rattle.std.proofs.lemmas.List.{length-take-le}
 use Rattle.dpc_model.specs.Lists.{nth, list_all, changed, place_of, IsPrefixOf}
 use Rattle.dpc_model.specs.Streams.{count_below}
 use Rattle.dpc_model.specs.Fragments.{log_of, ideal}
-use Rattle.dpc_model.specs.Sessions.{Sub, no_session, link_of, answered, given_items}
+use Rattle.dpc_model.specs.Sessions.{Sub, no_session, link_of, answer_to, given_items}
 use Rattle.dpc_model.specs.declared.tuples.Tuple.{Tuple}
 use Rattle.dpc_model.specs.declared.tuples.Item.{Item}
 use Rattle.dpc_model.specs.declared.messages.Sess.{Sess}
@@ -16,7 +16,7 @@ use Rattle.dpc_model.specs.declared.messages.Message.TheVariants as message
 use Rattle.dpc_model.specs.declared.plans.Plan.{Plan}
 use Rattle.dpc_model.specs.declared.plans.StreamRef.TheVariants.{Source}
 use Rattle.node_model.specs.Mails.{Packet, Plain, SnapFor, mail, Stepped}
-use Rattle.node_model.specs.Sources.{SourceState, source_readers, bound_at, source_shown, emitted_upto, source_given, source_gives, source_emits, source_releases, source_subscribed, source_message, source_delivered, source_beat, source_ticked}
+use Rattle.node_model.specs.Sources.{SourceState, source_readers, bound_at, source_shown, emitted_upto, source_given, source_gives, source_emits, source_releases, source_subscribed, source_message, source_packet_step, source_beat, source_tick_step}
 use Rattle.world_model.specs.Worlds.{Envelope}
 use Rattle.world_model.specs.SessionLaw.{bound_of}
 use Rattle.world_safety.specs.Plans.{IsChecked}
@@ -152,7 +152,7 @@ subscribed-takes : (plan : Plan) (a s sender : ℕ) (asked : Subscribe) (o : Opt
 subscribed-takes plan a s sender asked None x checked fine f h q held = silent-goes plan a s x h q held
 subscribed-takes plan a s sender asked (Some k) x checked fine f h q held =
     let readers = source_readers plan s in
-    let t = answered (source_shown plan s x) (nth no_session x.subs k) asked in
+    let t = answer_to (source_shown plan s x) (nth no_session x.subs k) asked in
     let subs = changed k (λ _. t.after) x.subs in
     let low = place-below (λ b. sender == b) readers k f in
     let here : nth 0 readers k ≡ sender = place-nth sender readers k f in
@@ -169,17 +169,17 @@ message-takes plan a s sender (message.Ask i n) x checked fine = silent-takes pl
 message-takes plan a s sender (message.Grant i n) x checked fine = silent-takes plan a s (record { sender = sender; to = a; packet = Plain (message.Grant i n) }) x
 message-takes plan a s sender (message.SnapAsk i n) x checked fine = silent-takes plan a s (record { sender = sender; to = a; packet = Plain (message.SnapAsk i n) }) x
 
-pub source_delivered-takes : (plan : Plan) (a s sender : ℕ) (packet : Packet) (x : SourceState) → IsChecked plan → IsFineSource plan s x → SourceTakes plan a s (record { sender = sender; to = a; packet = packet }) x (source_delivered plan s sender packet x)
-unfolding source_delivered
+pub source_delivered-takes : (plan : Plan) (a s sender : ℕ) (packet : Packet) (x : SourceState) → IsChecked plan → IsFineSource plan s x → SourceTakes plan a s (record { sender = sender; to = a; packet = packet }) x (source_packet_step plan s sender packet x)
+unfolding source_packet_step
 source_delivered-takes plan a s sender (Plain m) x checked fine = message-takes plan a s sender m x checked fine
 source_delivered-takes plan a s sender (SnapFor i try snap) x checked fine = silent-takes plan a s (record { sender = sender; to = a; packet = SnapFor i try snap }) x
 
-pub source_ticked-bare : (plan : Plan) (s now : ℕ) (x : SourceState) → list_all is_bare (source_ticked plan s now x).sends ≡ true
-unfolding source_ticked
+pub source_ticked-bare : (plan : Plan) (s now : ℕ) (x : SourceState) → list_all is_bare (source_tick_step plan s now x).sends ≡ true
+unfolding source_tick_step
 source_ticked-bare plan s now x = all-map is_bare (λ (y : ℕ × Sub). mail y.0 (source_beat (link_of y.1))) (zip (source_readers plan s) x.subs) (λ y. refl)
 
-pub source_ticked-goes : (plan : Plan) (a s now : ℕ) (x : SourceState) → SourceGoes plan a s x (source_ticked plan s now x)
-unfolding source_ticked
+pub source_ticked-goes : (plan : Plan) (a s now : ℕ) (x : SourceState) → SourceGoes plan a s x (source_tick_step plan s now x)
+unfolding source_tick_step
 source_ticked-goes plan a s now x =
-    keeps-same plan (Source s) a (source_readers plan s) (source_shown plan s x) (source_shown plan s x) x.subs x.subs (source_ticked plan s now x).sends (record { stable = refl; bound = refl; tentative = refl; passed = refl }) refl
+    keeps-same plan (Source s) a (source_readers plan s) (source_shown plan s x) (source_shown plan s x) x.subs x.subs (source_tick_step plan s now x).sends (record { stable = refl; bound = refl; tentative = refl; passed = refl }) refl
     (source_ticked-bare plan s now x)

@@ -3,9 +3,9 @@ use Rattle.std.proofs.Common.{◌≡◌, ℕ, zero, suc, ◌+◌, ◌-◌, max, 
 use Rattle.std.specs.Prelude.{Contains, is_none}
 use Rattle.dpc_model.specs.Lists.{nth, changed, list_all}
 use Rattle.dpc_model.specs.Replicas.{is_silent}
-use Rattle.dpc_model.specs.Granting.{may_enter_by, own_key, asking, grants, granted}
+use Rattle.dpc_model.specs.Granting.{may_enter_by, own_key, with_ask, grants, with_promise}
 use Rattle.dpc_model.specs.Actors.{replicas_of}
-use Rattle.dpc_model.specs.Sessions.{Sub, Shown, Given, Answered, answered, is_newer_than_kept, link_of, first_batch, batches_from, batches_of, given_items, stable_items, boundary_item, tentative_items, passed_item, item_if, counted_all}
+use Rattle.dpc_model.specs.Sessions.{Sub, Shown, Given, Answered, answer_to, is_newer_than_kept, link_of, first_batch, batches_from, batches_of, given_items, stable_items, boundary_item, tentative_items, passed_item, item_if, with_batches}
 use Rattle.dpc_model.specs.declared.tuples.Tuple.{Tuple}
 use Rattle.dpc_model.specs.declared.tuples.Item.{Item}
 use Rattle.dpc_model.specs.declared.tuples.Item.TheVariants.{Stable, Tentative, Passed, Boundary, Undo, RecDone}
@@ -16,9 +16,9 @@ use Rattle.dpc_model.specs.declared.plans.Plan.{Plan}
 use Rattle.node_model.specs.Mails.{Packet, Plain, SnapFor, Mail, mail, to_readers, to_each, Stepped}
 use Rattle.dpc_model.specs.NodeStates.{is_up_failure, is_stabilization}
 use Rattle.node_model.specs.Nodes.{Home, PlainNode, own_readers, out_stable, out_view, out_tentative, shown, due_at, view_cursor, ready, wants_to_reconcile}
-use Rattle.node_model.specs.NodeSteps.{silently, then_do, give, given_by, given_stable, entered, advanced, closing, with_failure, stably, processed_upto, processing, reconciled, milled, peers_of, peer_watches, choosing, reconciling, announcing, serving, asking_snapshots, going_on, fresh, clocked, with_marks_ended, may_start_afresh, ticked_at, on_subscribe, on_ask, on_snap_ask, on_message, on_packet, reader_place, replica_number, delivered}
-use Rattle.node_model.specs.Sources.{SourceState, bound_at, source_readers, source_shown, source_given, source_gives, source_emits, source_releases, source_subscribed, source_message, source_delivered, source_ticked}
-use Rattle.world_model.specs.Orderly.{items_of}
+use Rattle.node_model.specs.NodeSteps.{silent_step, then_do, give, given_by, given_stable, enter_step, after_stable_buckets, with_closed, with_failure, stably, processing_upto, processing_step, after_last_correction, mill_step, peers_of, peer_watches, choice_step, ask_step, announcing_step, serving_step, snapshot_ask_step, rest_of_tick, with_fresh_start, after_clock, with_marks_ended, may_start_afresh, tick_step, on_subscribe, on_ask, on_snap_ask, on_message, on_packet, reader_place, replica_number, packet_step}
+use Rattle.node_model.specs.Sources.{SourceState, bound_at, source_readers, source_shown, source_given, source_gives, source_emits, source_releases, source_subscribed, source_message, source_packet_step, source_tick_step}
+use Rattle.world_model.specs.Orderly.{items_carried}
 use Rattle.world_safety.proofs.Carried.{here, there}
 use Rattle.world_safety.proofs.Tests.{both}
 use Rattle.session_law.specs.Laws.{TentativesStand}
@@ -96,9 +96,9 @@ first-stand x asked =
 
 abbrev pub AreStanding : List Tuple → List Mail → Type 0
 AreStanding out [] = Unit {0}
-AreStanding out (m ∷ ms) = TentativesStand out (items_of m.packet) × AreStanding out ms
+AreStanding out (m ∷ ms) = TentativesStand out (items_carried m.packet) × AreStanding out ms
 
-message-standing : (out : List Tuple) (m : Message) → no_batch m ≡ true → TentativesStand out (items_of (Plain m))
+message-standing : (out : List Tuple) (m : Message) → no_batch m ≡ true → TentativesStand out (items_carried (Plain m))
 message-standing out (message.Batch s index items) e = cc
 message-standing out (message.Subscribe asked) e = tt
 message-standing out (message.Truncated s base) e = tt
@@ -108,7 +108,7 @@ message-standing out (message.Ask i n) e = tt
 message-standing out (message.Grant i n) e = tt
 message-standing out (message.SnapAsk i n) e = tt
 
-packet-standing : (out : List Tuple) (p : Packet) → is_bare_packet p ≡ true → TentativesStand out (items_of p)
+packet-standing : (out : List Tuple) (p : Packet) → is_bare_packet p ≡ true → TentativesStand out (items_carried p)
 packet-standing out (Plain m) e = message-standing out m e
 packet-standing out (SnapFor i try s) e = tt
 
@@ -132,7 +132,7 @@ pub batches-standing : (out : List Tuple) (readers : List ℕ) (items : List Ite
 batches-standing out readers [] subs h = tt
 batches-standing out readers (i ∷ items) subs h = batches_from-standing out readers 0 (i ∷ items) subs h
 
-pub answer-standing : (x : Shown) (sub : Sub) (asked : Subscribe) (to : ℕ) → AreStanding x.tentative (elim (answered x sub asked).answer [ None ↦ [] | Some m ↦ mail to m ∷ [] ])
+pub answer-standing : (x : Shown) (sub : Sub) (asked : Subscribe) (to : ℕ) → AreStanding x.tentative (elim (answer_to x sub asked).answer [ None ↦ [] | Some m ↦ mail to m ∷ [] ])
 answer-standing x sub asked to =
     elim (not (is_newer_than_kept asked.sess sub.kept)) as (λ b. AreStanding x.tentative (elim (cond {A = Answered} b (record { after = sub; answer = None })
     (cond {A = Answered} (nat_lt asked.n x.base)
@@ -159,112 +159,112 @@ tentative-subs home n subs = refl
 
 give-stands : (home : Home) (items : List Item) (n : PlainNode) → TentativesStand (out_tentative home n) items → Stands home (give home items n)
 give-stands home items n h =
-    subst (λ (out : List Tuple). AreStanding out (give home items n).sends) (sym (tentative-subs home n (counted_all items n.subs))) (batches-standing (out_tentative home n) (own_readers home) items n.subs h)
+    subst (λ (out : List Tuple). AreStanding out (give home items n).sends) (sym (tentative-subs home n (with_batches items n.subs))) (batches-standing (out_tentative home n) (own_readers home) items n.subs h)
 
-entered-standing : (home : Home) (out : List Tuple) (n : PlainNode) → AreStanding out (entered home n).sends
-unfolding entered
+entered-standing : (home : Home) (out : List Tuple) (n : PlainNode) → AreStanding out (enter_step home n).sends
+unfolding enter_step
 entered-standing home out n = batches-standing out (own_readers home) (Undo (length (out_stable home n)) ∷ []) n.subs tt
 
-processed-stands : (home : Home) (last : ℕ) (n : PlainNode) → Stands home (processed_upto home last n)
+processed-stands : (home : Home) (last : ℕ) (n : PlainNode) → Stands home (processing_upto home last n)
 processed-stands home last n =
     let count = last + 1 - view_cursor n in
     let r = stably home n count in
-    let new = with_failure (closing home (count - r) (advanced home r n)) in
+    let new = with_failure (with_closed home (count - r) (after_stable_buckets home r n)) in
     give-stands home (given_items (length (out_stable home n)) (given_by home n new (nat_lt 0 r) (nat_lt r count))) new
     (given-stand (out_tentative home new) (length (out_stable home n)) (given_by home n new (nat_lt 0 r) (nat_lt r count)) (λ t c. drop-contains (length (out_tentative home n)) (out_tentative home new) t c))
 
-processing-stands : (home : Home) (n : PlainNode) → Stands home (processing home n)
+processing-stands : (home : Home) (n : PlainNode) → Stands home (processing_step home n)
 processing-stands home n =
-    elim (is_stabilization n.state) as (λ b. Stands home (cond b (silently n) (elim (due_at home n n.clock) [ None ↦ silently n | Some last ↦ processed_upto home last n ]))) [
+    elim (is_stabilization n.state) as (λ b. Stands home (cond b (silent_step n) (elim (due_at home n n.clock) [ None ↦ silent_step n | Some last ↦ processing_upto home last n ]))) [
       | true ↦ tt
-      | false ↦ elim (due_at home n n.clock) as (λ o. Stands home (elim o [ None ↦ silently n | Some last ↦ processed_upto home last n ])) [
+      | false ↦ elim (due_at home n n.clock) as (λ o. Stands home (elim o [ None ↦ silent_step n | Some last ↦ processing_upto home last n ])) [
         | None ↦ tt
         | Some last ↦ processed-stands home last n
       ]
     ]
 
-pub milled-stands : (home : Home) (r : ℕ) (n : PlainNode) → Stands home (milled home r n)
-unfolding milled
+pub milled-stands : (home : Home) (r : ℕ) (n : PlainNode) → Stands home (mill_step home r n)
+unfolding mill_step
 milled-stands home r n =
-    let m = advanced home r n in
+    let m = after_stable_buckets home r n in
     let done = is_stabilization n.state && ready home m == 0 in
-    elim done as (λ b. Stands home (give home (given_items (length (out_stable home n)) (given_stable home n m b)) (reconciled b m))) [
-      | true ↦ give-stands home (given_items (length (out_stable home n)) (given_stable home n m true)) (reconciled true m) (given-stand (out_tentative home (reconciled true m)) (length (out_stable home n)) (given_stable home n m true) (λ t c. absurd (none t c)))
-      | false ↦ give-stands home (given_items (length (out_stable home n)) (given_stable home n m false)) (reconciled false m) (given-stand (out_tentative home (reconciled false m)) (length (out_stable home n)) (given_stable home n m false) (λ t c. absurd (none t c)))
+    elim done as (λ b. Stands home (give home (given_items (length (out_stable home n)) (given_stable home n m b)) (after_last_correction b m))) [
+      | true ↦ give-stands home (given_items (length (out_stable home n)) (given_stable home n m true)) (after_last_correction true m) (given-stand (out_tentative home (after_last_correction true m)) (length (out_stable home n)) (given_stable home n m true) (λ t c. absurd (none t c)))
+      | false ↦ give-stands home (given_items (length (out_stable home n)) (given_stable home n m false)) (after_last_correction false m) (given-stand (out_tentative home (after_last_correction false m)) (length (out_stable home n)) (given_stable home n m false) (λ t c. absurd (none t c)))
     ]
   where
     none : (t : Tuple) → Contains [] t → ⊥
     none t c = let less = c.1 in omega (arith, less)
 
-reconciling-standing : (home : Home) (out : List Tuple) (n : PlainNode) → AreStanding out (reconciling home n).sends
+reconciling-standing : (home : Home) (out : List Tuple) (n : PlainNode) → AreStanding out (ask_step home n).sends
 reconciling-standing home out n =
-    let asks : Stepped PlainNode = record { after = record n { grants = asking n.grants }; sends = to_each (message.Ask (own_key n.grants).0 (own_key n.grants).1) (peers_of home) } in
-    elim (wants_to_reconcile home n && is_none n.grants.promise) as (λ b. AreStanding out (cond b (cond (list_all is_silent (peer_watches home n)) (entered home n) asks) (silently n)).sends) [
-      | true ↦ elim (list_all is_silent (peer_watches home n)) as (λ b. AreStanding out (cond b (entered home n) asks).sends) [
+    let asks : Stepped PlainNode = record { after = record n { grants = with_ask n.grants }; sends = to_each (message.Ask (own_key n.grants).0 (own_key n.grants).1) (peers_of home) } in
+    elim (wants_to_reconcile home n && is_none n.grants.promise) as (λ b. AreStanding out (cond b (cond (list_all is_silent (peer_watches home n)) (enter_step home n) asks) (silent_step n)).sends) [
+      | true ↦ elim (list_all is_silent (peer_watches home n)) as (λ b. AreStanding out (cond b (enter_step home n) asks).sends) [
         | true ↦ entered-standing home out n
         | false ↦ bare-standing out asks.sends (each-bare (message.Ask (own_key n.grants).0 (own_key n.grants).1) (peers_of home) (λ a. refl))
       ]
       | false ↦ tt
     ]
 
-serving-stands : (home : Home) (n : PlainNode) → Stands home (serving home n)
+serving-stands : (home : Home) (n : PlainNode) → Stands home (serving_step home n)
 serving-stands home n =
-    let s = choosing home n in
-    let t = reconciling home s.after in
-    let v = processing home t.after in
+    let s = choice_step home n in
+    let t = ask_step home s.after in
+    let v = processing_step home t.after in
     let out = out_tentative home v.after in
-    standing-append out (s.sends ++ t.sends ++ v.sends) (announcing home v.after).sends
+    standing-append out (s.sends ++ t.sends ++ v.sends) (announcing_step home v.after).sends
     (standing-append out (s.sends ++ t.sends) v.sends
-    (standing-append out s.sends t.sends (bare-standing out s.sends (choosing-bare home n)) (reconciling-standing home out s.after)) (processing-stands home t.after)) (bare-standing out (announcing home v.after).sends (announcing-bare home v.after))
+    (standing-append out s.sends t.sends (bare-standing out s.sends (choosing-bare home n)) (reconciling-standing home out s.after)) (processing-stands home t.after)) (bare-standing out (announcing_step home v.after).sends (announcing-bare home v.after))
 
-going_on-stands : (home : Home) (n : PlainNode) → Stands home (going_on home n)
+going_on-stands : (home : Home) (n : PlainNode) → Stands home (rest_of_tick home n)
 going_on-stands home n =
-    elim n.recovering as (λ b. Stands home (cond (not b) (serving home n) (cond (may_start_afresh home n) (serving home (fresh n)) (then_do (asking_snapshots home n) (announcing home))))) [
+    elim n.recovering as (λ b. Stands home (cond (not b) (serving_step home n) (cond (may_start_afresh home n) (serving_step home (with_fresh_start n)) (then_do (snapshot_ask_step home n) (announcing_step home))))) [
       | false ↦ serving-stands home n
-      | true ↦ elim (may_start_afresh home n) as (λ b. Stands home (cond b (serving home (fresh n)) (then_do (asking_snapshots home n) (announcing home)))) [
-        | true ↦ serving-stands home (fresh n)
+      | true ↦ elim (may_start_afresh home n) as (λ b. Stands home (cond b (serving_step home (with_fresh_start n)) (then_do (snapshot_ask_step home n) (announcing_step home)))) [
+        | true ↦ serving-stands home (with_fresh_start n)
         | false ↦
             let out = out_tentative home n in
-            standing-append out (asking_snapshots home n).sends (announcing home n).sends
-            (bare-standing out (asking_snapshots home n).sends (each-bare (message.SnapAsk n.grants.inc n.tries) (peers_of home) (λ a. refl))) (bare-standing out (announcing home n).sends (announcing-bare home n))
+            standing-append out (snapshot_ask_step home n).sends (announcing_step home n).sends
+            (bare-standing out (snapshot_ask_step home n).sends (each-bare (message.SnapAsk n.grants.inc n.tries) (peers_of home) (λ a. refl))) (bare-standing out (announcing_step home n).sends (announcing-bare home n))
       ]
     ]
 
-pub ticked-stands : (home : Home) (now : ℕ) (n : PlainNode) → Stands home (ticked_at home now n)
-unfolding ticked_at
-ticked-stands home now n = going_on-stands home (clocked now (with_marks_ended n))
+pub ticked-stands : (home : Home) (now : ℕ) (n : PlainNode) → Stands home (tick_step home now n)
+unfolding tick_step
+ticked-stands home now n = going_on-stands home (after_clock now (with_marks_ended n))
 
 -- ---- packets
 
 subscribe-stands : (home : Home) (asked : Subscribe) (o : Option ℕ) (n : PlainNode) → Stands home (on_subscribe home asked o n)
 subscribe-stands home asked None n = tt
 subscribe-stands home asked (Some k) n =
-    let t = answered (shown home n) (nth (record { kept = None; is_open = false; batches = 0 }) n.subs k) asked in
+    let t = answer_to (shown home n) (nth (record { kept = None; is_open = false; batches = 0 }) n.subs k) asked in
     subst (λ (out : List Tuple). AreStanding out (on_subscribe home asked (Some k) n).sends) (sym (tentative-subs home n (changed k (λ _. t.after) n.subs)))
     (answer-standing (shown home n) (nth (record { kept = None; is_open = false; batches = 0 }) n.subs k) asked (nth 0 (own_readers home) k))
 
 ask-stands : (home : Home) (i ask : ℕ) (o : Option ℕ) (n : PlainNode) → Stands home (on_ask home i ask o n)
 ask-stands home i ask None n = tt
 ask-stands home i ask (Some r) n =
-    elim (grants n.grants n.state r (i, ask)) as (λ b. Stands home (cond b (record { after = record n { grants = granted n.grants r (i, ask) }; sends = mail (nth 0 (replicas_of home.plan home.frag) r) (message.Grant i ask) ∷ [] }) (silently n))) [ true ↦ (tt, tt) | false ↦ tt ]
+    elim (grants n.grants n.state r (i, ask)) as (λ b. Stands home (cond b (record { after = record n { grants = with_promise n.grants r (i, ask) }; sends = mail (nth 0 (replicas_of home.plan home.frag) r) (message.Grant i ask) ∷ [] }) (silent_step n))) [ true ↦ (tt, tt) | false ↦ tt ]
 
 message-stands : (home : Home) (a : ℕ) (m : Message) (n : PlainNode) → Stands home (on_message home a m n)
 message-stands home a (message.Batch s index items) n = tt
-message-stands home a (message.Subscribe asked) n = elim n.recovering as (λ b. Stands home (cond b (silently n) (on_subscribe home asked (reader_place home a) n))) [ true ↦ tt | false ↦ subscribe-stands home asked (reader_place home a) n ]
+message-stands home a (message.Subscribe asked) n = elim n.recovering as (λ b. Stands home (cond b (silent_step n) (on_subscribe home asked (reader_place home a) n))) [ true ↦ tt | false ↦ subscribe-stands home asked (reader_place home a) n ]
 message-stands home a (message.Truncated s base) n = tt
 message-stands home a (message.Beat b) n = tt
 message-stands home a (message.Ack i count) n = tt
 message-stands home a (message.Ask i ask) n = ask-stands home i ask (replica_number home a) n
 message-stands home a (message.Grant i ask) n =
-    elim (is_up_failure n.state && may_enter_by n.grants (i, ask)) as (λ b. Stands home (cond b (entered home n) (silently n))) [ true ↦ entered-standing home (out_tentative home (entered home n).after) n | false ↦ tt ]
-message-stands home a (message.SnapAsk i try) n = elim n.recovering as (λ b. Stands home (cond b (silently n) (on_snap_ask home a i try n))) [ true ↦ tt | false ↦ (tt, tt) ]
+    elim (is_up_failure n.state && may_enter_by n.grants (i, ask)) as (λ b. Stands home (cond b (enter_step home n) (silent_step n))) [ true ↦ entered-standing home (out_tentative home (enter_step home n).after) n | false ↦ tt ]
+message-stands home a (message.SnapAsk i try) n = elim n.recovering as (λ b. Stands home (cond b (silent_step n) (on_snap_ask home a i try n))) [ true ↦ tt | false ↦ (tt, tt) ]
 
 packet-stands : (home : Home) (a : ℕ) (p : Packet) (n : PlainNode) → Stands home (on_packet home a p n)
 packet-stands home a (Plain m) n = message-stands home a m n
 packet-stands home a (SnapFor i try s) n = tt
 
-pub delivered-stands : (home : Home) (a : ℕ) (p : Packet) (n : PlainNode) → Stands home (delivered home a p n)
-unfolding delivered
+pub delivered-stands : (home : Home) (a : ℕ) (p : Packet) (n : PlainNode) → Stands home (packet_step home a p n)
+unfolding packet_step
 delivered-stands home a p n = packet-stands home a p (with_marks_ended n)
 
 -- ---- a source, which has no tentative output
@@ -295,10 +295,10 @@ message-standing-source plan s a (message.Ask i n) x = tt
 message-standing-source plan s a (message.Grant i n) x = tt
 message-standing-source plan s a (message.SnapAsk i n) x = tt
 
-pub source_delivered-standing : (plan : Plan) (s a : ℕ) (p : Packet) (x : SourceState) → AreStanding [] (source_delivered plan s a p x).sends
-unfolding source_delivered
+pub source_delivered-standing : (plan : Plan) (s a : ℕ) (p : Packet) (x : SourceState) → AreStanding [] (source_packet_step plan s a p x).sends
+unfolding source_packet_step
 source_delivered-standing plan s a (Plain m) x = message-standing-source plan s a m x
 source_delivered-standing plan s a (SnapFor i try snap) x = tt
 
-pub source_ticked-standing : (plan : Plan) (s now : ℕ) (x : SourceState) → AreStanding [] (source_ticked plan s now x).sends
-source_ticked-standing plan s now x = bare-standing [] (source_ticked plan s now x).sends (source_ticked-bare plan s now x)
+pub source_ticked-standing : (plan : Plan) (s now : ℕ) (x : SourceState) → AreStanding [] (source_tick_step plan s now x).sends
+source_ticked-standing plan s now x = bare-standing [] (source_tick_step plan s now x).sends (source_ticked-bare plan s now x)

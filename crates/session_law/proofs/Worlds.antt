@@ -15,7 +15,7 @@ use Rattle.node_model.specs.Mails.{Mail, Stepped}
 use Rattle.node_model.specs.Nodes.{Home, PlainNode, own_readers, shown}
 use Rattle.node_model.specs.Sources.{SourceState, source_readers, source_shown}
 use Rattle.world_model.specs.Worlds.{World, Envelope, Slot, home_of, node_place, from, slot_of, source_at, no_source, role_up, is_up, node_stepped, source_stepped}
-use Rattle.world_model.specs.SessionLaw.{Line, carried, goes_down}
+use Rattle.world_model.specs.SessionLaw.{Channel, carried, goes_down}
 use Rattle.world_safety.proofs.Tests.{eq-of, eq-test}
 use Rattle.world_safety.proofs.Pointwise.{get-changed}
 use Rattle.world_safety.proofs.Numbering.{node-at, role-split, source-at as source-at-place}
@@ -31,36 +31,36 @@ abbrev pub no_slot : Slot
 no_slot = record { last_inc = 0; node = None }
 
 -- a node that is down has sent nothing since
-abbrev pub HeldNode : Home → ℕ → (Line → List Item) → (Line → Subscribe) → Option PlainNode → Type 0
+abbrev pub HeldNode : Home → ℕ → (Channel → List Item) → (Channel → Subscribe) → Option PlainNode → Type 0
 HeldNode home a h q None = (to : ℕ) (u : Sess) → h (record { sender = a; reader = to; sess = u }) ≡ []
 HeldNode home a h q (Some n) = HeldBy home.plan (Frag home.frag) (shown home n) (λ k u. h (line_of a (own_readers home) k u)) (λ k u. q (line_of a (own_readers home) k u)) n.subs
 
-abbrev pub HeldSource : Plan → ℕ → ℕ → (Line → List Item) → (Line → Subscribe) → SourceState → Type 0
+abbrev pub HeldSource : Plan → ℕ → ℕ → (Channel → List Item) → (Channel → Subscribe) → SourceState → Type 0
 HeldSource plan a s h q x = HeldBy plan (Source s) (source_shown plan s x) (λ k u. h (line_of a (source_readers plan s) k u)) (λ k u. q (line_of a (source_readers plan s) k u)) x.subs
 
-abbrev pub HeldAt : Plan → List SourceState → List Slot → (Line → List Item) → (Line → Subscribe) → ℕ → Role → Type 0
+abbrev pub HeldAt : Plan → List SourceState → List Slot → (Channel → List Item) → (Channel → Subscribe) → ℕ → Role → Type 0
 HeldAt plan sources nodes h q a (IsSource s) = HeldSource plan a s h q (nth no_source sources s)
 HeldAt plan sources nodes h q a (IsNode f r) = HeldNode (home_of plan (f, r)) a h q (nth no_slot nodes (node_place plan a)).node
 HeldAt plan sources nodes h q a (IsClient c) = Unit {0}
 HeldAt plan sources nodes h q a Nobody = Unit {0}
 
 -- every sender's sessions
-abbrev pub AreHeld : World → (Line → List Item) → (Line → Subscribe) → Type 0
+abbrev pub AreHeld : World → (Channel → List Item) → (Channel → Subscribe) → Type 0
 AreHeld w h q = (a : ℕ) → HeldAt w.plan w.sources w.nodes h q a (role_of w.plan a)
 
 -- what was sent in a session, and what opened it, after an event that makes next of w and brings o
-abbrev pub past_next : Line → List Item → World → World → List Item
+abbrev pub past_next : Channel → List Item → World → World → List Item
 past_next l items w next = cond (goes_down l w next) [] items ++ carried l (drop (length w.envelopes) next.envelopes)
 
-abbrev pub opened_next : Line → Option Subscribe → Subscribe → World → World → Subscribe
+abbrev pub opened_next : Channel → Option Subscribe → Subscribe → World → World → Subscribe
 opened_next l o asked w next = cond (has_first l (drop (length w.envelopes) next.envelopes)) (unwrap_or o asked) asked
 
-abbrev pub AreHeldNext : World → World → (Line → Option Subscribe) → (Line → List Item) → (Line → Subscribe) → Type 0
+abbrev pub AreHeldNext : World → World → (Channel → Option Subscribe) → (Channel → List Item) → (Channel → Subscribe) → Type 0
 AreHeldNext w next o h q = AreHeld next (λ l. past_next l (h l) w next) (λ l. opened_next l (o l) (q l) w next)
 
 -- ---- the same state, and the same history
 
-module _ (plan : Plan) (a : ℕ) (h h' : Line → List Item) (q q' : Line → Subscribe) (past : (to : ℕ) (u : Sess) → h' (record { sender = a; reader = to; sess = u }) ≡ h (record { sender = a; reader = to; sess = u })) (asks : (to : ℕ) (u : Sess) → q' (record { sender = a; reader = to; sess = u }) ≡ q (record { sender = a; reader = to; sess = u })) where
+module _ (plan : Plan) (a : ℕ) (h h' : Channel → List Item) (q q' : Channel → Subscribe) (past : (to : ℕ) (u : Sess) → h' (record { sender = a; reader = to; sess = u }) ≡ h (record { sender = a; reader = to; sess = u })) (asks : (to : ℕ) (u : Sess) → q' (record { sender = a; reader = to; sess = u }) ≡ q (record { sender = a; reader = to; sess = u })) where
   node-same : (home : Home) (o : Option PlainNode) → HeldNode home a h q o → HeldNode home a h' q' o
   node-same home None held = λ to u. past to u ∙ held to u
   node-same home (Some n) held =
@@ -85,20 +85,20 @@ stays-up : (b c : Bool) → c ≡ b → (b && not c) ≡ false
 stays-up true c e = rw e refl
 stays-up false c e = refl
 
-past-stepped : (l : Line) (items : List Item) (w next : World) (zs : List Envelope) → next.envelopes ≡ w.envelopes ++ zs → is_up next l.sender ≡ is_up w l.sender → past_next l items w next ≡ items ++ carried l zs
+past-stepped : (l : Channel) (items : List Item) (w next : World) (zs : List Envelope) → next.envelopes ≡ w.envelopes ++ zs → is_up next l.sender ≡ is_up w l.sender → past_next l items w next ≡ items ++ carried l zs
 past-stepped l items w next zs same up =
     ap (λ (b : Bool). cond b [] items ++ carried l (drop (length w.envelopes) next.envelopes)) (stays-up (is_up w l.sender) (is_up next l.sender) up)
     ∙ ap (λ (es : List Envelope). items ++ carried l es) (ap (λ (es : List Envelope). drop (length w.envelopes) es) same ∙ drop-append_seam w.envelopes zs)
 
-opened-stepped : (l : Line) (o : Option Subscribe) (asked : Subscribe) (w next : World) (zs : List Envelope) → next.envelopes ≡ w.envelopes ++ zs → opened_next l o asked w next ≡ cond (has_first l zs) (unwrap_or o asked) asked
+opened-stepped : (l : Channel) (o : Option Subscribe) (asked : Subscribe) (w next : World) (zs : List Envelope) → next.envelopes ≡ w.envelopes ++ zs → opened_next l o asked w next ≡ cond (has_first l zs) (unwrap_or o asked) asked
 opened-stepped l o asked w next zs same = ap (λ (es : List Envelope). cond (has_first l es) (unwrap_or o asked) asked) (ap (λ (es : List Envelope). drop (length w.envelopes) es) same ∙ drop-append_seam w.envelopes zs)
 
 -- mails of another actor
-carried-other : (l : Line) (b : ℕ) (ms : List Mail) → (b == l.sender) ≡ false → carried l (map (from b) ms) ≡ []
+carried-other : (l : Channel) (b : ℕ) (ms : List Mail) → (b == l.sender) ≡ false → carried l (map (from b) ms) ≡ []
 carried-other l b [] e = refl
 carried-other l b (m ∷ ms) e = rw e (carried-other l b ms e)
 
-first-other : (l : Line) (b : ℕ) (ms : List Mail) → (b == l.sender) ≡ false → has_first l (map (from b) ms) ≡ false
+first-other : (l : Channel) (b : ℕ) (ms : List Mail) → (b == l.sender) ≡ false → has_first l (map (from b) ms) ≡ false
 first-other l b [] e = refl
 first-other l b (m ∷ ms) e = rw e (first-other l b ms e)
 
@@ -114,29 +114,29 @@ up-same w next a Nobody h = refl
 abbrev pub world_of : World → List SourceState → List Slot → World → World
 world_of w ys ns x = record { plan = w.plan; sources = ys; nodes = ns; clients = x.clients; cuts = x.cuts; envelopes = x.envelopes }
 
-pub untouched : (w x : World) (ys : List SourceState) (ns : List Slot) (o : Line → Option Subscribe) (h : Line → List Item) (q : Line → Subscribe) (zs : List Envelope) (a : ℕ) → x.envelopes ≡ w.envelopes ++ zs →
+pub untouched : (w x : World) (ys : List SourceState) (ns : List Slot) (o : Channel → Option Subscribe) (h : Channel → List Item) (q : Channel → Subscribe) (zs : List Envelope) (a : ℕ) → x.envelopes ≡ w.envelopes ++ zs →
     ((to : ℕ) (u : Sess) → carried (record { sender = a; reader = to; sess = u }) zs ≡ []) → ((to : ℕ) (u : Sess) → has_first (record { sender = a; reader = to; sess = u }) zs ≡ false) →
     ((s : ℕ) → role_of w.plan a ≡ IsSource s → nth no_source ys s ≡ nth no_source w.sources s) → ((f r : ℕ) → role_of w.plan a ≡ IsNode f r → nth no_slot ns (node_place w.plan a) ≡ slot_of w a) →
     AreHeld w h q → HeldAt w.plan ys ns (λ l. past_next l (h l) w (world_of w ys ns x)) (λ l. opened_next l (o l) (q l) w (world_of w ys ns x)) a (role_of w.plan a)
 untouched w x ys ns o h q zs a same none first sources nodes held =
     let next = world_of w ys ns x in
     at-same w.plan a h (λ l. past_next l (h l) w next) q (λ l. opened_next l (o l) (q l) w next)
-    (λ to u. let l : Line = record { sender = a; reader = to; sess = u } in
+    (λ to u. let l : Channel = record { sender = a; reader = to; sess = u } in
     past-stepped l (h l) w next zs same (up-same w next a (role_of w.plan a) nodes) ∙ ap (λ (xs : List Item). h l ++ xs) (none to u) ∙ append-nil (h l))
-    (λ to u. let l : Line = record { sender = a; reader = to; sess = u } in
+    (λ to u. let l : Channel = record { sender = a; reader = to; sess = u } in
     opened-stepped l (o l) (q l) w next zs same ∙ ap (λ (b : Bool). cond b (unwrap_or (o l) (q l)) (q l)) (first to u))
     w.sources ys w.nodes ns (role_of w.plan a) sources nodes (held a)
 
 -- nothing is sent, and no source and no node changes
-pub quiet-held : (w x : World) (o : Line → Option Subscribe) (h : Line → List Item) (q : Line → Subscribe) → x.envelopes ≡ w.envelopes → AreHeld w h q → AreHeldNext w (world_of w w.sources w.nodes x) o h q
+pub quiet-held : (w x : World) (o : Channel → Option Subscribe) (h : Channel → List Item) (q : Channel → Subscribe) → x.envelopes ≡ w.envelopes → AreHeld w h q → AreHeldNext w (world_of w w.sources w.nodes x) o h q
 quiet-held w x o h q same held a =
     untouched w x w.sources w.nodes o h q [] a (same ∙ sym (append-nil w.envelopes)) (λ to u. refl) (λ to u. refl) (λ s e. refl) (λ f r e. refl) held
 
-pub void-held : (w : World) (o : Line → Option Subscribe) (h : Line → List Item) (q : Line → Subscribe) → AreHeld w h q → AreHeldNext w w o h q
+pub void-held : (w : World) (o : Channel → Option Subscribe) (h : Channel → List Item) (q : Channel → Subscribe) → AreHeld w h q → AreHeldNext w w o h q
 void-held w o h q held = quiet-held w w o h q refl held
 
 -- another actor's step
-pub other-held : (w x : World) (ys : List SourceState) (ns : List Slot) (o : Line → Option Subscribe) (h : Line → List Item) (q : Line → Subscribe) (b : ℕ) (ms : List Mail) (a : ℕ) → (a == b) ≡ false → x.envelopes ≡ w.envelopes ++ map (from b) ms →
+pub other-held : (w x : World) (ys : List SourceState) (ns : List Slot) (o : Channel → Option Subscribe) (h : Channel → List Item) (q : Channel → Subscribe) (b : ℕ) (ms : List Mail) (a : ℕ) → (a == b) ≡ false → x.envelopes ≡ w.envelopes ++ map (from b) ms →
     ((s : ℕ) → role_of w.plan a ≡ IsSource s → nth no_source ys s ≡ nth no_source w.sources s) → ((f r : ℕ) → role_of w.plan a ≡ IsNode f r → nth no_slot ns (node_place w.plan a) ≡ slot_of w a) →
     AreHeld w h q → HeldAt w.plan ys ns (λ l. past_next l (h l) w (world_of w ys ns x)) (λ l. opened_next l (o l) (q l) w (world_of w ys ns x)) a (role_of w.plan a)
 other-held w x ys ns o h q b ms a apart same sources nodes held =
@@ -177,7 +177,7 @@ other-slot plan a b f r g p change slots apart other role =
 -- ---- a node steps
 
 -- what a step of a node leaves, where an event brings o
-abbrev pub StepTakes : Home → ℕ → (Line → Option Subscribe) → PlainNode → Stepped PlainNode → Type 0
+abbrev pub StepTakes : Home → ℕ → (Channel → Option Subscribe) → PlainNode → Stepped PlainNode → Type 0
 StepTakes home a o n s =
     (h : ℕ → Sess → List Item) (q : ℕ → Sess → Subscribe) → HeldBy home.plan (Frag home.frag) (shown home n) h q n.subs →
     HeldBy home.plan (Frag home.frag) (shown home s.after) (λ k u. h k u ++ mailed a (own_readers home) s.sends k u)
@@ -189,7 +189,7 @@ stepped-slot w most b f r change fine role =
     let found = slots-at w.plan most (node_place w.plan b) (f, r) (nodes_of w.plan) w.nodes (node-at w.plan b f r role) fine.nodes_up in
     ap (λ (o : Option Slot). unwrap_or o no_slot) (get-changed (node_place w.plan b) change w.nodes found.0 found.1) ∙ ap change (sym (ap (λ (o : Option Slot). unwrap_or o no_slot) found.1))
 
-node-own : (w : World) (most b f r : ℕ) (n : PlainNode) (s : Stepped PlainNode) (o : Line → Option Subscribe) (h : Line → List Item) (q : Line → Subscribe) → IsFine w most → role_of w.plan b ≡ IsNode f r → (slot_of w b).node ≡ Some n →
+node-own : (w : World) (most b f r : ℕ) (n : PlainNode) (s : Stepped PlainNode) (o : Channel → Option Subscribe) (h : Channel → List Item) (q : Channel → Subscribe) → IsFine w most → role_of w.plan b ≡ IsNode f r → (slot_of w b).node ≡ Some n →
     StepTakes (home_of w.plan (f, r)) b o n s → AreHeld w h q →
     HeldNode (home_of w.plan (f, r)) b (λ l. past_next l (h l) w (node_stepped b s w)) (λ l. opened_next l (o l) (q l) w (node_stepped b s w)) (nth no_slot (changed (node_place w.plan b) (λ slot. record slot { node = Some s.after }) w.nodes) (node_place w.plan b)).node
 node-own w most b f r n s o h q fine role up step held =
@@ -208,7 +208,7 @@ node-own w most b f r n s o h q fine role up step held =
     (λ u. past-stepped (line_of b readers k u) (h (line_of b readers k u)) w next (map (from b) s.sends) refl is_up_now)
     (λ u. opened-stepped (line_of b readers k u) (o (line_of b readers k u)) (q (line_of b readers k u)) w next (map (from b) s.sends) refl) (new k sub e))
 
-pub node-held : (w : World) (most b f r : ℕ) (n : PlainNode) (s : Stepped PlainNode) (o : Line → Option Subscribe) (h : Line → List Item) (q : Line → Subscribe) → IsFine w most → role_of w.plan b ≡ IsNode f r → (slot_of w b).node ≡ Some n →
+pub node-held : (w : World) (most b f r : ℕ) (n : PlainNode) (s : Stepped PlainNode) (o : Channel → Option Subscribe) (h : Channel → List Item) (q : Channel → Subscribe) → IsFine w most → role_of w.plan b ≡ IsNode f r → (slot_of w b).node ≡ Some n →
     StepTakes (home_of w.plan (f, r)) b o n s → AreHeld w h q → AreHeldNext w (node_stepped b s w) o h q
 node-held w most b f r n s o h q fine role up step held a =
     let next = node_stepped b s w in
@@ -221,7 +221,7 @@ node-held w most b f r n s o h q fine role up step held a =
 
 -- ---- a source steps
 
-abbrev pub SourceStepTakes : Plan → ℕ → ℕ → (Line → Option Subscribe) → SourceState → Stepped SourceState → Type 0
+abbrev pub SourceStepTakes : Plan → ℕ → ℕ → (Channel → Option Subscribe) → SourceState → Stepped SourceState → Type 0
 SourceStepTakes plan a s o x t =
     (h : ℕ → Sess → List Item) (q : ℕ → Sess → Subscribe) → HeldBy plan (Source s) (source_shown plan s x) h q x.subs →
     HeldBy plan (Source s) (source_shown plan s t.after) (λ k u. h k u ++ mailed a (source_readers plan s) t.sends k u)
@@ -232,7 +232,7 @@ changed-none i f [] e = refl
 changed-none zero f (x ∷ xs) e = cc
 changed-none (suc i) f (x ∷ xs) e = changed-none i f xs e
 
-source-own : (w : World) (b s : ℕ) (t : Stepped SourceState) (o : Line → Option Subscribe) (h : Line → List Item) (q : Line → Subscribe) → s ≡ b → role_of w.plan b ≡ IsSource s → SourceStepTakes w.plan b s o (source_at w s) t → AreHeld w h q →
+source-own : (w : World) (b s : ℕ) (t : Stepped SourceState) (o : Channel → Option Subscribe) (h : Channel → List Item) (q : Channel → Subscribe) → s ≡ b → role_of w.plan b ≡ IsSource s → SourceStepTakes w.plan b s o (source_at w s) t → AreHeld w h q →
     HeldSource w.plan b s (λ l. past_next l (h l) w (source_stepped b t w)) (λ l. opened_next l (o l) (q l) w (source_stepped b t w)) (nth no_source (changed b (λ _. t.after) w.sources) s)
 source-own w b s t o h q here role step held =
     let next = source_stepped b t w in
@@ -254,7 +254,7 @@ source-own w b s t o h q here role step held =
           (λ u. opened-stepped (line_of b readers k u) (o (line_of b readers k u)) (q (line_of b readers k u)) w next (map (from b) t.sends) refl) (new k sub f))
     ]) refl
 
-pub source-held : (w : World) (b s : ℕ) (t : Stepped SourceState) (o : Line → Option Subscribe) (h : Line → List Item) (q : Line → Subscribe) → role_of w.plan b ≡ IsSource s → SourceStepTakes w.plan b s o (source_at w s) t → AreHeld w h q →
+pub source-held : (w : World) (b s : ℕ) (t : Stepped SourceState) (o : Channel → Option Subscribe) (h : Channel → List Item) (q : Channel → Subscribe) → role_of w.plan b ≡ IsSource s → SourceStepTakes w.plan b s o (source_at w s) t → AreHeld w h q →
     AreHeldNext w (source_stepped b t w) o h q
 source-held w b s t o h q role step held a =
     let next = source_stepped b t w in

@@ -14,9 +14,9 @@ use Rattle.node_model.specs.Nodes.{PlainNode, out_tentative, own_readers, shown}
 use Rattle.node_model.specs.Sources.{source_readers, source_shown}
 use Rattle.world_model.specs.Worlds.{World, Envelope, home_of, new_world, happens, run, slot_of, source_at}
 use Rattle.world_model.specs.Safe.{EachStep}
-use Rattle.world_model.specs.Orderly.{items_of}
-use Rattle.world_model.specs.SessionLaw.{Line, sent_after, LeavesView}
-use Rattle.session_law.specs.Openings.{opening, asks_for, opened_by}
+use Rattle.world_model.specs.Orderly.{items_carried}
+use Rattle.world_model.specs.SessionLaw.{Channel, sent_after, LeavesView}
+use Rattle.session_law.specs.Openings.{first_subscription, asks_for, opened_by}
 
 -- ---- the session law
 
@@ -25,8 +25,8 @@ use Rattle.session_law.specs.Openings.{opening, asks_for, opened_by}
 abbrev pub SessionsLeaveView : Plan → List Event → ℕ → StreamRef → List ℕ → Shown → List Sub → Type 0
 SessionsLeaveView plan events a s readers x subs =
     (k : ℕ) (sub : Sub) → slice_get subs k ≡ Some sub → IfSome (link_of sub) (λ l.
-    let line : Line = record { sender = a; reader = nth 0 readers k; sess = l.0 } in
-    LeavesView plan s (opened_by line (opening line) (new_world plan) events) x (sent_after line [] (new_world plan) events))
+    let line : Channel = record { sender = a; reader = nth 0 readers k; sess = l.0 } in
+    LeavesView plan s (opened_by line (first_subscription line) (new_world plan) events) x (sent_after line [] (new_world plan) events))
 
 abbrev pub SessionLawOf : Plan → List Event → World → ℕ → Role → Type 0
 SessionLawOf plan events w a (IsSource s) =
@@ -64,15 +64,15 @@ tentative_output w a Nobody = []
 abbrev pub NoneInvented : World → Event → Type 0
 NoneInvented w e =
     let next = happens w e in
-    All (λ (x : Envelope). TentativesStand (tentative_output next x.sender (role_of next.plan x.sender)) (items_of x.packet)) (drop (length w.envelopes) next.envelopes)
+    All (λ (x : Envelope). TentativesStand (tentative_output next x.sender (role_of next.plan x.sender)) (items_carried x.packet)) (drop (length w.envelopes) next.envelopes)
 
 abbrev pub NoneIsInvented : Plan → List Event → Type 0
 NoneIsInvented plan events = EachStep NoneInvented (new_world plan) events
 
 -- ---- who asked for a session
 
--- the subscription that a session was opened by is that of the opening, or one that its reader sent to its sender
-abbrev pub WasAsked : Plan → List Event → Line → Type 0
+-- the subscription that a session was opened by is that of the first_subscription, or one that its reader sent to its sender
+abbrev pub WasAsked : Plan → List Event → Channel → Type 0
 WasAsked plan events l =
-    let asked = opened_by l (opening l) (new_world plan) events in
-    (asked ≡ opening l) ⊎ ((k : ℕ) × (e : Envelope) × (slice_get (run plan events).envelopes k ≡ Some e) × (asks_for l e ≡ Some asked))
+    let asked = opened_by l (first_subscription l) (new_world plan) events in
+    (asked ≡ first_subscription l) ⊎ ((k : ℕ) × (e : Envelope) × (slice_get (run plan events).envelopes k ≡ Some e) × (asks_for l e ≡ Some asked))

@@ -5,7 +5,7 @@ ghost use Rattle.std.specs.Prelude.{List};
 ghost use Rattle.dpc_model.specs.declared.messages.Event.{Event};
 ghost use Rattle.dpc_model.specs.declared.plans.Plan.{Plan};
 ghost use Rattle.world_safety.specs.Plans.{IsCheckedPlan};
-ghost use Rattle.world_model.specs.SessionLaw.{Line};
+ghost use Rattle.world_model.specs.SessionLaw.{Channel};
 ghost use Rattle.session_law.specs.Laws.{SessionLaw, NoneIsInvented, WasAsked};
 ghost use Rattle.session_law.specs.Agreement.{NoneDisagree};
 
@@ -16,7 +16,7 @@ pub fn every_session_leaves_the_view()
 
 /// And that subscription is the opening's, or one that the reader sent to the sender.
 pub fn every_session_was_asked_for()
-    ensures { (plan : Plan) (events : List Event) (l : Line) → WasAsked plan events l }
+    ensures { (plan : Plan) (events : List Event) (l : Channel) → WasAsked plan events l }
 {}
 
 /// Each tentative tuple that an event sends stands in its sender's tentative output after that event.

@@ -17,16 +17,16 @@ use Rattle.dpc_model.specs.declared.plans.StreamRef.TheVariants.{Source, Frag}
 use Rattle.dpc_model.specs.declared.operators.OpKind.TheVariants.{Filter}
 use Rattle.dpc_model.specs.declared.operators.Wire.TheVariants.{Port as from_port}
 use Rattle.node_model.specs.Nodes.{new_node, restarted_node, out_stable, out_view, out_tentative, ready}
-use Rattle.node_model.specs.NodeSteps.{entered, delivered, ticked_at}
-use Rattle.node_model.specs.Sources.{new_source, source_emits, source_releases, source_delivered, source_ticked}
+use Rattle.node_model.specs.NodeSteps.{enter_step, packet_step, tick_step}
+use Rattle.node_model.specs.Sources.{new_source, source_emits, source_releases, source_packet_step, source_tick_step}
 use Rattle.node_model.specs.Clients.{new_client}
 use Rattle.dpc_model.specs.Inlets.{take_batch}
 use Rattle.world_model.specs.Worlds.{Envelope, source_at, new_world, run}
-use Rattle.world_model.specs.SessionLaw.{Line, sent_after}
+use Rattle.world_model.specs.SessionLaw.{Channel, sent_after}
 use Rattle.world_model.specs.Orderly.{fits_stream}
 use Rattle.world_safety.specs.Plans.{IsCheckedPlan}
 use Rattle.worked_runs.proofs.Checking.{checked-one}
-use Rattle.session_law.specs.Openings.{opening, asks_for, opened_by}
+use Rattle.session_law.specs.Openings.{first_subscription, asks_for, opened_by}
 
 -- a source, a fragment that reads it by two ports, and a client
 abbrev plan : Plan
@@ -63,28 +63,28 @@ abbrev events : List Event
 events =
     Crash 1 ∷ Restart 1 2 ∷ Tick 1 0 ∷ Emit 0 4 ∷ Deliver 0 ∷ Deliver 6 ∷ Release 0 10 ∷ Tick 0 0 ∷ Tick 1 0 ∷ Tick 1 0 ∷ Tick 1 0 ∷ Deliver 8 ∷ Tick 1 0 ∷ Deliver 19 ∷ []
 
-abbrev line : Line
+abbrev line : Channel
 line = record { sender = 0; reader = 1; sess = sess_of 2 2 }
 
 -- the first subscription of a session that was sent
-abbrev first_asked : Line → List Envelope → Option Subscribe
+abbrev first_asked : Channel → List Envelope → Option Subscribe
 first_asked l [] = None
 first_asked l (e ∷ es) = elim (asks_for l e) [ None ↦ first_asked l es | Some asked ↦ Some asked ]
 
 first_is : first_asked line (run plan events).envelopes ≡ Some (record { sess = sess_of 2 2; n = 0; tentative = false })
-unfolding run new_world new_node restarted_node out_stable out_view out_tentative ready entered delivered ticked_at new_source source_emits source_releases source_delivered source_ticked new_client take_batch
+unfolding run new_world new_node restarted_node out_stable out_view out_tentative ready enter_step packet_step tick_step new_source source_emits source_releases source_packet_step source_tick_step new_client take_batch
 first_is = refl
 
-opened_is : opened_by line (opening line) (new_world plan) events ≡ record { sess = sess_of 2 2; n = 1; tentative = false }
-unfolding run new_world new_node restarted_node out_stable out_view out_tentative ready entered delivered ticked_at new_source source_emits source_releases source_delivered source_ticked new_client take_batch
+opened_is : opened_by line (first_subscription line) (new_world plan) events ≡ record { sess = sess_of 2 2; n = 1; tentative = false }
+unfolding run new_world new_node restarted_node out_stable out_view out_tentative ready enter_step packet_step tick_step new_source source_emits source_releases source_packet_step source_tick_step new_client take_batch
 opened_is = refl
 
 -- the source has it open
 is_open : slice_get (source_at (run plan events) 0).subs 0 ≡ Some (record { kept = Some (sess_of 2 2); is_open = true; batches = 1 })
-unfolding run new_world new_node restarted_node out_stable out_view out_tentative ready entered delivered ticked_at new_source source_emits source_releases source_delivered source_ticked new_client take_batch
+unfolding run new_world new_node restarted_node out_stable out_view out_tentative ready enter_step packet_step tick_step new_source source_emits source_releases source_packet_step source_tick_step new_client take_batch
 is_open = refl
 
 -- a reader that holds nothing, as the first one says, has no reading of what was sent
 unread : fold_items empty_reader (sent_after line [] (new_world plan) events) ≡ None
-unfolding run new_world new_node restarted_node out_stable out_view out_tentative ready entered delivered ticked_at new_source source_emits source_releases source_delivered source_ticked new_client take_batch
+unfolding run new_world new_node restarted_node out_stable out_view out_tentative ready enter_step packet_step tick_step new_source source_emits source_releases source_packet_step source_tick_step new_client take_batch
 unread = refl

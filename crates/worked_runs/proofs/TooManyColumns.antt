@@ -19,7 +19,7 @@ use Rattle.dpc_model.specs.declared.operators.Wire.TheVariants.{Port as from_por
 use Rattle.dpc_model.specs.declared.messages.NodeState.TheVariants.{Stable}
 use Rattle.dpc_model.specs.declared.tuples.Tagged.{Tagged}
 use Rattle.node_model.specs.Nodes.{Home, PlainNode, view_cursor, buckets_of, out_stable, out_view, out_tentative, ready}
-use Rattle.node_model.specs.NodeSteps.{ticked_at, entered}
+use Rattle.node_model.specs.NodeSteps.{tick_step, enter_step}
 use Rattle.world_model.specs.Worlds.{from}
 use Rattle.world_model.specs.Safe.{IsSafeNode}
 use Rattle.world_model.specs.Orderly.{is_tentative_past, has_state_of_closed, recovers_empty, stamps_in_place, base_follows, has_shape, lies_in, is_serial, is_fitting}
@@ -93,6 +93,6 @@ safe =
     }
 
 -- at clock 20 its tick sends a tuple that does not fit
-sends_wrong : list_all (is_fitting plan) (map (from 1) (ticked_at home 20 node).sends) ≡ false
-unfolding ticked_at ready out_stable out_view out_tentative entered
+sends_wrong : list_all (is_fitting plan) (map (from 1) (tick_step home 20 node).sends) ≡ false
+unfolding tick_step ready out_stable out_view out_tentative enter_step
 sends_wrong = refl

@@ -9,7 +9,7 @@ use Rattle.dpc_model.specs.declared.messages.Event.TheVariants.{Phase, Crash, Re
 use Rattle.node_model.specs.Clients.{ClientState, reader_of}
 use Rattle.world_model.specs.Worlds.{World, Envelope, run}
 use Rattle.world_model.specs.Safe.{packet_done}
-use Rattle.world_model.specs.Orderly.{items_of}
+use Rattle.world_model.specs.Orderly.{items_carried}
 use Rattle.world_model.specs.Schedules.{lock_of, is_live, is_live_so_far, may}
 use Rattle.worked_runs.specs.Opened.{all_opened}
 use Rattle.worked_runs.specs.BothAsk.{script as both_ask}
@@ -43,7 +43,7 @@ is_tentative RecDone = false
 -- tentative tuples were sent, and every client holds stable tuples
 abbrev is_eventful : World → Bool
 is_eventful w =
-    list_any (λ (e : Envelope). list_any is_tentative (items_of e.packet)) w.envelopes && list_all (λ (x : ClientState). not (is_nil (reader_of x).stable)) w.clients
+    list_any (λ (e : Envelope). list_any is_tentative (items_carried e.packet)) w.envelopes && list_all (λ (x : ClientState). not (is_nil (reader_of x).stable)) w.clients
 
 abbrev has_sent_done : World → Bool
 has_sent_done w = list_any (λ (e : Envelope). packet_done e.packet) w.envelopes

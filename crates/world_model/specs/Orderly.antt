@@ -57,15 +57,15 @@ item_fits plan s (Boundary b m) = nat_le b plan.end
 item_fits plan s (Undo n) = true
 item_fits plan s RecDone = true
 
-abbrev pub items_of : Packet → List Item
-items_of (Plain (message.Batch s index items)) = items
-items_of (Plain m) = []
-items_of (SnapFor i try s) = []
+abbrev pub items_carried : Packet → List Item
+items_carried (Plain (message.Batch s index items)) = items
+items_carried (Plain m) = []
+items_carried (SnapFor i try s) = []
 
 abbrev pub carries_fitting : Plan → Role → Packet → Bool
-carries_fitting plan (IsSource s) p = list_all (item_fits plan (Source s)) (items_of p)
-carries_fitting plan (IsNode f r) p = list_all (item_fits plan (Frag f)) (items_of p)
-carries_fitting plan (IsClient c) p = is_nil (items_of p)
+carries_fitting plan (IsSource s) p = list_all (item_fits plan (Source s)) (items_carried p)
+carries_fitting plan (IsNode f r) p = list_all (item_fits plan (Frag f)) (items_carried p)
+carries_fitting plan (IsClient c) p = is_nil (items_carried p)
 carries_fitting plan Nobody p = false
 
 abbrev pub is_fitting : Plan → Envelope → Bool

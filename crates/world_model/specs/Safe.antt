@@ -20,7 +20,7 @@ use Rattle.dpc_model.specs.Sessions.{Sub, link_of, given_items}
 use Rattle.node_model.specs.Mails.{Snap, Packet, Plain, SnapFor, Mail, mail, Stepped}
 use Rattle.dpc_model.specs.NodeStates.{is_stable, is_stabilization}
 use Rattle.node_model.specs.Nodes.{Home, PlainNode, streams_of, own_readers, held_by, out_stable, out_tentative, due_at}
-use Rattle.node_model.specs.NodeSteps.{given_by, ticked_at}
+use Rattle.node_model.specs.NodeSteps.{given_by, tick_step}
 use Rattle.node_model.specs.Clients.{ClientState, client_stream, reader_of}
 use Rattle.world_model.specs.Worlds.{World, Envelope, Slot, home_of, slot_of, new_world, happens, run, is_clock}
 
@@ -175,7 +175,7 @@ pub record Serves (home : Home) (now : ℕ) (n : PlainNode) (s : Stepped PlainNo
 
 abbrev pub ServesAt : World → ℕ → ℕ → Role → Type 0
 ServesAt w a now (IsNode f r) =
-    IfSome (slot_of w a).node (λ n. let home = home_of w.plan (f, r) in let s = ticked_at home now n in
+    IfSome (slot_of w a).node (λ n. let home = home_of w.plan (f, r) in let s = tick_step home now n in
     IsTrue (is_clock n.clock now) → is_stabilization s.after.state ≡ false → Serves home now n s)
 ServesAt w a now (IsSource s) = ⊤
 ServesAt w a now (IsClient c) = ⊤

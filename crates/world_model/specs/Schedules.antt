@@ -142,7 +142,7 @@ lockstep script = tell_rest script (tell_phases 1 0 script.phases (record { worl
 -- ---- which event may come next
 
 -- an envelope that still has deliveries to come; it is pending where it was sent before the phase began
-pub record Waiting : Type 0 where
+pub record Undelivered : Type 0 where
   pub number : ℕ
   pub left : ℕ
   pub pending : Bool
@@ -153,13 +153,13 @@ pub record Progress : Type 0 where
   -- the number of phases that were opened, and the directives of the last one that have events still to come
   pub phase : ℕ
   pub todo : List Directive
-  pub waiting : List Waiting
+  pub waiting : List Undelivered
   -- the actors that had their tick in this phase, and the cursors that nodes must reach in it
   pub ticked : List ℕ
   pub targets : List (ℕ × ℕ)
 
-abbrev pub opening : Script → Progress
-opening script = record { world = new_world script.plan; phase = 0; todo = []; waiting = []; ticked = []; targets = [] }
+abbrev pub first_progress : Script → Progress
+first_progress script = record { world = new_world script.plan; phase = 0; todo = []; waiting = []; ticked = []; targets = [] }
 
 -- whether a directive has an event
 abbrev pub has_event : Directive → Bool
@@ -175,24 +175,24 @@ has_event (directive.Restart a) = true
 -- ---- what an event makes of it
 
 -- the envelopes that become pending: those sent in the last phase that still wait
-abbrev pub becomes_pending : World → List Directive → Waiting → Waiting
+abbrev pub becomes_pending : World → List Directive → Undelivered → Undelivered
 becomes_pending w directives x =
     record x { pending = true; left = if list_any (repeats (slice_get w.envelopes x.number)) directives then 2 else 1 }
 
-abbrev pub is_lost : World → List Directive → Waiting → Bool
+abbrev pub is_lost : World → List Directive → Undelivered → Bool
 is_lost w directives x = list_any (loses (slice_get w.envelopes x.number)) directives
 
-abbrev pub pending_in : World → List Directive → List Waiting → List Waiting
+abbrev pub pending_in : World → List Directive → List Undelivered → List Undelivered
 pending_in w directives xs =
-    map (becomes_pending w directives) (filter (λ (x : Waiting). not x.pending && not (is_lost w directives x)) xs)
+    map (becomes_pending w directives) (filter (λ (x : Undelivered). not x.pending && not (is_lost w directives x)) xs)
 
 -- one delivery of an envelope was made
-abbrev pub delivery_made : ℕ → List Waiting → List Waiting
+abbrev pub delivery_made : ℕ → List Undelivered → List Undelivered
 delivery_made k [] = []
 delivery_made k (x ∷ xs) = if x.number == k then (if x.left == 1 then xs else record x { left = x.left - 1 } ∷ xs) else x ∷ delivery_made k xs
 
 -- the envelopes that an event sent
-abbrev pub newly_sent : World → World → List Waiting
+abbrev pub newly_sent : World → World → List Undelivered
 newly_sent old new =
     map (λ k. record { number = k; left = 1; pending = false }) (range_with_len (length old.envelopes) (length new.envelopes - length old.envelopes))
 
@@ -237,8 +237,8 @@ noting script x (Restart a i) = record x { todo = drop 1 x.todo }
 abbrev pub directives_done : Progress → Progress → Bool
 directives_done old new = not (is_nil old.todo) && is_nil new.todo
 
-abbrev pub progressed : Script → Progress → Event → Progress
-progressed script x e =
+abbrev pub next_progress : Script → Progress → Event → Progress
+next_progress script x e =
     let y = noting script x e in
     let w = happens x.world e in
     record y {
@@ -275,11 +275,11 @@ same_way None e = false
 same_way (Some d) e = goes d.sender d.to e
 
 -- the first envelope that waits and goes the same way has this number
-abbrev pub is_first_of_its_way : World → ℕ → List Waiting → Bool
+abbrev pub is_first_of_its_way : World → ℕ → List Undelivered → Bool
 is_first_of_its_way w k xs =
-    elim (place_of (λ (x : Waiting). same_way (slice_get w.envelopes k) (slice_get w.envelopes x.number)) xs) [
+    elim (place_of (λ (x : Undelivered). same_way (slice_get w.envelopes k) (slice_get w.envelopes x.number)) xs) [
       | None ↦ false
-      | Some i ↦ nth false (map (λ (x : Waiting). x.number == k) xs) i
+      | Some i ↦ nth false (map (λ (x : Undelivered). x.number == k) xs) i
     ]
 
 abbrev pub may_deliver : Progress → ℕ → Bool
@@ -296,7 +296,7 @@ abbrev pub all_ticked : Progress → Bool
 all_ticked x = list_all (λ a. not (is_up x.world a) || has x.ticked a) (actors_of x.world.plan)
 
 abbrev pub all_delivered : Progress → Bool
-all_delivered x = list_all (λ (y : Waiting). not y.pending || not (may_come x.world (slice_get x.world.envelopes y.number))) x.waiting
+all_delivered x = list_all (λ (y : Undelivered). not y.pending || not (may_come x.world (slice_get x.world.envelopes y.number))) x.waiting
 
 abbrev pub all_milled : Progress → Bool
 all_milled x = list_all (λ (t : ℕ × ℕ). nat_le t.1 (elim (node_at x.world t.0) [ None ↦ t.1 | Some n ↦ n.cursor ])) x.targets
@@ -327,10 +327,10 @@ may_follow script x (Restart a i) = is_next x (Restart a i)
 -- the progress after a list of events
 abbrev pub progress_from : Script → Progress → List Event → Progress
 progress_from script x [] = x
-progress_from script x (e ∷ events) = progress_from script (progressed script x e) events
+progress_from script x (e ∷ events) = progress_from script (next_progress script x e) events
 
 unfoldable pub progress : Script → List Event → Progress
-progress script events = progress_from script (opening script) events
+progress script events = progress_from script (first_progress script) events
 
 -- an event may come after these
 unfoldable pub may : Script → List Event → Event → Bool
@@ -338,11 +338,11 @@ may script events e = may_follow script (progress script events) e
 
 abbrev pub follows_from : Script → Progress → List Event → Bool
 follows_from script x [] = true
-follows_from script x (e ∷ events) = may_follow script x e && follows_from script (progressed script x e) events
+follows_from script x (e ∷ events) = may_follow script x e && follows_from script (next_progress script x e) events
 
 -- each event may follow those before it
 unfoldable pub is_live_so_far : Script → List Event → Bool
-is_live_so_far script events = follows_from script (opening script) events
+is_live_so_far script events = follows_from script (first_progress script) events
 
 -- and the run is at its end
 unfoldable pub is_live : Script → List Event → Bool

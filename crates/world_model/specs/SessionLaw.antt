@@ -18,12 +18,12 @@ use Rattle.world_model.specs.Worlds.{World, Envelope, happens, is_up}
 use Rattle.dpc_model.specs.Sessions.{Shown}
 
 -- a session between a sender and a reader
-pub record Line : Type 0 where
+pub record Channel : Type 0 where
   pub sender : ℕ
   pub reader : ℕ
   pub sess : Sess
 
-abbrev pub items_for : Line → Message → List Item
+abbrev pub items_for : Channel → Message → List Item
 items_for l (message.Batch s index items) = if same_sess s l.sess then items else []
 items_for l (message.Subscribe asked) = []
 items_for l (message.Truncated s base) = []
@@ -33,21 +33,21 @@ items_for l (message.Ask i n) = []
 items_for l (message.Grant i n) = []
 items_for l (message.SnapAsk i n) = []
 
-abbrev pub packet_items : Line → Packet → List Item
+abbrev pub packet_items : Channel → Packet → List Item
 packet_items l (Plain m) = items_for l m
 packet_items l (SnapFor i try s) = []
 
 -- the items that these envelopes carry in a session
-abbrev pub carried : Line → List Envelope → List Item
+abbrev pub carried : Channel → List Envelope → List Item
 carried l [] = []
 carried l (e ∷ es) = (if e.sender == l.sender && e.to == l.reader then packet_items l e.packet else []) ++ carried l es
 
 -- the sender was up and is down
-abbrev pub goes_down : Line → World → World → Bool
+abbrev pub goes_down : Channel → World → World → Bool
 goes_down l old new = is_up old l.sender && not (is_up new l.sender)
 
 -- all items that the sender sent in a session since it last went down, behind those that it sent before these events
-abbrev pub sent_after : Line → List Item → World → List Event → List Item
+abbrev pub sent_after : Channel → List Item → World → List Event → List Item
 sent_after l items w [] = items
 sent_after l items w (e ∷ events) =
     let next = happens w e in

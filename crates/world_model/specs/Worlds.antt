@@ -11,9 +11,9 @@ use Rattle.dpc_model.specs.declared.plans.Plan.{Plan}
 use Rattle.node_model.specs.Mails.{Snap, Packet, Plain, SnapFor, Mail, Stepped}
 use Rattle.node_model.specs.Stands.{snap_output}
 use Rattle.node_model.specs.Nodes.{Home, PlainNode, new_node, restarted_node, ready}
-use Rattle.node_model.specs.NodeSteps.{delivered, milled, ticked_at}
-use Rattle.node_model.specs.Sources.{SourceState, new_source, source_emits, source_releases, source_delivered, source_ticked}
-use Rattle.node_model.specs.Clients.{ClientState, new_client, client_delivered, client_ticked, client_settled}
+use Rattle.node_model.specs.NodeSteps.{packet_step, mill_step, tick_step}
+use Rattle.node_model.specs.Sources.{SourceState, new_source, source_emits, source_releases, source_packet_step, source_tick_step}
+use Rattle.node_model.specs.Clients.{ClientState, new_client, client_after_packet, client_tick_step, client_settled}
 
 -- ---- the world
 
@@ -163,12 +163,12 @@ restarts w a i Nobody = w
 -- the addressee takes an envelope that comes to it
 abbrev pub node_takes : World → Envelope → Home → Option PlainNode → World
 node_takes w e home None = w
-node_takes w e home (Some n) = node_stepped e.to (delivered home e.sender e.packet n) w
+node_takes w e home (Some n) = node_stepped e.to (packet_step home e.sender e.packet n) w
 
 abbrev pub taken_by : World → Envelope → Role → World
-taken_by w e (IsSource s) = source_stepped e.to (source_delivered w.plan s e.sender e.packet (source_at w s)) w
+taken_by w e (IsSource s) = source_stepped e.to (source_packet_step w.plan s e.sender e.packet (source_at w s)) w
 taken_by w e (IsNode f r) = node_takes w e (home_of w.plan (f, r)) (slot_of w e.to).node
-taken_by w e (IsClient c) = record w { clients = changed c (client_delivered w.plan c e.sender e.packet) w.clients }
+taken_by w e (IsClient c) = record w { clients = changed c (client_after_packet w.plan c e.sender e.packet) w.clients }
 taken_by w e Nobody = w
 
 -- an envelope comes only over a link that is up, to an actor that is up
@@ -185,12 +185,12 @@ is_clock old now = nat_le old now && nat_le now (2 ^ 40)
 
 abbrev pub node_ticks : World → ℕ → ℕ → Home → Option PlainNode → World
 node_ticks w a now home None = w
-node_ticks w a now home (Some n) = if is_clock n.clock now then node_stepped a (ticked_at home now n) w else w
+node_ticks w a now home (Some n) = if is_clock n.clock now then node_stepped a (tick_step home now n) w else w
 
 abbrev pub ticks : World → ℕ → ℕ → Role → World
-ticks w a now (IsSource s) = if is_clock (source_at w s).clock now then source_stepped a (source_ticked w.plan s now (source_at w s)) w else w
+ticks w a now (IsSource s) = if is_clock (source_at w s).clock now then source_stepped a (source_tick_step w.plan s now (source_at w s)) w else w
 ticks w a now (IsNode f r) = node_ticks w a now (home_of w.plan (f, r)) (slot_of w a).node
-ticks w a now (IsClient c) = if is_clock (client_at w c).clock now then client_stepped a c (client_ticked w.plan c now (client_at w c)) w else w
+ticks w a now (IsClient c) = if is_clock (client_at w c).clock now then client_stepped a c (client_tick_step w.plan c now (client_at w c)) w else w
 ticks w a now Nobody = w
 
 abbrev pub can_mill : Home → ℕ → PlainNode → Bool
@@ -198,7 +198,7 @@ can_mill home r n = may_be_milled r (ready home n)
 
 abbrev pub node_mills : World → ℕ → ℕ → Home → Option PlainNode → World
 node_mills w a r home None = w
-node_mills w a r home (Some n) = if can_mill home r n then node_stepped a (milled home r n) w else w
+node_mills w a r home (Some n) = if can_mill home r n then node_stepped a (mill_step home r n) w else w
 
 abbrev pub mills : World → ℕ → ℕ → Role → World
 mills w a r (IsNode f q) = node_mills w a r (home_of w.plan (f, q)) (slot_of w a).node

@@ -2,18 +2,18 @@
 use Rattle.std.proofs.Common.{◌≡◌, ℕ, ◌*◌, ◌≤◌, true, false, cond, ◌&&◌, ◌||◌, nat_lt, nat_le, nat_eq as eqb, List, [], ◌∷◌, length, refl, sym, ◌∙◌, arith, Option, Some, None, slice_get, ◌⊎◌, inl, inr}
 use Rattle.dpc_model.specs.Lists.{list_all, push}
 use Rattle.dpc_model.specs.Reading.{Reader, NoReading, Skipped, Taken, reading, is_sure, Folded, fold_items, taken_first, tuples_in}
-use Rattle.dpc_model.specs.Inlets.{InletState, Took, take_batch, is_old, broken_by, used}
+use Rattle.dpc_model.specs.Inlets.{InletState, AfterBatch, take_batch, is_old, after_missing_batch, after_next_batch}
 use Rattle.dpc_model.specs.declared.batches.Taken.{Taken as Answer}
 use Rattle.dpc_model.specs.declared.batches.Taken.TheVariants.{Used, Old, Broken}
 use Rattle.dpc_model.specs.declared.tuples.Item.{Item}
 use Rattle.dpc_model.specs.declared.tuples.Item.TheVariants.{Stable, Tentative, Passed, Boundary, Undo, RecDone}
 use Rattle.dpc_model.specs.declared.messages.Sess.{Sess}
-use Rattle.dpc_model.specs.Due.{stamped_all}
+use Rattle.dpc_model.specs.Due.{with_stamps}
 use Rattle.dpc_model.specs.Ports.{Port, held_at}
 use Rattle.dpc_model.specs.declared.plans.Plan.{Plan}
 use Rattle.dpc_model.specs.declared.plans.StreamRef.{StreamRef}
 use Rattle.node_model.specs.Nodes.{Home, PlainNode, streams_of, out_stable}
-use Rattle.node_model.specs.NodeSteps.{with_port, stamped_by, took}
+use Rattle.node_model.specs.NodeSteps.{with_port, with_stamps_of, after_taking}
 use Rattle.world_model.specs.Safe.{HoldsOf, AreTrueItems}
 use Rattle.world_model.specs.Orderly.{is_port_sound, item_fits}
 use Rattle.world_safety.proofs.Milling.{IsSafeNode-same}
@@ -76,16 +76,16 @@ fold_items-bound r (i ∷ items) f e =
           ]) refl d
     ]) refl e
 
-used-bound : (inlet : InletState) (items : List Item) (o : Option Folded) → fold_items inlet.held items ≡ o → inlet.held.bound ≤ (used inlet o).after.held.bound
+used-bound : (inlet : InletState) (items : List Item) (o : Option Folded) → fold_items inlet.held items ≡ o → inlet.held.bound ≤ (after_next_batch inlet o).after.held.bound
 used-bound inlet items None e = omega arith
 used-bound inlet items (Some f) e = fold_items-bound inlet.held items f e
 
 pub take_batch-bound : (inlet : InletState) (u : Sess) (index : ℕ) (items : List Item) → inlet.held.bound ≤ (take_batch inlet u index items).after.held.bound
 unfolding take_batch
 take_batch-bound inlet u index items =
-    elim (is_old inlet u index) as (λ c. inlet.held.bound ≤ (cond c (record { after = inlet; answer = Old }) (cond (inlet.broken || nat_lt inlet.next index) (broken_by inlet) (used inlet (fold_items inlet.held items)))).after.held.bound) [
+    elim (is_old inlet u index) as (λ c. inlet.held.bound ≤ (cond c (record { after = inlet; answer = Old }) (cond (inlet.broken || nat_lt inlet.next index) (after_missing_batch inlet) (after_next_batch inlet (fold_items inlet.held items)))).after.held.bound) [
       | true ↦ omega arith
-      | false ↦ elim (inlet.broken || nat_lt inlet.next index) as (λ c. inlet.held.bound ≤ (cond c (broken_by inlet) (used inlet (fold_items inlet.held items))).after.held.bound) [
+      | false ↦ elim (inlet.broken || nat_lt inlet.next index) as (λ c. inlet.held.bound ≤ (cond c (after_missing_batch inlet) (after_next_batch inlet (fold_items inlet.held items))).after.held.bound) [
         | true ↦ omega arith
         | false ↦ used-bound inlet items (fold_items inlet.held items) refl
       ]
@@ -96,8 +96,8 @@ pub take_batch-broken : (inlet : InletState) (u : Sess) (index : ℕ) (items : L
     (take_batch inlet u index items ≡ record { after = inlet; answer = Old }) ⊎ (take_batch inlet u index items ≡ record { after = inlet; answer = Broken })
 unfolding take_batch
 take_batch-broken inlet u index items e =
-    elim (is_old inlet u index) as (λ c. (cond c (record { after = inlet; answer = Old }) (cond (inlet.broken || nat_lt inlet.next index) (broken_by inlet) (used inlet (fold_items inlet.held items))) ≡ record { after = inlet; answer = Old })
-    ⊎ (cond c (record { after = inlet; answer = Old }) (cond (inlet.broken || nat_lt inlet.next index) (broken_by inlet) (used inlet (fold_items inlet.held items))) ≡ record { after = inlet; answer = Broken })) [
+    elim (is_old inlet u index) as (λ c. (cond c (record { after = inlet; answer = Old }) (cond (inlet.broken || nat_lt inlet.next index) (after_missing_batch inlet) (after_next_batch inlet (fold_items inlet.held items))) ≡ record { after = inlet; answer = Old })
+    ⊎ (cond c (record { after = inlet; answer = Old }) (cond (inlet.broken || nat_lt inlet.next index) (after_missing_batch inlet) (after_next_batch inlet (fold_items inlet.held items))) ≡ record { after = inlet; answer = Broken })) [
       | true ↦ inl refl
       | false ↦ inr (rw e refl)
     ]
@@ -106,12 +106,12 @@ take_batch-broken inlet u index items e =
 
 -- the answer's tuples stamp their buckets
 stamped-good : (home : Home) (most : ℕ) (s : StreamRef) (answer : Answer) (n : PlainNode) → IsPlace home → n.recovering ≡ false →
-    ((items : List Item) → answer ≡ Used items → list_all (item_fits home.plan s) items ≡ true) → IsGood home most n → IsGood home most (stamped_by home answer n)
+    ((items : List Item) → answer ≡ Used items → list_all (item_fits home.plan s) items ≡ true) → IsGood home most n → IsGood home most (with_stamps_of home answer n)
 unfolding out_stable
 stamped-good home most s (Used items) n place up fits g =
     let o = g.orderly in
     record {
-      safe = IsSafeNode-same home n (record n { stamps = stamped_all home.plan.width n.cursor n.clock n.stamps (tuples_in items) }) refl refl refl refl g.safe;
+      safe = IsSafeNode-same home n (record n { stamps = with_stamps home.plan.width n.cursor n.clock n.stamps (tuples_in items) }) refl refl refl refl g.safe;
       orderly = record {
         ports = o.ports;
         state = o.state;
@@ -150,8 +150,8 @@ port-good home most p s f n place up at holds grows sound g =
       };
     }
 
--- a port whose inlet took a batch
-pub took-sound : (plan : Plan) (s : StreamRef) (i most : ℕ) (q : Port) (t : Took) → TookSoundly plan s q.inlet t → is_port_sound plan s i most q ≡ true → is_port_sound plan s i most (record q { inlet = t.after }) ≡ true
+-- a port whose inlet after_taking a batch
+pub took-sound : (plan : Plan) (s : StreamRef) (i most : ℕ) (q : Port) (t : AfterBatch) → TookSoundly plan s q.inlet t → is_port_sound plan s i most q ≡ true → is_port_sound plan s i most (record q { inlet = t.after }) ≡ true
 took-sound plan s i most q t h sound =
     let p = port-of plan s i most q sound in
     port-test plan s i most (record q { inlet = t.after })
@@ -159,7 +159,7 @@ took-sound plan s i most q t h sound =
 
 pub took-good : (home : Home) (most p : ℕ) (s : StreamRef) (q : Port) (u : Sess) (index : ℕ) (items : List Item) (n : PlainNode) → IsPlace home → n.recovering ≡ false →
     slice_get (streams_of home) p ≡ Some s → slice_get n.ports p ≡ Some q → AreTrueItems home.plan s items → list_all (item_fits home.plan s) items ≡ true →
-    is_port_sound home.plan s n.grants.inc most q ≡ true → IsGood home most n → IsGood home most (took home p (take_batch q.inlet u index items) n)
+    is_port_sound home.plan s n.grants.inc most q ≡ true → IsGood home most n → IsGood home most (after_taking home p (take_batch q.inlet u index items) n)
 took-good home most p s q u index items n place up at there truth fits sound g =
     let t = take_batch q.inlet u index items in
     let k = port-of home.plan s n.grants.inc most q sound in

@@ -5,7 +5,7 @@ use Rattle.dpc_model.specs.Lists.{nth}
 use Rattle.dpc_model.specs.declared.tuples.Item.{Item}
 use Rattle.dpc_model.specs.declared.messages.Sess.{Sess}
 use Rattle.dpc_model.specs.declared.messages.Message.TheVariants as message
-use Rattle.dpc_model.specs.Sessions.{Sub, link_of, counted, batches_from}
+use Rattle.dpc_model.specs.Sessions.{Sub, link_of, with_batch, batches_from}
 use Rattle.node_model.specs.Mails.{Mail, mail, to_readers}
 use Rattle.node_model.specs.Nodes.{Home, PlainNode, own_readers}
 use Rattle.node_model.specs.NodeSteps.{give}
@@ -44,8 +44,8 @@ batch-carried readers k (suc i) items (s ∷ subs) sub l e f =
 
 -- ---- the sessions after it
 
--- the session in whose place a counted one stands
-counted-from : (subs : List Sub) (k : ℕ) (sub : Sub) → slice_get (map counted subs) k ≡ Some sub → (old : Sub) × (slice_get subs k ≡ Some old) × (sub ≡ counted old)
+-- the session in whose place a with_batch one stands
+counted-from : (subs : List Sub) (k : ℕ) (sub : Sub) → slice_get (map with_batch subs) k ≡ Some sub → (old : Sub) × (slice_get subs k ≡ Some old) × (sub ≡ with_batch old)
 counted-from [] k sub e = cc
 counted-from (s ∷ subs) zero sub e = (s, refl, cc)
 counted-from (s ∷ subs) (suc k) sub e = counted-from subs k sub e
@@ -55,10 +55,10 @@ abbrev pub IsGivenIn : List Mail → List Sub → List ℕ → List Item → ℕ
 IsGivenIn ms subs readers items k = (sub : Sub) → slice_get subs k ≡ Some sub → IfSome (link_of sub) (CarriesLast ms (nth 0 readers k) items)
 
 counted-given : (ms : List Mail) (to : ℕ) (items : List Item) (old : Sub) → ((l : Sess × ℕ) → link_of old ≡ Some l → Contains ms (mail to (message.Batch l.0 l.1 items))) →
-    IfSome (link_of (counted old)) (CarriesLast ms to items)
+    IfSome (link_of (with_batch old)) (CarriesLast ms to items)
 counted-given ms to items old h = by-parts old.kept old.is_open refl refl
   where
-    by-parts : (kept : Option Sess) (is_open : Bool) → old.kept ≡ kept → old.is_open ≡ is_open → IfSome (link_of (counted old)) (CarriesLast ms to items)
+    by-parts : (kept : Option Sess) (is_open : Bool) → old.kept ≡ kept → old.is_open ≡ is_open → IfSome (link_of (with_batch old)) (CarriesLast ms to items)
     by-parts None true e f = rw (f, e) tt
     by-parts None false e f = rw (f, e) tt
     by-parts (Some s) false e f = rw (f, e) tt

@@ -3,9 +3,9 @@ use Rattle.std.proofs.Common.{◌≡◌, ℕ, zero, suc, ◌+◌, ◌≤◌, tru
 use Rattle.std.specs.Prelude.{IsTrue}
 use Rattle.dpc_model.specs.Lists.{list_all, place_of}
 use Rattle.dpc_model.specs.Reading.{Reader, empty_reader, NoReading, Skipped, Taken, reading, is_sure, Folded, fold_items, taken_first}
-use Rattle.dpc_model.specs.Inlets.{InletState, Took, take_batch, is_old, broken_by, used, new_inlet}
+use Rattle.dpc_model.specs.Inlets.{InletState, AfterBatch, take_batch, is_old, after_missing_batch, after_next_batch, new_inlet}
 use Rattle.dpc_model.specs.Actors.{IsClient, role_of, senders_of, inputs_of, reads_from}
-use Rattle.dpc_model.specs.Ports.{held_at, marks_ended, port_ticked, port_chosen, subscriptions, acks_to}
+use Rattle.dpc_model.specs.Ports.{held_at, without_ended_marks, port_after_tick, port_after_choice, subscriptions, acks_to}
 use Rattle.dpc_model.specs.declared.batches.Taken.{Taken as Answer}
 use Rattle.dpc_model.specs.declared.batches.Taken.TheVariants.{Used, Old, Broken}
 use Rattle.dpc_model.specs.declared.tuples.Item.{Item}
@@ -17,7 +17,7 @@ use Rattle.dpc_model.specs.declared.plans.Plan.{Plan}
 use Rattle.dpc_model.specs.declared.plans.StreamRef.{StreamRef}
 use Rattle.dpc_model.proofs.Folding.{fold_items-taken}
 use Rattle.node_model.specs.Mails.{mails, Packet, Plain, SnapFor}
-use Rattle.node_model.specs.Clients.{ClientState, client_stream, new_client, reader_of, keeping, client_took, client_message, client_packet, client_marks_ended, client_delivered, client_ticked}
+use Rattle.node_model.specs.Clients.{ClientState, client_stream, new_client, reader_of, with_taken, client_after_batch, client_message, client_packet, client_marks_ended, client_after_packet, client_tick_step}
 use Rattle.world_model.specs.Safe.{IsTruePacket, TookDoneSurely, IsSafeClient}
 use Rattle.world_model.specs.Orderly.{is_port_sound, carries_fitting}
 use Rattle.world_safety.proofs.Senders.{sender_sends}
@@ -84,12 +84,12 @@ abbrev pub IsFolded : ClientState → Type 0
 IsFolded x = fold_items empty_reader x.taken ≡ Some (record { after = reader_of x; taken = x.taken })
 
 -- a batch's answer, from where the reader stood
-record TookFrom (r : Reader) (t : Took) : Type 0 where
+record TookFrom (r : Reader) (t : AfterBatch) : Type 0 where
   used : (items : List Item) → t.answer ≡ Used items → fold_items r items ≡ Some (record { after = t.after.held; taken = items })
   old : t.answer ≡ Old → t.after.held ≡ r
   broken : t.answer ≡ Broken → t.after.held ≡ r
 
-used-from : (inlet : InletState) (items : List Item) (o : Option Folded) → fold_items inlet.held items ≡ o → TookFrom inlet.held (used inlet o)
+used-from : (inlet : InletState) (items : List Item) (o : Option Folded) → fold_items inlet.held items ≡ o → TookFrom inlet.held (after_next_batch inlet o)
 used-from inlet items None e = record { used = λ xs f. cc; old = λ f. cc; broken = λ f. refl }
 used-from inlet items (Some g) e =
     record {
@@ -101,21 +101,21 @@ used-from inlet items (Some g) e =
 took-from : (inlet : InletState) (u : Sess) (index : ℕ) (items : List Item) → TookFrom inlet.held (take_batch inlet u index items)
 unfolding take_batch
 took-from inlet u index items =
-    elim (is_old inlet u index) as (λ c. TookFrom inlet.held (cond c (record { after = inlet; answer = Old }) (cond (inlet.broken || nat_lt inlet.next index) (broken_by inlet) (used inlet (fold_items inlet.held items))))) [
+    elim (is_old inlet u index) as (λ c. TookFrom inlet.held (cond c (record { after = inlet; answer = Old }) (cond (inlet.broken || nat_lt inlet.next index) (after_missing_batch inlet) (after_next_batch inlet (fold_items inlet.held items))))) [
       | true ↦ record { used = λ xs f. cc; old = λ f. refl; broken = λ f. cc }
-      | false ↦ elim (inlet.broken || nat_lt inlet.next index) as (λ c. TookFrom inlet.held (cond c (broken_by inlet) (used inlet (fold_items inlet.held items)))) [
+      | false ↦ elim (inlet.broken || nat_lt inlet.next index) as (λ c. TookFrom inlet.held (cond c (after_missing_batch inlet) (after_next_batch inlet (fold_items inlet.held items)))) [
         | true ↦ record { used = λ xs f. cc; old = λ f. cc; broken = λ f. refl }
         | false ↦ used-from inlet items (fold_items inlet.held items) refl
       ]
     ]
 
-keeping-folded : (t : Took) (x : ClientState) → IsFolded x → TookFrom (reader_of x) t → IsFolded (client_took t x)
+keeping-folded : (t : AfterBatch) (x : ClientState) → IsFolded x → TookFrom (reader_of x) t → IsFolded (client_after_batch t x)
 keeping-folded t x h k = by-answer t.answer refl
   where
     y : ClientState
     y = record x { port = record x.port { inlet = t.after } }
 
-    by-answer : (answer : Answer) → t.answer ≡ answer → IsFolded (keeping answer (record x { port = record x.port { inlet = t.after } }))
+    by-answer : (answer : Answer) → t.answer ≡ answer → IsFolded (with_taken answer (record x { port = record x.port { inlet = t.after } }))
     by-answer (Used items) e = fold-append empty_reader x.taken items (record { after = reader_of x; taken = x.taken }) (record { after = t.after.held; taken = items }) h (k.used items e)
     by-answer Old e = rw (k.old e) h
     by-answer Broken e = rw (k.broken e) h
@@ -134,7 +134,7 @@ record IsKept (plan : Plan) (c most : ℕ) (x : ClientState) : Type 0 where
 message-kept : (plan : Plan) (c most a r : ℕ) (m : Message) (x : ClientState) → place_of (λ b. a == b) (senders_of plan (client_stream plan c)) ≡ Some r → carries_fitting plan (role_of plan a) (Plain m) ≡ true →
     IsKept plan c most x → IsKept plan c most (client_message r m x)
 message-kept plan c most a r (message.Batch u index items) x place fits k =
-    elim (x.port.chosen == r) as (λ b. IsKept plan c most (cond b (client_took (take_batch x.port.inlet u index items) x) x)) [
+    elim (x.port.chosen == r) as (λ b. IsKept plan c most (cond b (client_after_batch (take_batch x.port.inlet u index items) x) x)) [
       | true ↦
           let t = take_batch x.port.inlet u index items in
           let s = client_stream plan c in
@@ -147,7 +147,7 @@ message-kept plan c most a r (message.Batch u index items) x place fits k =
       | false ↦ k
     ]
   where
-    keeping-sound : (answer : Answer) (y : ClientState) → is_port_sound plan (client_stream plan c) 1 most y.port ≡ true → is_port_sound plan (client_stream plan c) 1 most (keeping answer y).port ≡ true
+    keeping-sound : (answer : Answer) (y : ClientState) → is_port_sound plan (client_stream plan c) 1 most y.port ≡ true → is_port_sound plan (client_stream plan c) 1 most (with_taken answer y).port ≡ true
     keeping-sound (Used items) y h = h
     keeping-sound Old y h = h
     keeping-sound Broken y h = h
@@ -169,8 +169,8 @@ packet-kept : (plan : Plan) (c most a r : ℕ) (packet : Packet) (x : ClientStat
 packet-kept plan c most a r (Plain m) x place fits k = message-kept plan c most a r m x place fits k
 packet-kept plan c most a r (SnapFor i try snap) x place fits k = k
 
-delivered-kept : (plan : Plan) (c most a : ℕ) (packet : Packet) (x : ClientState) → carries_fitting plan (role_of plan a) packet ≡ true → IsKept plan c most x → IsKept plan c most (client_delivered plan c a packet x)
-unfolding client_delivered
+delivered-kept : (plan : Plan) (c most a : ℕ) (packet : Packet) (x : ClientState) → carries_fitting plan (role_of plan a) packet ≡ true → IsKept plan c most x → IsKept plan c most (client_after_packet plan c a packet x)
+unfolding client_after_packet
 delivered-kept plan c most a packet x fits k =
     let y = client_marks_ended x in
     let start : IsKept plan c most y = record { folded = k.folded; sound = marked-sound plan (client_stream plan c) 1 most x.port k.sound } in
@@ -181,10 +181,10 @@ delivered-kept plan c most a packet x fits k =
     ]) refl
 
 pub client_delivered-good : (plan : Plan) (c most a : ℕ) (packet : Packet) (x : ClientState) → IsTruePacket plan (role_of plan a) packet → carries_fitting plan (role_of plan a) packet ≡ true →
-    IsGoodClient plan c most x → IsGoodClient plan c most (client_delivered plan c a packet x)
+    IsGoodClient plan c most x → IsGoodClient plan c most (client_after_packet plan c a packet x)
 client_delivered-good plan c most a packet x truth fits g =
     let k = delivered-kept plan c most a packet x fits (record { folded = g.safe.folded; sound = g.sound }) in
-    let y = client_delivered plan c a packet x in
+    let y = client_after_packet plan c a packet x in
     record {
       safe = record { holds = client_delivered-holds plan c a packet x truth g.safe.holds; folded = k.folded; done = took-done y.taken (record { after = reader_of y; taken = y.taken }) k.folded };
       sound = k.sound;
@@ -198,16 +198,16 @@ pub record IsReading (plan : Plan) (c : ℕ) : Type 0 where
   pub sent : has_senders plan (client_stream plan c) ≡ true
 
 pub client_ticked-mails : (plan : Plan) (a c most now : ℕ) (x : ClientState) → role_of plan a ≡ IsClient c → IsReading plan c → is_port_sound plan (client_stream plan c) 1 most x.port ≡ true →
-    AreMails plan a ⊥ (client_ticked plan c now x).sends
-unfolding client_ticked
+    AreMails plan a ⊥ (client_tick_step plan c now x).sends
+unfolding client_tick_step
 client_ticked-mails plan a c most now x role reading sound =
     let s = client_stream plan c in
-    let port = port_ticked (marks_ended x.port) in
+    let port = port_after_tick (without_ended_marks x.port) in
     let at : Reads plan (IsClient c) (s ∷ []) = λ i u e. by-place i u e in
     mails-append plan a ⊥ (mails (subscriptions plan (port ∷ []) (s ∷ []))) (mails (acks_to plan 1 (length x.port.inlet.held.stable) s))
     (subscribed-mails plan a (IsClient c) 1 most (s ∷ []) (port ∷ [])
     (λ asked to way. record { truth = rw role tt; fits = rw role (both-of (reads_from plan (IsClient c) (role_of plan to)) true way refl); surely = λ e. cc }) at
-    (both-of (is_port_sound plan s 1 most port) true (ticked-sound plan s 1 most (marks_ended x.port) (marked-sound plan s 1 most x.port sound)) refl))
+    (both-of (is_port_sound plan s 1 most port) true (ticked-sound plan s 1 most (without_ended_marks x.port) (marked-sound plan s 1 most x.port sound)) refl))
     (acked-mails plan a (IsClient c) 1 (length x.port.inlet.held.stable) s
     (λ to way. record { truth = rw role tt; fits = rw role (both-of (reads_from plan (IsClient c) (role_of plan to)) true way refl); surely = λ e. cc }) (at 0 s refl))
   where
@@ -215,15 +215,15 @@ client_ticked-mails plan a c most now x role reading sound =
     by-place zero u e = senders-read plan (IsClient c) 0 u (reading.reads ∙ e)
     by-place (suc i) u e = cc
 
-pub client_ticked-good : (plan : Plan) (c most now : ℕ) (x : ClientState) → IsGoodClient plan c most x → IsGoodClient plan c (most + 1) (client_ticked plan c now x).after
-unfolding client_ticked
+pub client_ticked-good : (plan : Plan) (c most now : ℕ) (x : ClientState) → IsGoodClient plan c most x → IsGoodClient plan c (most + 1) (client_tick_step plan c now x).after
+unfolding client_tick_step
 client_ticked-good plan c most now x g =
     let s = client_stream plan c in
-    let port = port_ticked (marks_ended x.port) in
-    let held : held_at (port_chosen port) ≡ held_at port = chosen-held port in
+    let port = port_after_tick (without_ended_marks x.port) in
+    let held : held_at (port_after_choice port) ≡ held_at port = chosen-held port in
     record {
       safe = record { holds = rw held g.safe.holds; folded = rw held g.safe.folded; done = g.safe.done };
-      sound = chosen-sound plan s 1 most port (ticked-sound plan s 1 most (marks_ended x.port) (marked-sound plan s 1 most x.port g.sound));
+      sound = chosen-sound plan s 1 most port (ticked-sound plan s 1 most (without_ended_marks x.port) (marked-sound plan s 1 most x.port g.sound));
     }
 
 -- ---- the opening

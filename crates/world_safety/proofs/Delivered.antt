@@ -3,12 +3,12 @@ use Rattle.std.proofs.Common.{◌≡◌, ℕ, zero, suc, ◌+◌, Bool, true, fa
 use Rattle.std.proofs.lemmas.Grind.{common_steps}
 use Rattle.dpc_model.specs.Lists.{nth, changed, list_all, place_of}
 use Rattle.dpc_model.specs.Reading.{Reader}
-use Rattle.dpc_model.specs.Inlets.{same_sess, heard, take_batch}
-use Rattle.dpc_model.specs.Replicas.{marked, noted}
-use Rattle.dpc_model.specs.Granting.{grants, granted, told, heard_more, may_enter_by}
+use Rattle.dpc_model.specs.Inlets.{same_sess, after_link, take_batch}
+use Rattle.dpc_model.specs.Replicas.{with_mark, after_beat}
+use Rattle.dpc_model.specs.Granting.{grants, with_promise, after_peer_beat, later_key, may_enter_by}
 use Rattle.dpc_model.specs.Actors.{Role, IsSource, IsNode, IsClient, Nobody, role_of, are_peers, sends_stream, replicas_of}
 use Rattle.dpc_model.specs.Ports.{Port, held_at, sender_at, on_beat, on_truncated, all_truncated}
-use Rattle.dpc_model.specs.Sessions.{acked}
+use Rattle.dpc_model.specs.Sessions.{after_ack}
 use Rattle.dpc_model.specs.declared.batches.Taken.TheVariants.{Old, Broken}
 use Rattle.dpc_model.specs.declared.tuples.Item.{Item}
 use Rattle.dpc_model.specs.declared.messages.Sess.{Sess}
@@ -23,7 +23,7 @@ use Rattle.dpc_model.specs.declared.plans.StreamRef.TheVariants.{Source, Frag}
 use Rattle.node_model.specs.Mails.{Snap, Packet, Plain, SnapFor, mail, Stepped}
 use Rattle.dpc_model.specs.NodeStates.{is_up_failure, is_stabilization}
 use Rattle.node_model.specs.Nodes.{Home, PlainNode, streams_of, own_readers, held_by, out_stable}
-use Rattle.node_model.specs.NodeSteps.{silently, with_port, took, on_batch, on_subscribe, on_truncation, recovering_again, on_upstream_beat, on_peer_beat, on_ack, with_base, on_ask, on_grant, entered, on_snap_ask, snapshot, on_snap, adopted, reader_place, replica_number, on_message, on_packet, with_marks_ended, delivered}
+use Rattle.node_model.specs.NodeSteps.{silent_step, with_port, after_taking, on_batch, on_subscribe, on_truncation, after_loss, on_upstream_beat, on_peer_beat, on_ack, with_base, on_ask, on_grant, enter_step, on_snap_ask, snapshot, on_snap, after_adoption, reader_place, replica_number, on_message, on_packet, with_marks_ended, packet_step}
 use Rattle.world_model.specs.Safe.{IsTruePacket, IsTrueSnap}
 use Rattle.world_model.specs.Orderly.{is_port_sound, item_fits, packet_way, carries_fitting, recovers_empty}
 use Rattle.world_safety.proofs.Milling.{IsSafeNode-same}
@@ -117,13 +117,13 @@ empty-broken q h =
     (both q.inlet.broken (not q.inlet.answered) first).0
 
 -- a node that recovers takes nothing
-took-nothing : (home : Home) (p : ℕ) (q : Port) (u : Sess) (index : ℕ) (items : List Item) (n : PlainNode) → slice_get n.ports p ≡ Some q → q.inlet.broken ≡ true → took home p (take_batch q.inlet u index items) n ≡ n
+took-nothing : (home : Home) (p : ℕ) (q : Port) (u : Sess) (index : ℕ) (items : List Item) (n : PlainNode) → slice_get n.ports p ≡ Some q → q.inlet.broken ≡ true → after_taking home p (take_batch q.inlet u index items) n ≡ n
 took-nothing home p q u index items n there broken = by-answer (take_batch-broken q.inlet u index items broken)
   where
     same-port : with_port p (λ x. record x { inlet = q.inlet }) n ≡ n
     same-port = ap (λ (ports : List Port). record n { ports = ports }) (changed-same p (λ x. record x { inlet = q.inlet }) n.ports (λ x e. rw (some-same x q (sym e ∙ there)) refl))
 
-    by-answer : (take_batch q.inlet u index items ≡ record { after = q.inlet; answer = Old }) ⊎ (take_batch q.inlet u index items ≡ record { after = q.inlet; answer = Broken }) → took home p (take_batch q.inlet u index items) n ≡ n
+    by-answer : (take_batch q.inlet u index items ≡ record { after = q.inlet; answer = Old }) ⊎ (take_batch q.inlet u index items ≡ record { after = q.inlet; answer = Broken }) → after_taking home p (take_batch q.inlet u index items) n ≡ n
     by-answer (inl e) = rw e same-port
     by-answer (inr e) = rw e same-port
 
@@ -140,13 +140,13 @@ on_batch-good home most a u index items n place truth fits g =
         let s = h.stream in
         let found = port-at home.plan n.grants.inc most p s (streams_of home) n.ports g.orderly.ports h.at in
         let q = found.0 in
-        rw found.1 (elim (q.chosen == r) as (λ b. IsGood home most (cond b (took home p (take_batch q.inlet u index items) n) n)) [
+        rw found.1 (elim (q.chosen == r) as (λ b. IsGood home most (cond b (after_taking home p (take_batch q.inlet u index items) n) n)) [
           | true ↦ by-recovering p r h q found.1 found.2 (recovers-or n)
           | false ↦ g
         ])
       where
         by-recovering : (p r : ℕ) (h : IsSenderOf home.plan (streams_of home) a p r) (q : Port) → slice_get n.ports p ≡ Some q → is_port_sound home.plan h.stream n.grants.inc most q ≡ true →
-            (n.recovering ≡ true) ⊎ (n.recovering ≡ false) → IsGood home most (took home p (take_batch q.inlet u index items) n)
+            (n.recovering ≡ true) ⊎ (n.recovering ≡ false) → IsGood home most (after_taking home p (take_batch q.inlet u index items) n)
         by-recovering p r h q there sound (inl down) =
             rw (took-nothing home p q u index items n there (empty-broken q (all-at is_empty_port n.ports p q (emptied-of n down g.orderly.recovering).ports there))) g
         by-recovering p r h q there sound (inr up) =
@@ -157,8 +157,8 @@ on_batch-good home most a u index items n place truth fits g =
 
 pub truncated-sound : (plan : Plan) (s : StreamRef) (i most r : ℕ) (u : Sess) (base : ℕ) (q : Port) → is_port_sound plan s i most q ≡ true → is_port_sound plan s i most (on_truncated r u base q) ≡ true
 truncated-sound plan s i most r u base q h =
-    elim (same_sess u q.inlet.sess) as (λ b. is_port_sound plan s i most (record q { watches = cond b (changed r (marked base) q.watches) q.watches }) ≡ true) [
-      | true ↦ rw (length-changed r (marked base) q.watches) h
+    elim (same_sess u q.inlet.sess) as (λ b. is_port_sound plan s i most (record q { watches = cond b (changed r (with_mark base) q.watches) q.watches }) ≡ true) [
+      | true ↦ rw (length-changed r (with_mark base) q.watches) h
       | false ↦ h
     ]
 
@@ -180,7 +180,7 @@ on_truncation-good home most a u base n place g =
         let good = port-kept-good home most p s (λ _. port) n h.at (λ x e. rw (same x e) refl)
         (λ x e k. truncated-sound home.plan s n.grants.inc most r u base q found.2)
         (λ x e k. rw (same x e) at k) g in
-        rw found.1 (elim (same_sess u q.inlet.sess && all_truncated port) as (λ b. IsGood home (most + 1) (cond b (recovering_again home (with_port p (λ _. port) n)) (with_port p (λ _. port) n))) [
+        rw found.1 (elim (same_sess u q.inlet.sess && all_truncated port) as (λ b. IsGood home (most + 1) (cond b (after_loss home (with_port p (λ _. port) n)) (with_port p (λ _. port) n))) [
           | true ↦ recovering_again-good home most (with_port p (λ _. port) n) place good
           | false ↦ later-good home most (with_port p (λ _. port) n) good
         ])
@@ -188,19 +188,19 @@ on_truncation-good home most a u base n place g =
 -- ---- a beat
 
 pub beat-held : (r : ℕ) (b : Beat) (q : Port) → held_at (on_beat r b q) ≡ held_at q
-beat-held r b q = elim (r == q.chosen) as (λ d. (cond d (heard q.inlet b.link) q.inlet).held ≡ q.inlet.held) [ true ↦ refl | false ↦ refl ]
+beat-held r b q = elim (r == q.chosen) as (λ d. (cond d (after_link q.inlet b.link) q.inlet).held ≡ q.inlet.held) [ true ↦ refl | false ↦ refl ]
 
 pub beat-sound : (plan : Plan) (s : StreamRef) (i most r : ℕ) (b : Beat) (q : Port) → is_port_sound plan s i most q ≡ true → is_port_sound plan s i most (on_beat r b q) ≡ true
 beat-sound plan s i most r b q h =
-    let many = length-changed r (noted b.inc b.state b.recovering) q.watches in
-    elim (r == q.chosen) as (λ d. is_port_sound plan s i most (record q { watches = changed r (noted b.inc b.state b.recovering) q.watches; inlet = cond d (heard q.inlet b.link) q.inlet }) ≡ true) [
+    let many = length-changed r (after_beat b.inc b.state b.recovering) q.watches in
+    elim (r == q.chosen) as (λ d. is_port_sound plan s i most (record q { watches = changed r (after_beat b.inc b.state b.recovering) q.watches; inlet = cond d (after_link q.inlet b.link) q.inlet }) ≡ true) [
       | true ↦ rw many h
       | false ↦ rw many h
     ]
 
 beat-empty : (r : ℕ) (b : Beat) (q : Port) → is_empty_port q ≡ true → is_empty_port (on_beat r b q) ≡ true
 beat-empty r b q h =
-    elim (r == q.chosen) as (λ d. is_empty_port (record q { watches = changed r (noted b.inc b.state b.recovering) q.watches; inlet = cond d (heard q.inlet b.link) q.inlet }) ≡ true) [
+    elim (r == q.chosen) as (λ d. is_empty_port (record q { watches = changed r (after_beat b.inc b.state b.recovering) q.watches; inlet = cond d (after_link q.inlet b.link) q.inlet }) ≡ true) [
       | true ↦ let broken = empty-broken q h in rw broken (rw broken at h)
       | false ↦ h
     ]
@@ -218,7 +218,7 @@ pub on_peer_beat-good : (home : Home) (most : ℕ) (b : Beat) (o : Option ℕ) (
 unfolding out_stable
 on_peer_beat-good home most b None n g = g
 on_peer_beat-good home most b (Some r) n g =
-    let m = record n { peers = changed r (noted b.inc b.state b.recovering) n.peers; grants = told n.grants r (b.inc, b.over) } in
+    let m = record n { peers = changed r (after_beat b.inc b.state b.recovering) n.peers; grants = after_peer_beat n.grants r (b.inc, b.over) } in
     let o = g.orderly in
     let k = shape-of home most n o.shape in
     record {
@@ -233,8 +233,8 @@ on_peer_beat-good home most b (Some r) n g =
         shape = shape-test home most m (record {
           subs = k.subs;
           acks = k.acks;
-          peers = length-changed r (noted b.inc b.state b.recovering) n.peers ∙ k.peers;
-          heard = length-changed r (heard_more (b.inc, b.over)) n.grants.heard ∙ k.heard;
+          peers = length-changed r (after_beat b.inc b.state b.recovering) n.peers ∙ k.peers;
+          heard = length-changed r (later_key (b.inc, b.over)) n.grants.heard ∙ k.heard;
           me = k.me;
           tries = k.tries;
           over = k.over;
@@ -248,7 +248,7 @@ pub on_ack-good : (home : Home) (most i count : ℕ) (o : Option ℕ) (n : Plain
 unfolding out_stable
 on_ack-good home most i count None n up g = g
 on_ack-good home most i count (Some k) n up g =
-    let x = record n { acks = changed k (acked i count) n.acks } in
+    let x = record n { acks = changed k (after_ack i count) n.acks } in
     let m = with_base home x in
     let o = g.orderly in
     let s = shape-of home most n o.shape in
@@ -267,7 +267,7 @@ on_ack-good home most i count (Some k) n up g =
         base = λ _. base-follows n.base _ _;
         shape = shape-test home most m (record {
           subs = s.subs;
-          acks = length-changed k (acked i count) n.acks ∙ s.acks;
+          acks = length-changed k (after_ack i count) n.acks ∙ s.acks;
           peers = s.peers;
           heard = s.heard;
           me = s.me;
@@ -306,10 +306,10 @@ on_ask-good home me most sender i ask n actor way g =
     (elim (replica_number home sender) as (λ o. replica_number home sender ≡ o → IsGoodStep home me most ⊥ (on_ask home i ask o n)) [
       | None ↦ λ e. record { after = g; mails = tt }
       | Some r ↦ λ e. elim (grants n.grants n.state r (i, ask)) as (λ b. IsGoodStep home me most ⊥ (cond b
-          (record { after = record n { grants = granted n.grants r (i, ask) }; sends = mail (nth 0 (replicas_of home.plan home.frag) r) (message.Grant i ask) ∷ [] }) (silently n))) [
+          (record { after = record n { grants = with_promise n.grants r (i, ask) }; sends = mail (nth 0 (replicas_of home.plan home.frag) r) (message.Grant i ask) ∷ [] }) (silent_step n))) [
             | true ↦ record {
               after = record {
-                safe = IsSafeNode-same home n (record n { grants = granted n.grants r (i, ask) }) refl refl refl refl g.safe;
+                safe = IsSafeNode-same home n (record n { grants = with_promise n.grants r (i, ask) }) refl refl refl refl g.safe;
                 orderly = let o = g.orderly in record { ports = o.ports; state = o.state; recovering = o.recovering; closed = o.closed; stamps = o.stamps; base = o.base; shape = o.shape };
               };
               mails = (
@@ -337,8 +337,8 @@ failure-up home most n e g = by-recovering (recovers-or n)
 
 pub on_grant-good : (home : Home) (me most i ask : ℕ) (n : PlainNode) → IsActor home me → IsGood home most n → IsGoodStep home me most ⊥ (on_grant home i ask n)
 on_grant-good home me most i ask n actor g =
-    (elim (is_up_failure n.state) as (λ c. is_up_failure n.state ≡ c → IsGoodStep home me most ⊥ (cond (c && may_enter_by n.grants (i, ask)) (entered home n) (silently n))) [
-      | true ↦ λ e. elim (may_enter_by n.grants (i, ask)) as (λ b. IsGoodStep home me most ⊥ (cond b (entered home n) (silently n))) [
+    (elim (is_up_failure n.state) as (λ c. is_up_failure n.state ≡ c → IsGoodStep home me most ⊥ (cond (c && may_enter_by n.grants (i, ask)) (enter_step home n) (silent_step n))) [
+      | true ↦ λ e. elim (may_enter_by n.grants (i, ask)) as (λ b. IsGoodStep home me most ⊥ (cond b (enter_step home n) (silent_step n))) [
         | true ↦ entered-good home me most n actor (failure-up home most n e g) g
         | false ↦ record { after = g; mails = tt }
       ]
@@ -361,11 +361,11 @@ peer-snap home Nobody i try s way truth = cc
 
 pub on_snap-good : (home : Home) (most i try : ℕ) (s : Snap) (n : PlainNode) → IsPlace home → IsTrueSnap home.plan home.frag s → IsGood home most n → IsGood home most (on_snap home i try s n)
 on_snap-good home most i try s n place truth g =
-    (elim n.recovering as (λ c. n.recovering ≡ c → IsGood home most (cond (c && i == n.grants.inc && try == n.tries) (adopted home s n) n)) [
+    (elim n.recovering as (λ c. n.recovering ≡ c → IsGood home most (cond (c && i == n.grants.inc && try == n.tries) (after_adoption home s n) n)) [
       | false ↦ λ e. g
-      | true ↦ λ down. elim (i == n.grants.inc) as (λ b. IsGood home most (cond (b && try == n.tries) (adopted home s n) n)) [
+      | true ↦ λ down. elim (i == n.grants.inc) as (λ b. IsGood home most (cond (b && try == n.tries) (after_adoption home s n) n)) [
         | false ↦ g
-        | true ↦ elim (try == n.tries) as (λ b. IsGood home most (cond b (adopted home s n) n)) [
+        | true ↦ elim (try == n.tries) as (λ b. IsGood home most (cond b (after_adoption home s n) n)) [
           | true ↦ adopted-good home most s n place down truth g
           | false ↦ g
         ]
@@ -378,7 +378,7 @@ on_snap-good home most i try s n place truth g =
 pub step-bare : (home : Home) (a most : ℕ) (done : Type 0) (s : Stepped PlainNode) → IsGoodStep home a most ⊥ s → IsGoodStep home a (most + 1) done s
 step-bare home a most done s h = record { after = later-good home most s.after h.after; mails = mails-weaker home.plan a ⊥ done (λ e. absurd e) s.sends h.mails }
 
-step-silent : (home : Home) (a most : ℕ) (done : Type 0) (n : PlainNode) → IsGood home most n → IsGoodStep home a most done (silently n)
+step-silent : (home : Home) (a most : ℕ) (done : Type 0) (n : PlainNode) → IsGood home most n → IsGoodStep home a most done (silent_step n)
 step-silent home a most done n g = record { after = g; mails = tt }
 
 step-later : (home : Home) (a most : ℕ) (done : Type 0) (s : Stepped PlainNode) → IsGoodStep home a most done s → IsGoodStep home a (most + 1) done s
@@ -386,10 +386,10 @@ step-later home a most done s h = record { after = later-good home most s.after 
 
 -- unless the node recovers
 unless-recovering : (home : Home) (a most : ℕ) (n : PlainNode) (f : PlainNode → Stepped PlainNode) → IsGood home most n → (n.recovering ≡ false → IsGoodStep home a most (IsDoneNode home (f n).after) (f n)) →
-    IsGoodStep home a most (IsDoneNode home (cond n.recovering (silently n) (f n)).after) (cond n.recovering (silently n) (f n))
+    IsGoodStep home a most (IsDoneNode home (cond n.recovering (silent_step n) (f n)).after) (cond n.recovering (silent_step n) (f n))
 unless-recovering home a most n f g h = by-value n.recovering refl
   where
-    by-value : (b : Bool) → n.recovering ≡ b → IsGoodStep home a most (IsDoneNode home (cond b (silently n) (f n)).after) (cond b (silently n) (f n))
+    by-value : (b : Bool) → n.recovering ≡ b → IsGoodStep home a most (IsDoneNode home (cond b (silent_step n) (f n)).after) (cond b (silent_step n) (f n))
     by-value true e = record { after = g; mails = tt }
     by-value false e = h e
 
@@ -400,7 +400,7 @@ message-good home me most sender (message.Batch u index items) n actor way fits 
     step-silent home me (most + 1) _ _ (later-good home most _ (on_batch-good home most sender u index items n actor.place truth fits g))
 message-good home me most sender (message.Subscribe asked) n actor way fits truth g =
     let f : PlainNode → Stepped PlainNode = λ x. on_subscribe home asked (reader_place home sender) x in
-    step-later home me most (IsDoneNode home (cond n.recovering (silently n) (f n)).after) (cond n.recovering (silently n) (f n))
+    step-later home me most (IsDoneNode home (cond n.recovering (silent_step n) (f n)).after) (cond n.recovering (silent_step n) (f n))
     (unless-recovering home me most n f g (λ up. on_subscribe-good home me most asked (reader_place home sender) n actor up g (λ k e. place-below (λ b. sender == b) (own_readers home) k e)))
 message-good home me most sender (message.Truncated u base) n actor way fits truth g = step-silent home me (most + 1) _ _ (on_truncation-good home most sender u base n actor.place g)
 message-good home me most sender (message.Beat b) n actor way fits truth g =
@@ -415,7 +415,7 @@ message-good home me most sender (message.Ask i ask) n actor way fits truth g = 
 message-good home me most sender (message.Grant i ask) n actor way fits truth g = step-bare home me most _ (on_grant home i ask n) (on_grant-good home me most i ask n actor g)
 message-good home me most sender (message.SnapAsk i try) n actor way fits truth g =
     let f : PlainNode → Stepped PlainNode = λ x. on_snap_ask home sender i try x in
-    step-later home me most (IsDoneNode home (cond n.recovering (silently n) (f n)).after) (cond n.recovering (silently n) (f n))
+    step-later home me most (IsDoneNode home (cond n.recovering (silent_step n) (f n)).after) (cond n.recovering (silent_step n) (f n))
     (unless-recovering home me most n f g (λ up. let s = on_snap_ask-good home me most sender i try n actor up way g in record { after = s.after; mails = mails-weaker home.plan me ⊥ _ (λ e. absurd e) (f n).sends s.mails }))
 
 packet-good : (home : Home) (me most sender : ℕ) (packet : Packet) (n : PlainNode) → IsActor home me → packet_way home.plan (role_of home.plan sender) (IsNode home.frag home.replica) packet ≡ true →
@@ -427,6 +427,6 @@ packet-good home me most sender (SnapFor i try s) n actor way fits truth g =
 
 pub delivered-good : (home : Home) (me most sender : ℕ) (packet : Packet) (n : PlainNode) → IsActor home me → packet_way home.plan (role_of home.plan sender) (IsNode home.frag home.replica) packet ≡ true →
     carries_fitting home.plan (role_of home.plan sender) packet ≡ true → IsTruePacket home.plan (role_of home.plan sender) packet → IsGood home most n →
-    IsGoodStep home me (most + 1) (IsDoneNode home (delivered home sender packet n).after) (delivered home sender packet n)
-unfolding delivered
+    IsGoodStep home me (most + 1) (IsDoneNode home (packet_step home sender packet n).after) (packet_step home sender packet n)
+unfolding packet_step
 delivered-good home me most sender packet n actor way fits truth g = packet-good home me most sender packet (with_marks_ended n) actor way fits truth (marks-good home most n g)

@@ -4,15 +4,15 @@ use Rattle.std.proofs.lemmas.List.{length-map}
 use Rattle.dpc_model.specs.Lists.{list_all, is_nil}
 use Rattle.dpc_model.specs.Streams.{is_below}
 use Rattle.dpc_model.specs.Fragments.{ideal, ideal_upto}
-use Rattle.dpc_model.specs.Granting.{Grants, finished}
+use Rattle.dpc_model.specs.Granting.{Grants, with_ask_over}
 use Rattle.dpc_model.specs.Ports.{Port, held_at}
-use Rattle.dpc_model.specs.Sessions.{Acked, Sub, shut}
+use Rattle.dpc_model.specs.Sessions.{Acked, Sub, with_session_shut}
 use Rattle.dpc_model.specs.declared.tuples.Tuple.{Tuple}
 use Rattle.dpc_model.specs.declared.plans.Plan.{Plan}
 use Rattle.dpc_model.specs.declared.plans.StreamRef.{StreamRef}
 use Rattle.dpc_model.specs.NodeStates.{is_stabilization}
 use Rattle.node_model.specs.Nodes.{Home, PlainNode, spec_of, streams_of, own_readers, reader_at}
-use Rattle.node_model.specs.NodeSteps.{port_emptied, recovering_again}
+use Rattle.node_model.specs.NodeSteps.{emptied_port, after_loss}
 use Rattle.world_model.specs.Safe.{HoldsOf, EachHolds}
 use Rattle.world_model.specs.Orderly.{is_port_sound, are_ports_sound, recovers_empty, has_shape}
 use Rattle.world_safety.specs.Plans.{IsChecked, IsPlace}
@@ -132,20 +132,20 @@ empty-holds plan s checked =
       bound = rw (none-below (ideal_upto plan s 0) (ideal_upto-below plan s 0 checked)) (omega arith);
     }
 
-emptied-holds : (plan : Plan) → IsChecked plan → (ss : List StreamRef) (ports : List Port) → EachHolds plan ss (map held_at ports) → EachHolds plan ss (map held_at (map (port_emptied [] 0) ports))
+emptied-holds : (plan : Plan) → IsChecked plan → (ss : List StreamRef) (ports : List Port) → EachHolds plan ss (map held_at ports) → EachHolds plan ss (map held_at (map (emptied_port [] 0) ports))
 emptied-holds plan checked [] [] h = tt
 emptied-holds plan checked [] (p ∷ ports) h = absurd h
 emptied-holds plan checked (s ∷ ss) [] h = absurd h
 emptied-holds plan checked (s ∷ ss) (p ∷ ports) h = (empty-holds plan s checked, emptied-holds plan checked ss ports h.1)
 
-pub emptied-sound : (plan : Plan) (s : StreamRef) (i most b : ℕ) (ts : List Tuple) (p : Port) → is_port_sound plan s i most p ≡ true → is_port_sound plan s i most (port_emptied ts b p) ≡ true
+pub emptied-sound : (plan : Plan) (s : StreamRef) (i most b : ℕ) (ts : List Tuple) (p : Port) → is_port_sound plan s i most p ≡ true → is_port_sound plan s i most (emptied_port ts b p) ≡ true
 emptied-sound plan s i most b ts p h =
     let k = port-of plan s i most p h in
-    port-test plan s i most (port_emptied ts b p) (record { past = refl; inc = k.inc; number = k.number; watches = k.watches; chosen = k.chosen; fits = refl })
+    port-test plan s i most (emptied_port ts b p) (record { past = refl; inc = k.inc; number = k.number; watches = k.watches; chosen = k.chosen; fits = refl })
 
 -- ---- begun to recover
 
-pub finished-over : (g : Grants) (most : ℕ) → g.over ≤ most → (finished g).over ≤ most + 1
+pub finished-over : (g : Grants) (most : ℕ) → g.over ≤ most → (with_ask_over g).over ≤ most + 1
 finished-over g most h = elim g.running as (λ b. cond b (g.over + 1) g.over ≤ most + 1) [
   | true ↦ omega (arith, h)
   | false ↦ omega (arith, h)
@@ -185,35 +185,35 @@ later-good home most n g =
       };
     }
 
-pub recovering_again-good : (home : Home) (most : ℕ) (n : PlainNode) → IsPlace home → IsGood home most n → IsGood home (most + 1) (recovering_again home n)
-unfolding recovering_again
+pub recovering_again-good : (home : Home) (most : ℕ) (n : PlainNode) → IsPlace home → IsGood home most n → IsGood home (most + 1) (after_loss home n)
+unfolding after_loss
 recovering_again-good home most n place g =
-    let m = recovering_again home n in
+    let m = after_loss home n in
     let o = g.orderly in
     let k = shape-of home most n o.shape in
     let tries = k.tries in
     record {
       safe = record { inputs = emptied-holds home.plan place.checked (streams_of home) n.ports g.safe.inputs; output = λ e. cc };
       orderly = record {
-        ports = (ports-map home.plan n.grants.inc (most + 1) (most + 1) (port_emptied [] 0) (λ s p h. emptied-sound home.plan s n.grants.inc (most + 1) 0 [] p h)
+        ports = (ports-map home.plan n.grants.inc (most + 1) (most + 1) (emptied_port [] 0) (λ s p h. emptied-sound home.plan s n.grants.inc (most + 1) 0 [] p h)
             (streams_of home) n.ports (ports-later home.plan n.grants.inc most (streams_of home) n.ports o.ports));
         state = refl;
         recovering = emptied-test m (record {
           state = refl;
-          ports = all-map is_empty_port (port_emptied [] 0) n.ports (λ p. refl);
+          ports = all-map is_empty_port (emptied_port [] 0) n.ports (λ p. refl);
           stamps = refl;
           closed = refl;
           cursor = refl;
           base = refl;
           acks = all-map no_ack (λ _. (0, 0)) n.acks (λ a. refl);
-          subs = all-map is_shut shut n.subs (λ sub. refl);
+          subs = all-map is_shut with_session_shut n.subs (λ sub. refl);
           running = refl;
         });
         closed = closed-test home m (none-closed home 0 (omega arith));
         stamps = refl;
         base = λ e. cc;
         shape = shape-test home (most + 1) m (record {
-          subs = length-map n.subs shut ∙ k.subs;
+          subs = length-map n.subs with_session_shut ∙ k.subs;
           acks = length-map n.acks (λ _. (0, 0)) ∙ k.acks;
           peers = k.peers;
           heard = k.heard;

@@ -6,14 +6,14 @@ use Rattle.dpc_model.specs.Streams.{cut}
 use Rattle.dpc_model.specs.Operators.{all_of}
 use Rattle.dpc_model.specs.Fragments.{serial, fragment_value}
 use Rattle.dpc_model.specs.Reading.{Reader}
-use Rattle.dpc_model.specs.Replicas.{ticked, reached}
-use Rattle.dpc_model.specs.Ports.{Port, held_at, marks_ended, port_ticked}
+use Rattle.dpc_model.specs.Replicas.{after_tick, after_count}
+use Rattle.dpc_model.specs.Ports.{Port, held_at, without_ended_marks, port_after_tick}
 use Rattle.dpc_model.specs.declared.tuples.Tuple.{Tuple}
 use Rattle.dpc_model.specs.declared.tuples.Tagged.{Tagged}
 use Rattle.dpc_model.specs.declared.plans.Plan.{Plan}
 use Rattle.dpc_model.specs.declared.plans.StreamRef.{StreamRef}
 use Rattle.node_model.specs.Nodes.{Home, PlainNode, spec_of, streams_of, held_by, inputs_done, view_cursor, out_stable, out_view, out_tentative}
-use Rattle.node_model.specs.NodeSteps.{clocked, with_marks_ended}
+use Rattle.node_model.specs.NodeSteps.{after_clock, with_marks_ended}
 use Rattle.world_model.specs.Safe.{IsSafeNode}
 use Rattle.world_model.specs.Orderly.{IsOrderlyNode, is_port_sound, are_ports_sound, waits_to_ask, holds_nothing}
 use Rattle.world_safety.proofs.Tests.{both, both-of}
@@ -87,11 +87,11 @@ ports-map plan i most more f keeps (s ∷ ss) (p ∷ ports) h =
 
 -- ---- the clock, and the marks
 
-pub marked-sound : (plan : Plan) (s : StreamRef) (i most : ℕ) (p : Port) → is_port_sound plan s i most p ≡ true → is_port_sound plan s i most (marks_ended p) ≡ true
-marked-sound plan s i most p h = rw (length-map p.watches (reached (length p.inlet.held.stable))) h
+pub marked-sound : (plan : Plan) (s : StreamRef) (i most : ℕ) (p : Port) → is_port_sound plan s i most p ≡ true → is_port_sound plan s i most (without_ended_marks p) ≡ true
+marked-sound plan s i most p h = rw (length-map p.watches (after_count (length p.inlet.held.stable))) h
 
-pub ticked-sound : (plan : Plan) (s : StreamRef) (i most : ℕ) (p : Port) → is_port_sound plan s i most p ≡ true → is_port_sound plan s i most (port_ticked p) ≡ true
-ticked-sound plan s i most p h = rw (length-map p.watches ticked) h
+pub ticked-sound : (plan : Plan) (s : StreamRef) (i most : ℕ) (p : Port) → is_port_sound plan s i most p ≡ true → is_port_sound plan s i most (port_after_tick p) ≡ true
+ticked-sound plan s i most p h = rw (length-map p.watches after_tick) h
 
 abbrev pub is_empty_port : Port → Bool
 is_empty_port p = waits_to_ask p.inlet && holds_nothing p.inlet.held
@@ -99,14 +99,14 @@ is_empty_port p = waits_to_ask p.inlet && holds_nothing p.inlet.held
 pub marks-good : (home : Home) (most : ℕ) (n : PlainNode) → IsGood home most n → IsGood home most (with_marks_ended n)
 marks-good home most n g =
     let m = with_marks_ended n in
-    let held : held_by m ≡ held_by n = held-map marks_ended (λ p. refl) n.ports in
+    let held : held_by m ≡ held_by n = held-map without_ended_marks (λ p. refl) n.ports in
     let o = g.orderly in
     record {
       safe = IsSafeNode-held home n m held refl refl refl g.safe;
       orderly = record {
-        ports = ports-map home.plan n.grants.inc most most marks_ended (λ s p h. marked-sound home.plan s n.grants.inc most p h) (streams_of home) n.ports o.ports;
+        ports = ports-map home.plan n.grants.inc most most without_ended_marks (λ s p h. marked-sound home.plan s n.grants.inc most p h) (streams_of home) n.ports o.ports;
         state = o.state;
-        recovering = rw (all_map-same is_empty_port marks_ended (λ p. refl) n.ports) o.recovering;
+        recovering = rw (all_map-same is_empty_port without_ended_marks (λ p. refl) n.ports) o.recovering;
         closed = o.closed;
         stamps = o.stamps;
         base = λ up. rw (out_stable-held home n m held refl) (o.base up);
@@ -114,20 +114,20 @@ marks-good home most n g =
       };
     }
 
-pub clocked-good : (home : Home) (most now : ℕ) (n : PlainNode) → IsGood home most n → IsGood home most (clocked now n)
+pub clocked-good : (home : Home) (most now : ℕ) (n : PlainNode) → IsGood home most n → IsGood home most (after_clock now n)
 clocked-good home most now n g =
-    let m = clocked now n in
-    let held : held_by m ≡ held_by n = held-map port_ticked (λ p. refl) n.ports in
+    let m = after_clock now n in
+    let held : held_by m ≡ held_by n = held-map port_after_tick (λ p. refl) n.ports in
     let o = g.orderly in
     record {
       safe = IsSafeNode-held home n m held refl refl refl g.safe;
       orderly = record {
-        ports = ports-map home.plan n.grants.inc most most port_ticked (λ s p h. ticked-sound home.plan s n.grants.inc most p h) (streams_of home) n.ports o.ports;
+        ports = ports-map home.plan n.grants.inc most most port_after_tick (λ s p h. ticked-sound home.plan s n.grants.inc most p h) (streams_of home) n.ports o.ports;
         state = o.state;
-        recovering = rw (all_map-same is_empty_port port_ticked (λ p. refl) n.ports) o.recovering;
+        recovering = rw (all_map-same is_empty_port port_after_tick (λ p. refl) n.ports) o.recovering;
         closed = o.closed;
         stamps = o.stamps;
         base = λ up. rw (out_stable-held home n m held refl) (o.base up);
-        shape = rw (length-map n.peers ticked) o.shape;
+        shape = rw (length-map n.peers after_tick) o.shape;
       };
     }

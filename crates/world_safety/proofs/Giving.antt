@@ -1,4 +1,4 @@
--- Steps of a node that give items: processing, entering, milling, and the answer to a subscription.
+-- Steps of a node that give items: processing_step, entering, milling, and the answer to a subscription.
 use Rattle.std.proofs.Common.{◌≡◌, ℕ, suc, ◌+◌, ◌-◌, ◌*◌, ◌<◌, ◌≤◌, Bool, true, false, cond, not, ◌&&◌, ◌==◌, nat_lt, List, [], ◌∷◌, ◌++◌, length, drop, refl, sym, ap, ◌∙◌, arith, Option, Some, None}
 use Rattle.std.specs.Prelude.{IsTrue}
 use Rattle.std.proofs.lemmas.List.{append-nil}
@@ -6,9 +6,9 @@ use Rattle.std.proofs.Math.Nat.{le-div_iff_mul-le}
 use Rattle.dpc_model.specs.Lists.{nth, changed, list_all, is_nil, place_of}
 use Rattle.dpc_model.specs.Operators.{all_of}
 use Rattle.dpc_model.specs.Fragments.{serial, fragment_value}
-use Rattle.dpc_model.specs.Granting.{asking}
+use Rattle.dpc_model.specs.Granting.{with_ask}
 use Rattle.dpc_model.specs.Actors.{role_of, reads_from, readers_of}
-use Rattle.dpc_model.specs.Sessions.{Sub, Shown, given_items, stable_items, boundary_item, tentative_items, passed_item, item_if, first_batch, Answered, answered, is_newer_than_kept}
+use Rattle.dpc_model.specs.Sessions.{Sub, Shown, given_items, stable_items, boundary_item, tentative_items, passed_item, item_if, first_batch, Answered, answer_to, is_newer_than_kept}
 use Rattle.dpc_model.specs.declared.tuples.Tuple.{Tuple}
 use Rattle.dpc_model.specs.declared.tuples.Tagged.{Tagged}
 use Rattle.dpc_model.specs.declared.tuples.Item.{Item}
@@ -23,7 +23,7 @@ use Rattle.dpc_model.specs.declared.plans.StreamRef.TheVariants.{Frag}
 use Rattle.node_model.specs.Mails.{mail, Stepped}
 use Rattle.dpc_model.specs.NodeStates.{is_stable, is_up_failure, is_stabilization}
 use Rattle.node_model.specs.Nodes.{Home, PlainNode, spec_of, own_readers, inputs_done, view_cursor, buckets_of, out_stable, out_view, out_tentative, out_bound, out_passed, shown, complete_upto, ready, due_at}
-use Rattle.node_model.specs.NodeSteps.{stably, silently, give, given_by, given_stable, entered, advanced, closing, with_failure, processed_upto, processing, reconciled, milled, on_subscribe}
+use Rattle.node_model.specs.NodeSteps.{stably, silent_step, give, given_by, given_stable, enter_step, after_stable_buckets, with_closed, with_failure, processing_upto, processing_step, after_last_correction, mill_step, on_subscribe}
 use Rattle.world_model.specs.Safe.{AreTrueItems, IsSafeNode, has_done}
 use Rattle.world_model.specs.Orderly.{fits_stream, item_fits, has_state_of_closed}
 use Rattle.world_safety.proofs.Milling.{advanced-safe, IsSafeNode-same, upto-items-true}
@@ -92,12 +92,12 @@ given_by-fit home most n new any_stable any_closed place up g =
 -- ---- the step that processes buckets
 
 pub processed_upto-good : (home : Home) (a most last : ℕ) (n : PlainNode) → IsActor home a → IsGood home most n → n.recovering ≡ false → is_stabilization n.state ≡ false →
-    view_cursor n ≤ last → last < buckets_of home.plan → IsGoodStep home a most ⊥ (processed_upto home last n)
+    view_cursor n ≤ last → last < buckets_of home.plan → IsGoodStep home a most ⊥ (processing_upto home last n)
 processed_upto-good home a most last n actor g up calm low high =
     let place = actor.place in
     let count = last + 1 - view_cursor n in
     let r = stably home n count in
-    let m = closing home (count - r) (advanced home r n) in
+    let m = with_closed home (count - r) (after_stable_buckets home r n) in
     let new = with_failure m in
     let good : IsGood home most new = record {
       safe = processed-safe home r (count - r) n place g.safe up (stably-complete home n count (cursor-complete home n place g.safe up));
@@ -108,11 +108,11 @@ processed_upto-good home a most last n actor g up calm low high =
     (given_by-fit home most n new (nat_lt 0 r) (nat_lt r count) place up good)
     (λ e. let none : has_done items ≡ false = given-done (length (out_stable home n)) (given_by home n new (nat_lt 0 r) (nat_lt r count)) in cc)
 
-pub processing-good : (home : Home) (a most : ℕ) (n : PlainNode) → IsActor home a → IsGood home most n → n.recovering ≡ false → IsGoodStep home a most ⊥ (processing home n)
+pub processing-good : (home : Home) (a most : ℕ) (n : PlainNode) → IsActor home a → IsGood home most n → n.recovering ≡ false → IsGoodStep home a most ⊥ (processing_step home n)
 processing-good home a most n actor g up =
-    (elim (is_stabilization n.state) as (λ b. is_stabilization n.state ≡ b → IsGoodStep home a most ⊥ (cond b (silently n) (elim (due_at home n n.clock) [ None ↦ silently n | Some last ↦ processed_upto home last n ]))) [
+    (elim (is_stabilization n.state) as (λ b. is_stabilization n.state ≡ b → IsGoodStep home a most ⊥ (cond b (silent_step n) (elim (due_at home n n.clock) [ None ↦ silent_step n | Some last ↦ processing_upto home last n ]))) [
       | true ↦ λ e. record { after = g; mails = tt }
-      | false ↦ λ e. (elim (due_at home n n.clock) as (λ o. due_at home n n.clock ≡ o → IsGoodStep home a most ⊥ (elim o [ None ↦ silently n | Some last ↦ processed_upto home last n ])) [
+      | false ↦ λ e. (elim (due_at home n n.clock) as (λ o. due_at home n n.clock ≡ o → IsGoodStep home a most ⊥ (elim o [ None ↦ silent_step n | Some last ↦ processing_upto home last n ])) [
         | None ↦ λ f. record { after = g; mails = tt }
         | Some last ↦ λ f. let range = due-range home n n.clock last f in processed_upto-good home a most last n actor g up e range.0 range.1
       ]) refl
@@ -120,10 +120,10 @@ processing-good home a most n actor g up =
 
 -- ---- entering
 
-entering-good : (home : Home) (most : ℕ) (n : PlainNode) → n.recovering ≡ false → IsGood home most n → IsGood home most (record n { closed = []; state = Stabilization; grants = asking n.grants })
+entering-good : (home : Home) (most : ℕ) (n : PlainNode) → n.recovering ≡ false → IsGood home most n → IsGood home most (record n { closed = []; state = Stabilization; grants = with_ask n.grants })
 unfolding out_stable
 entering-good home most n up g =
-    let m = record n { closed = []; state = Stabilization; grants = asking n.grants } in
+    let m = record n { closed = []; state = Stabilization; grants = with_ask n.grants } in
     let o = g.orderly in
     let closed = closed-of home n o.closed in
     let few = closed.within in
@@ -140,10 +140,10 @@ entering-good home most n up g =
       };
     }
 
-pub entered-good : (home : Home) (a most : ℕ) (n : PlainNode) → IsActor home a → n.recovering ≡ false → IsGood home most n → IsGoodStep home a most ⊥ (entered home n)
-unfolding entered
+pub entered-good : (home : Home) (a most : ℕ) (n : PlainNode) → IsActor home a → n.recovering ≡ false → IsGood home most n → IsGoodStep home a most ⊥ (enter_step home n)
+unfolding enter_step
 entered-good home a most n actor up g =
-    give-good home a most ⊥ (Undo (length (out_stable home n)) ∷ []) (record n { closed = []; state = Stabilization; grants = asking n.grants }) actor up (entering-good home most n up g)
+    give-good home a most ⊥ (Undo (length (out_stable home n)) ∷ []) (record n { closed = []; state = Stabilization; grants = with_ask n.grants }) actor up (entering-good home most n up g)
     (tt, tt) refl (λ e. cc)
 
 -- ---- milling
@@ -160,10 +160,10 @@ none-tentative home n none =
     drop-all (t ∷ ts) = drop-all ts
 
 -- a node whose cursor moved over complete buckets, with none closed
-pub advanced-good : (home : Home) (most r : ℕ) (n : PlainNode) → IsPlace home → n.recovering ≡ false → n.closed ≡ [] → n.cursor + r ≤ complete_upto home n → IsGood home most n → IsGood home most (advanced home r n)
+pub advanced-good : (home : Home) (most r : ℕ) (n : PlainNode) → IsPlace home → n.recovering ≡ false → n.closed ≡ [] → n.cursor + r ≤ complete_upto home n → IsGood home most n → IsGood home most (after_stable_buckets home r n)
 unfolding out_stable
 advanced-good home most r n place up none few g =
-    let m = advanced home r n in
+    let m = after_stable_buckets home r n in
     let o = g.orderly in
     let safe = advanced-safe home r n place.checked.sound place.there place.checked.width g.safe up few in
     let within = cursor-within home m place safe up in
@@ -181,14 +181,14 @@ advanced-good home most r n place up none few g =
       };
     }
 
-pub reconciled-good : (home : Home) (most : ℕ) (m : PlainNode) → m.recovering ≡ false → m.closed ≡ [] → IsGood home most m → IsGood home (most + 1) (reconciled true m)
+pub reconciled-good : (home : Home) (most : ℕ) (m : PlainNode) → m.recovering ≡ false → m.closed ≡ [] → IsGood home most m → IsGood home (most + 1) (after_last_correction true m)
 unfolding out_stable
 reconciled-good home most m up none g =
     let o = (later-good home most m g).orderly in
     let k = shape-of home most m g.orderly.shape in
     let tries = k.tries in
     record {
-      safe = IsSafeNode-same home m (reconciled true m) refl refl refl refl g.safe;
+      safe = IsSafeNode-same home m (after_last_correction true m) refl refl refl refl g.safe;
       orderly = record {
         ports = o.ports;
         state = rw (up, none) refl;
@@ -196,7 +196,7 @@ reconciled-good home most m up none g =
         closed = o.closed;
         stamps = o.stamps;
         base = o.base;
-        shape = shape-test home (most + 1) (reconciled true m) (record {
+        shape = shape-test home (most + 1) (after_last_correction true m) (record {
           subs = k.subs;
           acks = k.acks;
           peers = k.peers;
@@ -209,17 +209,17 @@ reconciled-good home most m up none g =
     }
 
 pub milled-good : (home : Home) (a most r : ℕ) (n : PlainNode) → IsActor home a → n.recovering ≡ false → n.closed ≡ [] → n.cursor + r ≤ complete_upto home n → IsGood home most n →
-    IsGoodStep home a (most + 1) (IsDoneNode home (milled home r n).after) (milled home r n)
-unfolding milled
+    IsGoodStep home a (most + 1) (IsDoneNode home (mill_step home r n).after) (mill_step home r n)
+unfolding mill_step
 milled-good home a most r n actor up none few g =
     let place = actor.place in
-    let m = advanced home r n in
+    let m = after_stable_buckets home r n in
     let good = advanced-good home most r n place up none few g in
     let done = is_stabilization n.state && ready home m == 0 in
-    (elim done as (λ b. IsGoodStep home a (most + 1) (IsDoneNode home (give home (given_items (length (out_stable home n)) (given_stable home n m b)) (reconciled b m)).after)
-    (give home (given_items (length (out_stable home n)) (given_stable home n m b)) (reconciled b m))) [
-      | true ↦ give-good home a (most + 1) (IsDoneNode home (give home (given_items (length (out_stable home n)) (given_stable home n m true)) (reconciled true m)).after)
-          (given_items (length (out_stable home n)) (given_stable home n m true)) (reconciled true m) actor up (reconciled-good home most m up none good)
+    (elim done as (λ b. IsGoodStep home a (most + 1) (IsDoneNode home (give home (given_items (length (out_stable home n)) (given_stable home n m b)) (after_last_correction b m)).after)
+    (give home (given_items (length (out_stable home n)) (given_stable home n m b)) (after_last_correction b m))) [
+      | true ↦ give-good home a (most + 1) (IsDoneNode home (give home (given_items (length (out_stable home n)) (given_stable home n m true)) (after_last_correction true m)).after)
+          (given_items (length (out_stable home n)) (given_stable home n m true)) (after_last_correction true m) actor up (reconciled-good home most m up none good)
           (items-true place m good true) (items-fit place m good true) (λ e. (refl, none-tentative home _ none))
       | false ↦ give-good home a (most + 1) (IsDoneNode home (give home (given_items (length (out_stable home n)) (given_stable home n m false)) m).after)
           (given_items (length (out_stable home n)) (given_stable home n m false)) m actor up (later-good home most m good)
@@ -227,9 +227,9 @@ milled-good home a most r n actor up none few g =
           (λ e. let not_done : has_done (given_items (length (out_stable home n)) (given_stable home n m false)) ≡ false = given-done (length (out_stable home n)) (given_stable home n m false) in cc)
     ])
   where
-    items-true : IsPlace home → (m : PlainNode) → IsGood home most (advanced home r n) → (b : Bool) → AreTrueItems home.plan (Frag home.frag) (given_items (length (out_stable home n)) (given_stable home n (advanced home r n) b))
+    items-true : IsPlace home → (m : PlainNode) → IsGood home most (after_stable_buckets home r n) → (b : Bool) → AreTrueItems home.plan (Frag home.frag) (given_items (length (out_stable home n)) (given_stable home n (after_stable_buckets home r n) b))
     items-true place m good b =
-        let new = advanced home r n in
+        let new = after_stable_buckets home r n in
         let o = good.safe.output up in
         let within = cursor-within home new place good.safe up in
         given_items-true home.plan (Frag home.frag) (length (out_stable home n)) (given_stable home n new b)
@@ -239,10 +239,10 @@ milled-good home a most r n actor up none few g =
           | false ↦ ((within, ap length o.output), tt)
         ])
 
-    items-fit : IsPlace home → (m : PlainNode) → IsGood home most (advanced home r n) → (b : Bool) →
-        list_all (item_fits home.plan (Frag home.frag)) (given_items (length (out_stable home n)) (given_stable home n (advanced home r n) b)) ≡ true
+    items-fit : IsPlace home → (m : PlainNode) → IsGood home most (after_stable_buckets home r n) → (b : Bool) →
+        list_all (item_fits home.plan (Frag home.frag)) (given_items (length (out_stable home n)) (given_stable home n (after_stable_buckets home r n) b)) ≡ true
     items-fit place m good b =
-        let new = advanced home r n in
+        let new = after_stable_buckets home r n in
         given-fit home.plan (Frag home.frag) (length (out_stable home n)) (given_stable home n new b)
         (drop-fits home.plan (Frag home.frag) (length (out_stable home n)) (out_stable home new) (out_stable-fits home new place good.safe up))
         (bound-within home new place good.safe up) refl tt
@@ -382,7 +382,7 @@ stable-none n up h e = by-closed n.closed refl
         let open_state = stable-open n.state e in absurd (let clash : true ≡ false = sym failed ∙ open_state in cc)
 
 pub answer-mails : (plan : Plan) (a : ℕ) (s : StreamRef) (done : Type 0) (k : ℕ) (x : Shown) (sub : Sub) (asked : Subscribe) → IsSender plan a s → IsShown plan s x → k < length (readers_of plan s) →
-    (x.is_stable ≡ true → done) → AreMails plan a done (elim (answered x sub asked).answer [ None ↦ [] | Some m ↦ mail (nth 0 (readers_of plan s) k) m ∷ [] ])
+    (x.is_stable ≡ true → done) → AreMails plan a done (elim (answer_to x sub asked).answer [ None ↦ [] | Some m ↦ mail (nth 0 (readers_of plan s) k) m ∷ [] ])
 answer-mails plan a s done k x sub asked sender shows low surely =
     let way = all-nth (λ b. reads_from plan (role_of plan b) (role_of plan a)) 0 (readers_of plan s) k low sender.readers in
     elim (not (is_newer_than_kept asked.sess sub.kept)) as (λ b. AreMails plan a done (elim (cond {A = Answered} b (record { after = sub; answer = None })
@@ -410,7 +410,7 @@ on_subscribe-good home a most asked None n actor up g low = record { after = g; 
 on_subscribe-good home a most asked (Some k) n actor up g low =
     let place = actor.place in
     let sub = nth (record { kept = None; is_open = false; batches = 0 }) n.subs k in
-    let answer = answered (shown home n) sub asked in
+    let answer = answer_to (shown home n) sub asked in
     let m = record n { subs = changed k (λ _. answer.after) n.subs } in
     record {
       after = subs-good home most (changed k (λ _. answer.after) n.subs) n up (length-changed k (λ _. answer.after) n.subs) g;

@@ -15,9 +15,9 @@ use Rattle.dpc_model.specs.declared.plans.Plan.{Plan}
 use Rattle.node_model.specs.Mails.{Mail, Stepped}
 use Rattle.dpc_model.specs.NodeStates.{is_stabilization}
 use Rattle.node_model.specs.Nodes.{Home, PlainNode, ready, complete_upto, restarted_node}
-use Rattle.node_model.specs.NodeSteps.{delivered, milled, ticked_at}
-use Rattle.node_model.specs.Sources.{SourceState, source_readers, source_emits, source_releases, source_delivered, source_ticked}
-use Rattle.node_model.specs.Clients.{ClientState, new_client, client_delivered, client_ticked}
+use Rattle.node_model.specs.NodeSteps.{packet_step, mill_step, tick_step}
+use Rattle.node_model.specs.Sources.{SourceState, source_readers, source_emits, source_releases, source_packet_step, source_tick_step}
+use Rattle.node_model.specs.Clients.{ClientState, new_client, client_after_packet, client_tick_step}
 use Rattle.world_model.specs.Worlds.{World, Envelope, Slot, home_of, node_place, from, slot_of, source_at, client_at, no_source, node_stepped, source_stepped, client_stepped, is_release_time, is_clock, emits, releases, link_up, cuts_link, crashes, restart_slot, restarts, node_takes, taken_by, can_come, comes, node_ticks, ticks, can_mill, node_mills, mills, happens}
 use Rattle.world_model.specs.Safe.{AreTrue, IsTruePacket, IsDone, SendsDoneSurely, Serves, ServesAt, TicksServe, IsSafeStep}
 use Rattle.world_model.specs.Orderly.{is_fitting, packet_way, carries_fitting, is_source_orderly, are_sources_orderly}
@@ -273,7 +273,7 @@ clients-next w most c f h keeps =
 
 taken-next : (w : World) (most : ℕ) (e : Envelope) (role : Role) → role_of w.plan e.to ≡ role → IsTruePacket w.plan (role_of w.plan e.sender) e.packet → is_fitting w.plan e ≡ true → IsFine w most → IsNext w most (taken_by w e role)
 taken-next w most e (IsSource s) role truth fits h =
-    source-next w most e.to s (source_delivered w.plan s e.sender e.packet (source_at w s)) h role
+    source-next w most e.to s (source_packet_step w.plan s e.sender e.packet (source_at w s)) h role
     (source_delivered-step w.plan e.to s e.sender e.packet (source_at w s) h.checked.checked role (source-here w most s h))
 taken-next w most e (IsNode f r) role truth fits h = by-node (slot_of w e.to).node refl
   where
@@ -282,11 +282,11 @@ taken-next w most e (IsNode f r) role truth fits h = by-node (slot_of w e.to).no
     by-node (Some n) up =
         let home = home_of w.plan (f, r) in
         let p = both (packet_way w.plan (role_of w.plan e.sender) (role_of w.plan e.to) e.packet) (carries_fitting w.plan (role_of w.plan e.sender) e.packet) fits in
-        node-next w most e.to f r (delivered home e.sender e.packet n) h role
+        node-next w most e.to f r (packet_step home e.sender e.packet n) h role
         (delivered-good home e.to most e.sender e.packet n (actor-at w.plan e.to f r h.checked role) (rw role at p.0) p.1 truth (node-here w most e.to f r n h role up))
 taken-next w most e (IsClient c) role truth fits h =
     let p = both (packet_way w.plan (role_of w.plan e.sender) (role_of w.plan e.to) e.packet) (carries_fitting w.plan (role_of w.plan e.sender) e.packet) fits in
-    clients-next w most c (client_delivered w.plan c e.sender e.packet) h (λ x k. client-later w.plan c most _ (client_delivered-good w.plan c most e.sender e.packet x truth p.1 k))
+    clients-next w most c (client_after_packet w.plan c e.sender e.packet) h (λ x k. client-later w.plan c most _ (client_delivered-good w.plan c most e.sender e.packet x truth p.1 k))
 taken-next w most e Nobody role truth fits h = same-next w most h
 
 deliver-next : (w : World) (most k : ℕ) → IsFine w most → IsNext w most (comes w (slice_get w.envelopes k))
@@ -303,8 +303,8 @@ deliver-next w most k h =
 
 tick-next : (w : World) (most a now : ℕ) (role : Role) → role_of w.plan a ≡ role → IsFine w most → IsNext w most (ticks w a now role)
 tick-next w most a now (IsSource s) e h =
-    elim (is_clock (source_at w s).clock now) as (λ b. IsNext w most (cond b (source_stepped a (source_ticked w.plan s now (source_at w s)) w) w)) [
-      | true ↦ source-next w most a s (source_ticked w.plan s now (source_at w s)) h e (source_ticked-step w.plan a s now (source_at w s) e (source-here w most s h))
+    elim (is_clock (source_at w s).clock now) as (λ b. IsNext w most (cond b (source_stepped a (source_tick_step w.plan s now (source_at w s)) w) w)) [
+      | true ↦ source-next w most a s (source_tick_step w.plan s now (source_at w s)) h e (source_ticked-step w.plan a s now (source_at w s) e (source-here w most s h))
       | false ↦ same-next w most h
     ]
 tick-next w most a now (IsNode f r) e h = by-node (slot_of w a).node refl
@@ -313,22 +313,22 @@ tick-next w most a now (IsNode f r) e h = by-node (slot_of w a).node refl
     by-node None up = same-next w most h
     by-node (Some n) up =
         let home = home_of w.plan (f, r) in
-        elim (is_clock n.clock now) as (λ b. IsNext w most (cond b (node_stepped a (ticked_at home now n) w) w)) [
+        elim (is_clock n.clock now) as (λ b. IsNext w most (cond b (node_stepped a (tick_step home now n) w) w)) [
           | true ↦
               let step = ticked-good home a most now n (actor-at w.plan a f r h.checked e) (node-here w most a f r n h e up) in
-              node-next w most a f r (ticked_at home now n) h e
-              (record { after = step.after; mails = mails-weaker w.plan a ⊥ (IsDoneNode home (ticked_at home now n).after) (λ d. absurd d) (ticked_at home now n).sends step.mails })
+              node-next w most a f r (tick_step home now n) h e
+              (record { after = step.after; mails = mails-weaker w.plan a ⊥ (IsDoneNode home (tick_step home now n).after) (λ d. absurd d) (tick_step home now n).sends step.mails })
           | false ↦ same-next w most h
         ]
 tick-next w most a now (IsClient c) e h =
-    elim (is_clock (client_at w c).clock now) as (λ b. IsNext w most (cond b (client_stepped a c (client_ticked w.plan c now (client_at w c)) w) w)) [
+    elim (is_clock (client_at w c).clock now) as (λ b. IsNext w most (cond b (client_stepped a c (client_tick_step w.plan c now (client_at w c)) w) w)) [
       | true ↦ client-ticks
       | false ↦ same-next w most h
     ]
   where
-    client-ticks : IsNext w most (client_stepped a c (client_ticked w.plan c now (client_at w c)) w)
+    client-ticks : IsNext w most (client_stepped a c (client_tick_step w.plan c now (client_at w c)) w)
     client-ticks =
-        let t = client_ticked w.plan c now (client_at w c) in
+        let t = client_tick_step w.plan c now (client_at w c) in
         let next = client_stepped a c t w in
         let reading = reading-at w.plan c h.checked (client-below w.plan a c e) in
         let zero_on : 0 + c ≡ c = omega arith in
@@ -358,7 +358,7 @@ tick-serves w most a now (IsNode f r) e h = by-node (slot_of w a).node refl
     home : Home
     home = home_of w.plan (f, r)
 
-    by-node : (o : Option PlainNode) → (slot_of w a).node ≡ o → IfSome o (λ n. let home = home_of w.plan (f, r) in let s = ticked_at home now n in
+    by-node : (o : Option PlainNode) → (slot_of w a).node ≡ o → IfSome o (λ n. let home = home_of w.plan (f, r) in let s = tick_step home now n in
         IsTrue (is_clock n.clock now) → is_stabilization s.after.state ≡ false → Serves home now n s)
     by-node None up = tt
     by-node (Some n) up = λ clock calm. ticked-serves (home_of w.plan (f, r)) most now n (actor-at w.plan a f r h.checked e).place (node-here w most a f r n h e up) calm
@@ -367,7 +367,7 @@ tick-serves w most a now Nobody e h = tt
 
 -- ---- milling
 
--- a node that may be milled has nothing closed, and the buckets are complete
+-- a node that may be mill_step has nothing closed, and the buckets are complete
 pub record MayMill (home : Home) (r : ℕ) (n : PlainNode) : Type 0 where
   pub up : n.recovering ≡ false
   pub none : n.closed ≡ []
@@ -402,10 +402,10 @@ mill-next w most a r (IsNode f q) e h = by-node (slot_of w a).node refl
     by-node None up = same-next w most h
     by-node (Some n) up =
         let home = home_of w.plan (f, q) in
-        (elim (can_mill home r n) as (λ b. can_mill home r n ≡ b → IsNext w most (cond b (node_stepped a (milled home r n) w) w)) [
+        (elim (can_mill home r n) as (λ b. can_mill home r n ≡ b → IsNext w most (cond b (node_stepped a (mill_step home r n) w) w)) [
           | true ↦ λ can.
               let m = may-mill home r n can in
-              node-next w most a f q (milled home r n) h e (milled-good home a most r n (actor-at w.plan a f q h.checked e) m.up m.none m.few (node-here w most a f q n h e up))
+              node-next w most a f q (mill_step home r n) h e (milled-good home a most r n (actor-at w.plan a f q h.checked e) m.up m.none m.few (node-here w most a f q n h e up))
           | false ↦ λ can. same-next w most h
         ]) refl
 mill-next w most a r (IsSource s) e h = same-next w most h

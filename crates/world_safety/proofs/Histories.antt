@@ -5,7 +5,7 @@ use Rattle.std.proofs.lemmas.List.{append-nil}
 use Rattle.std.proofs.lemmas.Option.{slice_get_within}
 use Rattle.dpc_model.specs.Lists.{nth}
 use Rattle.dpc_model.specs.Inlets.{same_sess, is_newer}
-use Rattle.dpc_model.specs.Sessions.{Sub, Shown, link_of, is_newer_than_kept, counted, batches_from}
+use Rattle.dpc_model.specs.Sessions.{Sub, Shown, link_of, is_newer_than_kept, with_batch, batches_from}
 use Rattle.dpc_model.specs.declared.tuples.Item.{Item}
 use Rattle.dpc_model.specs.declared.messages.Sess.{Sess}
 use Rattle.dpc_model.specs.declared.messages.Subscribe.{Subscribe}
@@ -14,7 +14,7 @@ use Rattle.dpc_model.specs.declared.plans.Plan.{Plan}
 use Rattle.dpc_model.specs.declared.plans.StreamRef.{StreamRef}
 use Rattle.node_model.specs.Mails.{to_readers}
 use Rattle.world_model.specs.Worlds.{from}
-use Rattle.world_model.specs.SessionLaw.{Line, carried, LeavesView}
+use Rattle.world_model.specs.SessionLaw.{Channel, carried, LeavesView}
 use Rattle.world_safety.proofs.Tests.{both-of, eq-of, eq-test}
 
 -- a reader's session at a sender that shows x, where h tells what was sent in each session since the sender last went down,
@@ -34,7 +34,7 @@ carried-others : (readers : List ℕ) (a k j : ℕ) (u : Sess) (items : List Ite
     carried (record { sender = a; reader = nth 0 readers k; sess = u }) (map (from a) (to_readers readers (batches_from j items subs))) ≡ []
 carried-others readers a k j u items [] distinct less few = refl
 carried-others readers a k j u items (sub ∷ subs) distinct less few =
-    let l : Line = record { sender = a; reader = nth 0 readers k; sess = u } in
+    let l : Channel = record { sender = a; reader = nth 0 readers k; sess = u } in
     let rest = carried-others readers a k (j + 1) u items subs distinct (omega (arith, less)) (omega (arith, few)) in
     elim (link_of sub) as (λ o. carried l (map (from a) (to_readers readers (elim o [ None ↦ batches_from (j + 1) items subs | Some v ↦ (j, message.Batch v.0 v.1 items) ∷ batches_from (j + 1) items subs ]))) ≡ []) [
       | None ↦ rest
@@ -61,7 +61,7 @@ pub carried-given : (readers : List ℕ) (a j i : ℕ) (u : Sess) (items : List 
 carried-given readers a j i u items [] sub distinct few e = cc
 carried-given readers a j zero u items (s ∷ subs) sub distinct few e =
     let none : j + 0 ≡ j = omega arith in
-    let l : Line = record { sender = a; reader = nth 0 readers j; sess = u } in
+    let l : Channel = record { sender = a; reader = nth 0 readers j; sess = u } in
     let same : s ≡ sub = cc in
     let rest = carried-others readers a j (j + 1) u items subs distinct (omega arith) (omega (arith, few)) in
     let mine : (a == a) ≡ true = eq-test a a refl in
@@ -72,7 +72,7 @@ carried-given readers a j zero u items (s ∷ subs) sub distinct few e =
     ])
 carried-given readers a j (suc i) u items (s ∷ subs) sub distinct few e =
     let next : j + suc i ≡ j + 1 + i = omega arith in
-    let l : Line = record { sender = a; reader = nth 0 readers (j + suc i); sess = u } in
+    let l : Channel = record { sender = a; reader = nth 0 readers (j + suc i); sess = u } in
     let rest : carried l (map (from a) (to_readers readers (batches_from (j + 1) items subs))) ≡ given_in (link_of sub) u items =
     rw next (carried-given readers a (j + 1) i u items subs sub distinct (omega (arith, few)) e) in
     let within = slice_get_within subs i sub e in
@@ -98,18 +98,18 @@ pub newer-other : (u v : Sess) → is_newer u v ≡ true → same_sess v u ≡ f
 newer-other u v e = grind (arith, common_steps)
 
 -- an open session stays open, with one batch more
-counted-link : (sub : Sub) (l : Sess × ℕ) → link_of (counted sub) ≡ Some l → (n : ℕ) × (link_of sub ≡ Some (l.0, n))
+counted-link : (sub : Sub) (l : Sess × ℕ) → link_of (with_batch sub) ≡ Some l → (n : ℕ) × (link_of sub ≡ Some (l.0, n))
 counted-link sub l e = by-parts sub.kept sub.is_open refl refl e
   where
     first-same : (v : Sess) (n : ℕ) → ◌≡◌ {A = Option (Sess × ℕ)} (Some (v, n)) (Some l) → v ≡ l.0
     first-same v n f = let same : ◌≡◌ {A = Sess × ℕ} (v, n) l = cc in ap (λ (x : Sess × ℕ). x.0) same
 
-    by-parts : (kept : Option Sess) (is_open : Bool) → sub.kept ≡ kept → sub.is_open ≡ is_open → link_of (counted sub) ≡ Some l → (n : ℕ) × (link_of sub ≡ Some (l.0, n))
-    by-parts None true f g h = let none : link_of (counted sub) ≡ None = rw (g, f) refl in cc
-    by-parts None false f g h = let none : link_of (counted sub) ≡ None = rw (g, f) refl in cc
-    by-parts (Some v) false f g h = let none : link_of (counted sub) ≡ None = rw (g, f) refl in cc
+    by-parts : (kept : Option Sess) (is_open : Bool) → sub.kept ≡ kept → sub.is_open ≡ is_open → link_of (with_batch sub) ≡ Some l → (n : ℕ) × (link_of sub ≡ Some (l.0, n))
+    by-parts None true f g h = let none : link_of (with_batch sub) ≡ None = rw (g, f) refl in cc
+    by-parts None false f g h = let none : link_of (with_batch sub) ≡ None = rw (g, f) refl in cc
+    by-parts (Some v) false f g h = let none : link_of (with_batch sub) ≡ None = rw (g, f) refl in cc
     by-parts (Some v) true f g h =
-        let now : link_of (counted sub) ≡ Some (v, sub.batches + 1) = rw (g, f) refl in
+        let now : link_of (with_batch sub) ≡ Some (v, sub.batches + 1) = rw (g, f) refl in
         let old : link_of sub ≡ Some (v, sub.batches) = rw (f, g) refl in
         (sub.batches, old ∙ ap (λ (w : Sess). Some (w, sub.batches)) (first-same v (sub.batches + 1) (sym now ∙ h)))
 
@@ -120,7 +120,7 @@ Carries plan s x y items = (asked : Subscribe) (before : List Item) → LeavesVi
 -- each reader's session is held again, with the items that the event gave it
 pub gave-held : (plan : Plan) (s : StreamRef) (x y : Shown) (items : List Item) (h : Sess → List Item) (q : Sess → Subscribe) (readers : List ℕ) (a k : ℕ) (subs : List Sub) (sub : Sub) → AreDistinct readers → length subs ≤ length readers →
     slice_get subs k ≡ Some sub → Carries plan s x y items → HoldsSession plan s x h q sub →
-    HoldsSession plan s y (λ u. h u ++ carried (record { sender = a; reader = nth 0 readers k; sess = u }) (map (from a) (to_readers readers (batches_from 0 items subs)))) q (counted sub)
+    HoldsSession plan s y (λ u. h u ++ carried (record { sender = a; reader = nth 0 readers k; sess = u }) (map (from a) (to_readers readers (batches_from 0 items subs)))) q (with_batch sub)
 gave-held plan s x y items h q readers a k subs sub distinct few at carries held =
     let zero_on : 0 + k ≡ k = omega arith in
     let given : (u : Sess) → carried (record { sender = a; reader = nth 0 readers k; sess = u }) (map (from a) (to_readers readers (batches_from 0 items subs))) ≡ given_in (link_of sub) u items =
@@ -135,7 +135,7 @@ gave-held plan s x y items h q readers a k subs sub distinct few at carries held
           rw (given u, held.newer u kept) (none-newer u kept);
     }
   where
-    kept-same : (test : Option Sess → Bool) → test (counted sub).kept ≡ true → test sub.kept ≡ true
+    kept-same : (test : Option Sess → Bool) → test (with_batch sub).kept ≡ true → test sub.kept ≡ true
     kept-same test e = subst (λ (o : Option Sess). test o ≡ true) (kept-is sub.is_open) e
       where
         kept-is : (b : Bool) → (cond b (record sub { batches = sub.batches + 1 }) sub).kept ≡ sub.kept

@@ -8,7 +8,7 @@ use Rattle.dpc_model.specs.declared.tuples.Item.{Item}
 use Rattle.dpc_model.specs.declared.tuples.Item.TheVariants.{Stable, Tentative, Passed, Boundary, Undo, RecDone}
 use Rattle.dpc_model.specs.declared.plans.Plan.{Plan}
 use Rattle.dpc_model.specs.declared.plans.StreamRef.{StreamRef}
-use Rattle.dpc_model.specs.Inlets.{InletState, take_batch, is_old, broken_by, used}
+use Rattle.dpc_model.specs.Inlets.{InletState, take_batch, is_old, after_missing_batch, after_next_batch}
 use Rattle.dpc_model.specs.declared.batches.Taken.TheVariants.{Old}
 use Rattle.dpc_model.specs.declared.messages.Sess.{Sess}
 use Rattle.world_model.specs.Safe.{IsTrueItem, AreTrueItems, HoldsOf}
@@ -100,11 +100,11 @@ pub take_batch-holds : (plan : Plan) (s : StreamRef) (inlet : InletState) (u : S
     HoldsOf plan s inlet.held → AreTrueItems plan s items → HoldsOf plan s (take_batch inlet u index items).after.held
 unfolding take_batch
 take_batch-holds plan s inlet u index items h k =
-    elim (is_old inlet u index) as (λ c. HoldsOf plan s (cond c (record { after = inlet; answer = Old }) (cond (inlet.broken || nat_lt inlet.next index) (broken_by inlet) (used inlet (fold_items inlet.held items)))).after.held) [
+    elim (is_old inlet u index) as (λ c. HoldsOf plan s (cond c (record { after = inlet; answer = Old }) (cond (inlet.broken || nat_lt inlet.next index) (after_missing_batch inlet) (after_next_batch inlet (fold_items inlet.held items)))).after.held) [
       | true ↦ h
-      | false ↦ elim (inlet.broken || nat_lt inlet.next index) as (λ c. HoldsOf plan s (cond c (broken_by inlet) (used inlet (fold_items inlet.held items))).after.held) [
+      | false ↦ elim (inlet.broken || nat_lt inlet.next index) as (λ c. HoldsOf plan s (cond c (after_missing_batch inlet) (after_next_batch inlet (fold_items inlet.held items))).after.held) [
         | true ↦ h
-        | false ↦ (elim (fold_items inlet.held items) as (λ o. fold_items inlet.held items ≡ o → HoldsOf plan s (used inlet o).after.held) [
+        | false ↦ (elim (fold_items inlet.held items) as (λ o. fold_items inlet.held items ≡ o → HoldsOf plan s (after_next_batch inlet o).after.held) [
           | None ↦ λ e. h
           | Some f ↦ λ e. fold_items-holds plan s inlet.held items f h k e
         ]) refl

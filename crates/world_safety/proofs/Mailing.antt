@@ -17,7 +17,7 @@ use Rattle.node_model.specs.Mails.{Snap, Plain, SnapFor, Mail, mail, in_actor_or
 use Rattle.node_model.specs.Nodes.{Home}
 use Rattle.world_model.specs.Worlds.{from}
 use Rattle.world_model.specs.Safe.{AreTrueItems, IsTrueMessage, IsTrueSnap, IsTrueEnvelope, AreTrue, has_done, packet_done}
-use Rattle.world_model.specs.Orderly.{message_way, fits_stream, item_fits, items_of, is_fitting}
+use Rattle.world_model.specs.Orderly.{message_way, fits_stream, item_fits, items_carried, is_fitting}
 use Rattle.world_safety.specs.Plans.{IsPlace}
 use Rattle.world_safety.proofs.Tests.{both, both-of, le-test, all-append}
 use Rattle.world_safety.proofs.Numbering.{source-sends-it, node-sends-it, readers-read, all-nth}
@@ -69,12 +69,12 @@ pub record IsActor (home : Home) (a : ℕ) : Type 0 where
   pub role : role_of home.plan a ≡ IsNode home.frag home.replica
 
 pub node-mail : (home : Home) (a to : ℕ) (m : Message) (done : Type 0) → IsActor home a → IsTrueMessage home.plan (Frag home.frag) m →
-    message_way home.plan (IsNode home.frag home.replica) (role_of home.plan to) m ≡ true → list_all (item_fits home.plan (Frag home.frag)) (items_of (Plain m)) ≡ true →
+    message_way home.plan (IsNode home.frag home.replica) (role_of home.plan to) m ≡ true → list_all (item_fits home.plan (Frag home.frag)) (items_carried (Plain m)) ≡ true →
     (IsTrue (packet_done (Plain m)) → done) → IsMail home.plan a done (mail to m)
 node-mail home a to m done actor truth way fits surely =
     record {
       truth = rw actor.role truth;
-      fits = rw actor.role (both-of (message_way home.plan (IsNode home.frag home.replica) (role_of home.plan to) m) (list_all (item_fits home.plan (Frag home.frag)) (items_of (Plain m))) way fits);
+      fits = rw actor.role (both-of (message_way home.plan (IsNode home.frag home.replica) (role_of home.plan to) m) (list_all (item_fits home.plan (Frag home.frag)) (items_carried (Plain m))) way fits);
       surely = surely;
     }
 

@@ -13,7 +13,7 @@ use Rattle.dpc_model.proofs.IdealCausality.{cut-ideal, cut-ideal_upto}
 use Rattle.dpc_model.proofs.Prefixes.{cut-beginning, get-prefix, length-filter_le}
 use Rattle.dpc_model.specs.Sessions.{stable_items}
 use Rattle.node_model.specs.Nodes.{Home, PlainNode, held_by, out_stable, complete_upto}
-use Rattle.node_model.specs.NodeSteps.{moved, advanced}
+use Rattle.node_model.specs.NodeSteps.{past_buckets, after_stable_buckets}
 use Rattle.world_model.specs.Safe.{AreTrueItems, EachHolds, EachReaches, IsSafeNode}
 use Rattle.world_safety.proofs.Outputs.{ideal-InOrder, out_stable-ideal}
 use Rattle.world_safety.proofs.Truth.{stable_items-true, get-drop}
@@ -73,19 +73,19 @@ IsSafeNode-same home n m ports cursor base recovering safe =
 
 -- the node after r more buckets
 pub advanced-safe : (home : Home) (r : ℕ) (n : PlainNode) → IsSound home.plan → home.frag < length home.plan.frags → 0 < home.plan.width →
-    IsSafeNode home n → n.recovering ≡ false → n.cursor + r ≤ complete_upto home n → IsSafeNode home (advanced home r n)
+    IsSafeNode home n → n.recovering ≡ false → n.cursor + r ≤ complete_upto home n → IsSafeNode home (after_stable_buckets home r n)
 unfolding out_stable
 advanced-safe home r n sound there pos safe up h =
     let width = home.plan.width in
     let reaches : EachReaches ((n.cursor + r) * width) (held_by n) = reaches_least width (n.cursor + r) (held_by n) pos h in
-    let out = out_stable-ideal home (moved r n) sound there safe.inputs reaches in
+    let out = out_stable-ideal home (past_buckets r n) sound there safe.inputs reaches in
     let old = safe.output up in
-    let more : length (out_stable home n) ≤ length (out_stable home (moved r n)) = rw (old.output, out) (upto_le home.plan (Frag home.frag) (n.cursor * width) ((n.cursor + r) * width) sound (omega arith)) in
+    let more : length (out_stable home n) ≤ length (out_stable home (past_buckets r n)) = rw (old.output, out) (upto_le home.plan (Frag home.frag) (n.cursor * width) ((n.cursor + r) * width) sound (omega arith)) in
     record {
       inputs = safe.inputs;
       output = λ e. record {
         reaches = reaches;
-        base = let few = old.base in let count = length (out_stable home (moved r n)) in omega (arith, few, more);
+        base = let few = old.base in let count = length (out_stable home (past_buckets r n)) in omega (arith, few, more);
         output = out;
       };
     }

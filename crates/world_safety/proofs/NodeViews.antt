@@ -15,7 +15,7 @@ use Rattle.dpc_model.proofs.IdealCausality.{cut-ideal, cut-ideal_upto}
 use Rattle.dpc_model.proofs.Order.{ideal_upto-InOrder}
 use Rattle.dpc_model.proofs.Prefixes.{cut-beginning}
 use Rattle.node_model.specs.Nodes.{Home, PlainNode, held_by, view_cursor, out_stable, out_view, out_tentative, out_bound, out_passed, shown, bucket_of}
-use Rattle.node_model.specs.NodeSteps.{stably, given_by, given_stable, advanced, closing, with_failure}
+use Rattle.node_model.specs.NodeSteps.{stably, given_by, given_stable, after_stable_buckets, with_closed, with_failure}
 use Rattle.world_model.specs.SessionLaw.{bound_of}
 use Rattle.world_safety.proofs.Outputs.{ideal-InOrder}
 use Rattle.world_safety.specs.Plans.{IsChecked, IsPlace}
@@ -201,16 +201,16 @@ lt-gap r count = grind (arith, common_steps)
 pub processed-step : (home : Home) (most last : ℕ) (n : PlainNode) → IsPlace home → n.recovering ≡ false → IsGood home most n →
     let count = last + 1 - view_cursor n in
     let r = stably home n count in
-    let new = with_failure (closing home (count - r) (advanced home r n)) in
+    let new = with_failure (with_closed home (count - r) (after_stable_buckets home r n)) in
     IsGood home most new → IsViewStep home.plan (Frag home.frag) (shown home n) (shown home new) (given_by home n new (nat_lt 0 r) (nat_lt r count))
 processed-step home most last n place up g good =
     let count = last + 1 - view_cursor n in
     let r = stably home n count in
-    let m = closing home (count - r) (advanced home r n) in
+    let m = with_closed home (count - r) (after_stable_buckets home r n) in
     let new = with_failure m in
-    let more = map (bucket_of home (advanced home r n)) (range_with_len (view_cursor (advanced home r n)) (count - r)) in
+    let more = map (bucket_of home (after_stable_buckets home r n)) (range_with_len (view_cursor (after_stable_buckets home r n)) (count - r)) in
     let many : length more ≡ count - r =
-    length-map (range_with_len (view_cursor (advanced home r n)) (count - r)) (bucket_of home (advanced home r n)) ∙ length-range (view_cursor (advanced home r n)) (count - r) in
+    length-map (range_with_len (view_cursor (after_stable_buckets home r n)) (count - r)) (bucket_of home (after_stable_buckets home r n)) ∙ length-range (view_cursor (after_stable_buckets home r n)) (count - r) in
     let gone : HasGone home n new r more = record { held = refl; cursor = refl; closed = refl; none = stably-open home n count } in
     let same : nat_lt 0 (length more) ≡ nat_lt r count = ap (λ (l : ℕ). nat_lt 0 l) many ∙ sym (lt-gap r count) in
     subst (λ (b : Bool). IsViewStep home.plan (Frag home.frag) (shown home n) (shown home new) (given_by home n new (nat_lt 0 r) b)) same

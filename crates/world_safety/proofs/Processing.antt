@@ -4,7 +4,7 @@ use Rattle.std.proofs.lemmas.List.{length-map}
 use Rattle.std.proofs.Math.Nat.{le-div_iff_mul-le}
 use Rattle.dpc_model.specs.Lists.{least, range_with_len, is_nil}
 use Rattle.dpc_model.specs.Reading.{Reader}
-use Rattle.dpc_model.specs.Sessions.{given_items, boundary_item, counted, counted_all, Sub}
+use Rattle.dpc_model.specs.Sessions.{given_items, boundary_item, with_batch, with_batches, Sub}
 use Rattle.dpc_model.specs.declared.tuples.Item.{Item}
 use Rattle.dpc_model.specs.declared.tuples.Tagged.{Tagged}
 use Rattle.dpc_model.specs.declared.messages.NodeState.TheVariants.{UpFailure}
@@ -13,7 +13,7 @@ use Rattle.dpc_model.specs.declared.plans.StreamRef.{StreamRef}
 use Rattle.dpc_model.specs.declared.plans.StreamRef.TheVariants.{Frag}
 use Rattle.dpc_model.specs.NodeStates.{is_up_failure, is_stabilization}
 use Rattle.node_model.specs.Nodes.{Home, PlainNode, streams_of, held_by, view_cursor, bucket_of, buckets_of, out_stable, out_bound, complete_upto}
-use Rattle.node_model.specs.NodeSteps.{stably, advanced, closing, with_failure, give, given_by}
+use Rattle.node_model.specs.NodeSteps.{stably, after_stable_buckets, with_closed, with_failure, give, given_by}
 use Rattle.world_model.specs.Safe.{EachReaches, IsSafeNode, EachHolds, AreTrueItems}
 use Rattle.world_model.specs.Orderly.{IsOrderlyNode, closed_in_place, stamps_in_place, base_follows, has_shape, has_state_of_closed, are_ports_sound, port_columns}
 use Rattle.world_safety.proofs.Milling.{advanced-safe, IsSafeNode-same, reaches-end, upto-items-true}
@@ -58,7 +58,7 @@ stably-open home n count = by-closed n.closed
 -- ---- the closed buckets
 
 pub closing-closed : (home : Home) (r extra : ℕ) (n : PlainNode) → AreColumns (port_columns home) (held_by n) → AreClosed home n.cursor n.closed → (r ≡ 0) ⊎ (n.closed ≡ []) → view_cursor n + r + extra ≤ buckets_of home.plan →
-    AreClosed home (n.cursor + r) (closing home extra (advanced home r n)).closed
+    AreClosed home (n.cursor + r) (with_closed home extra (after_stable_buckets home r n)).closed
 closing-closed home r extra n fits h none few =
     closed-more home (n.cursor + r) extra (held_by n) n.closed fits (moved-closed none) (omega (arith, few))
   where
@@ -100,23 +100,23 @@ open-state n up e h = not-of (is_up_failure n.state) (rw (up, e) at h)
 
 -- the state after r buckets were processed stably and more of them closed
 pub processed-orderly : (home : Home) (most r extra : ℕ) (n : PlainNode) → AreColumns (port_columns home) (held_by n) → IsOrderlyNode home most n → n.recovering ≡ false → is_stabilization n.state ≡ false →
-    (r ≡ 0) ⊎ (n.closed ≡ []) → view_cursor n + r + extra ≤ buckets_of home.plan → IsOrderlyNode home most (with_failure (closing home extra (advanced home r n)))
+    (r ≡ 0) ⊎ (n.closed ≡ []) → view_cursor n + r + extra ≤ buckets_of home.plan → IsOrderlyNode home most (with_failure (with_closed home extra (after_stable_buckets home r n)))
 unfolding out_stable
 processed-orderly home most r extra n fits o up calm none few =
-    let m = closing home extra (advanced home r n) in
+    let m = with_closed home extra (after_stable_buckets home r n) in
     with_failure-orderly home most m o.ports up
-    (λ e. open-state n up (nil-first n.closed (map (bucket_of home (advanced home r n)) (range_with_len (view_cursor (advanced home r n)) extra)) e) o.state)
+    (λ e. open-state n up (nil-first n.closed (map (bucket_of home (after_stable_buckets home r n)) (range_with_len (view_cursor (after_stable_buckets home r n)) extra)) e) o.state)
     (closed-test home m (closing-closed home r extra n fits (closed-of home n o.closed) none few))
     (stamps-moved n.cursor r (buckets_of home.plan) n.stamps o.stamps)
     (base-follows n.base _ _) o.shape
 
 -- ---- giving items
 
-pub length-counted : (items : List Item) (subs : List Sub) → length (counted_all items subs) ≡ length subs
+pub length-counted : (items : List Item) (subs : List Sub) → length (with_batches items subs) ≡ length subs
 length-counted [] subs = refl
-length-counted (i ∷ items) subs = length-map subs counted
+length-counted (i ∷ items) subs = length-map subs with_batch
 
--- a node whose sessions were counted is orderly
+-- a node whose sessions were with_batch is orderly
 pub give-orderly : (home : Home) (most : ℕ) (items : List Item) (n : PlainNode) → n.recovering ≡ false → IsOrderlyNode home most n → IsOrderlyNode home most (give home items n).after
 unfolding out_stable
 give-orderly home most items n up o =
@@ -136,10 +136,10 @@ with_failure-safe : (home : Home) (m : PlainNode) → IsSafeNode home m → IsSa
 with_failure-safe home m safe = IsSafeNode-same home m (with_failure m) refl refl refl refl safe
 
 pub processed-safe : (home : Home) (r extra : ℕ) (n : PlainNode) → IsPlace home → IsSafeNode home n → n.recovering ≡ false → n.cursor + r ≤ complete_upto home n →
-    IsSafeNode home (with_failure (closing home extra (advanced home r n)))
+    IsSafeNode home (with_failure (with_closed home extra (after_stable_buckets home r n)))
 processed-safe home r extra n place safe up h =
-    let m = advanced home r n in
-    with_failure-safe home (closing home extra m) (IsSafeNode-same home m (closing home extra m) refl refl refl refl
+    let m = after_stable_buckets home r n in
+    with_failure-safe home (with_closed home extra m) (IsSafeNode-same home m (with_closed home extra m) refl refl refl refl
     (advanced-safe home r n place.checked.sound place.there place.checked.width safe up h))
 
 -- a safe node's cursor is complete
@@ -171,4 +171,4 @@ given_by-true home n new any_stable any_closed place safe up =
     ])
 
 pub give-safe : (home : Home) (items : List Item) (n : PlainNode) → IsSafeNode home n → IsSafeNode home (give home items n).after
-give-safe home items n safe = IsSafeNode-same home n (record n { subs = counted_all items n.subs }) refl refl refl refl safe
+give-safe home items n safe = IsSafeNode-same home n (record n { subs = with_batches items n.subs }) refl refl refl refl safe

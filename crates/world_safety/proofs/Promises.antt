@@ -14,7 +14,7 @@ use Rattle.dpc_model.specs.declared.plans.Plan.{Plan}
 use Rattle.dpc_model.specs.declared.plans.StreamRef.{StreamRef}
 use Rattle.dpc_model.specs.NodeStates.{is_stabilization}
 use Rattle.node_model.specs.Nodes.{Home, PlainNode, streams_of, due_at}
-use Rattle.node_model.specs.NodeSteps.{ticked_at}
+use Rattle.node_model.specs.NodeSteps.{tick_step}
 use Rattle.node_model.specs.Clients.{ClientState}
 use Rattle.world_model.specs.Worlds.{World, Envelope, Slot, home_of, node_place, slot_of, is_clock, node_ticks, node_stepped, ticks, happens, run}
 use Rattle.world_model.specs.Safe.{IsTrueEnvelope, HoldsOf, packet_done, IsDone, SendsDoneSurely, Serves, ServesAt}
@@ -169,22 +169,22 @@ slot-here w most a f r g h role =
     ∙ ap g (sym (ap (λ (o : Option Slot). unwrap_or o none) found.1))
 
 -- a tick that is not void makes the node's step
-tick-steps : (w : World) (a now f r : ℕ) (n : PlainNode) → role_of w.plan a ≡ IsNode f r → (slot_of w a).node ≡ Some n → is_clock n.clock now ≡ true → happens w (Tick a now) ≡ node_stepped a (ticked_at (home_of w.plan (f, r)) now n) w
+tick-steps : (w : World) (a now f r : ℕ) (n : PlainNode) → role_of w.plan a ≡ IsNode f r → (slot_of w a).node ≡ Some n → is_clock n.clock now ≡ true → happens w (Tick a now) ≡ node_stepped a (tick_step (home_of w.plan (f, r)) now n) w
 tick-steps w a now f r n role up clock =
     let home = home_of w.plan (f, r) in
     ap (λ (x : Role). ticks w a now x) role ∙ ap (λ (o : Option PlainNode). node_ticks w a now home o) up
-    ∙ ap (λ (b : Bool). cond b (node_stepped a (ticked_at home now n) w) w) clock
+    ∙ ap (λ (b : Bool). cond b (node_stepped a (tick_step home now n) w) w) clock
 
 none-due : (w : World) (most a now f r : ℕ) (old new : PlainNode) → IsFine w most → role_of w.plan a ≡ IsNode f r → (slot_of w a).node ≡ Some old → is_clock old.clock now ≡ true →
     (slot_of (happens w (Tick a now)) a).node ≡ Some new → is_stabilization new.state ≡ false → due_at (home_of w.plan (f, r)) new now ≡ None
 none-due w most a now f r old new fine role up clock after calm =
     let home = home_of w.plan (f, r) in
-    let s = ticked_at home now old in
+    let s = tick_step home now old in
     let here = slot-here w most a f r (λ (slot : Slot). record slot { node = Some s.after }) fine role in
     let told : (slot_of (happens w (Tick a now)) a).node ≡ Some s.after =
     ap (λ (v : World). (slot_of v a).node) (tick-steps w a now f r old role up clock) ∙ ap (λ (slot : Slot). slot.node) here in
     let same : new ≡ s.after = some-same new s.after (sym after ∙ told) in
-    let serves = subst (λ (o : Option PlainNode). IfSome o (λ n. is_clock n.clock now ≡ true → is_stabilization (ticked_at home now n).after.state ≡ false → Serves home now n (ticked_at home now n))) up
+    let serves = subst (λ (o : Option PlainNode). IfSome o (λ n. is_clock n.clock now ≡ true → is_stabilization (tick_step home now n).after.state ≡ false → Serves home now n (tick_step home now n))) up
     (subst (λ (x : Role). ServesAt w a now x) role (happens-serves w most (Tick a now) fine)) in
     rw same (serves clock (rw same at calm)).nothing_due
   where

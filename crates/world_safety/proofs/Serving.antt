@@ -6,8 +6,8 @@ use Rattle.std.proofs.lemmas.List.{length-map}
 use Rattle.std.proofs.lemmas.List.Elements.{Contains-append_left, Contains-append_right}
 use Rattle.dpc_model.specs.Lists.{nth, list_all, range_with_len}
 use Rattle.dpc_model.specs.Replicas.{is_silent}
-use Rattle.dpc_model.specs.Granting.{asking, own_key}
-use Rattle.dpc_model.specs.Ports.{port_chosen, port_ticked, marks_ended}
+use Rattle.dpc_model.specs.Granting.{with_ask, own_key}
+use Rattle.dpc_model.specs.Ports.{port_after_choice, port_after_tick, without_ended_marks}
 use Rattle.dpc_model.specs.Sessions.{Sub, link_of, Given, given_items}
 use Rattle.dpc_model.specs.declared.tuples.Item.{Item}
 use Rattle.dpc_model.specs.declared.messages.Sess.{Sess}
@@ -15,7 +15,7 @@ use Rattle.dpc_model.specs.declared.messages.Message.TheVariants as message
 use Rattle.node_model.specs.Mails.{Mail, to_each, Stepped}
 use Rattle.dpc_model.specs.NodeStates.{is_stabilization}
 use Rattle.node_model.specs.Nodes.{Home, PlainNode, streams_of, own_readers, held_by, view_cursor, out_stable, out_view, out_tentative, bucket_of, due_at, wants_to_reconcile}
-use Rattle.node_model.specs.NodeSteps.{stably, silently, then_do, given_by, peers_of, peer_watches, clocked, may_start_afresh, choosing, reconciling, entered, advanced, closing, with_failure, processed_upto, processing, announcing, serving, asking_snapshots, going_on, fresh, with_marks_ended, ticked_at}
+use Rattle.node_model.specs.NodeSteps.{stably, silent_step, then_do, given_by, peers_of, peer_watches, after_clock, may_start_afresh, choice_step, ask_step, enter_step, after_stable_buckets, with_closed, with_failure, processing_upto, processing_step, announcing_step, serving_step, snapshot_ask_step, rest_of_tick, with_fresh_start, with_marks_ended, tick_step}
 use Rattle.world_model.specs.Safe.{CarriesLast, Serves, IsSafeNode}
 use Rattle.world_safety.specs.Plans.{IsPlace}
 use Rattle.world_safety.proofs.Closing.{length-range}
@@ -60,18 +60,18 @@ IsGiven home x s = (k : ℕ) → let items = given_items (length (out_stable hom
 processed-items : (home : Home) (x : PlainNode) (last : ℕ) →
     let count = last + 1 - view_cursor x in
     let r = stably home x count in
-    let s = processed_upto home last x in
+    let s = processing_upto home last x in
     given_items (length (out_stable home x)) (given_by home x s.after (nat_lt x.cursor s.after.cursor) (nat_lt (length x.closed) (length s.after.closed)))
-    ≡ given_items (length (out_stable home x)) (given_by home x (with_failure (closing home (count - r) (advanced home r x))) (nat_lt 0 r) (nat_lt r count))
+    ≡ given_items (length (out_stable home x)) (given_by home x (with_failure (with_closed home (count - r) (after_stable_buckets home r x))) (nat_lt 0 r) (nat_lt r count))
 processed-items home x last =
     let count = last + 1 - view_cursor x in
     let r = stably home x count in
-    let m = closing home (count - r) (advanced home r x) in
+    let m = with_closed home (count - r) (after_stable_buckets home r x) in
     let new = with_failure m in
-    let s = processed_upto home last x in
-    let more = map (bucket_of home (advanced home r x)) (range_with_len (view_cursor (advanced home r x)) (count - r)) in
+    let s = processing_upto home last x in
+    let more = map (bucket_of home (after_stable_buckets home r x)) (range_with_len (view_cursor (after_stable_buckets home r x)) (count - r)) in
     let many : length more ≡ count - r =
-    length-map (range_with_len (view_cursor (advanced home r x)) (count - r)) (bucket_of home (advanced home r x)) ∙ length-range (view_cursor (advanced home r x)) (count - r) in
+    length-map (range_with_len (view_cursor (after_stable_buckets home r x)) (count - r)) (bucket_of home (after_stable_buckets home r x)) ∙ length-range (view_cursor (after_stable_buckets home r x)) (count - r) in
     let cursor : nat_lt x.cursor s.after.cursor ≡ nat_lt 0 r = lt-shift x.cursor r in
     let long : length m.closed ≡ length x.closed + (count - r) = length-append x.closed more ∙ ap (λ (l : ℕ). length x.closed + l) many in
     let closed : nat_lt (length x.closed) (length s.after.closed) ≡ nat_lt r count =
@@ -81,17 +81,17 @@ processed-items home x last =
     ∙ ap (λ (b : Bool). given_by home x new b (nat_lt (length x.closed) (length s.after.closed))) cursor
     ∙ ap (λ (c : Bool). given_by home x new (nat_lt 0 r) c) closed)
 
-processed-given : (home : Home) (x : PlainNode) (last : ℕ) → IsGiven home x (processed_upto home last x)
+processed-given : (home : Home) (x : PlainNode) (last : ℕ) → IsGiven home x (processing_upto home last x)
 processed-given home x last k some =
     let count = last + 1 - view_cursor x in
     let r = stably home x count in
-    let new = with_failure (closing home (count - r) (advanced home r x)) in
+    let new = with_failure (with_closed home (count - r) (after_stable_buckets home r x)) in
     let items = given_items (length (out_stable home x)) (given_by home x new (nat_lt 0 r) (nat_lt r count)) in
-    let s = processed_upto home last x in
+    let s = processing_upto home last x in
     let same = processed-items home x last in
     subst (λ (xs : List Item). IsGivenIn s.sends s.after.subs (own_readers home) xs k) (sym same) (give-given home items new k (λ e. some (same ∙ e)))
 
-silent-given : (home : Home) (x : PlainNode) → IsGiven home x (silently x)
+silent-given : (home : Home) (x : PlainNode) → IsGiven home x (silent_step x)
 silent-given home x k some =
     absurd (some (ap (λ (b : Bool). given_items (length (out_stable home x)) (given_by home x x b (nat_lt (length x.closed) (length x.closed)))) (lt-self x.cursor)
     ∙ ap (λ (c : Bool). given_items (length (out_stable home x)) (given_by home x x false c)) (lt-self (length x.closed)) ∙ none-given home x (length (out_stable home x))))
@@ -101,9 +101,9 @@ pub record HasServed (home : Home) (x : PlainNode) (s : Stepped PlainNode) : Typ
   pub nothing_due : due_at home s.after x.clock ≡ None
   pub given : IsGiven home x s
 
-processing-served : (home : Home) (x : PlainNode) → IsPlace home → 0 < length (held_by x) → is_stabilization x.state ≡ false → HasServed home x (processing home x)
+processing-served : (home : Home) (x : PlainNode) → IsPlace home → 0 < length (held_by x) → is_stabilization x.state ≡ false → HasServed home x (processing_step home x)
 processing-served home x place some calm =
-    rw calm ((elim (due_at home x x.clock) as (λ o. due_at home x x.clock ≡ o → HasServed home x (elim o [ None ↦ silently x | Some last ↦ processed_upto home last x ])) [
+    rw calm ((elim (due_at home x x.clock) as (λ o. due_at home x x.clock ≡ o → HasServed home x (elim o [ None ↦ silent_step x | Some last ↦ processing_upto home last x ])) [
       | None ↦ λ e. record { nothing_due = e; given = silent-given home x }
       | Some last ↦ λ e. record { nothing_due = processed_upto-none home x x.clock last place some e; given = processed-given home x last }
     ]) refl)
@@ -122,14 +122,14 @@ items-same : (home : Home) (n x y : PlainNode) → SameView n x →
 items-same home n x y h =
     rw (out_stable-held home n x h.held h.cursor, out_tentative-held home n x h.held h.cursor h.closed, h.cursor, h.closed) refl
 
-reconciling-same : (home : Home) (x : PlainNode) → is_stabilization (reconciling home x).after.state ≡ false → SameView x (reconciling home x).after × ((reconciling home x).after.clock ≡ x.clock)
-unfolding entered
+reconciling-same : (home : Home) (x : PlainNode) → is_stabilization (ask_step home x).after.state ≡ false → SameView x (ask_step home x).after × ((ask_step home x).after.clock ≡ x.clock)
+unfolding enter_step
 reconciling-same home x =
-    let asks : Stepped PlainNode = record { after = record x { grants = asking x.grants }; sends = to_each (message.Ask (own_key x.grants).0 (own_key x.grants).1) (peers_of home) } in
-    elim (wants_to_reconcile home x && is_none x.grants.promise) as (λ b. is_stabilization (cond b (cond (list_all is_silent (peer_watches home x)) (entered home x) asks) (silently x)).after.state ≡ false →
-    SameView x (cond b (cond (list_all is_silent (peer_watches home x)) (entered home x) asks) (silently x)).after × ((cond b (cond (list_all is_silent (peer_watches home x)) (entered home x) asks) (silently x)).after.clock ≡ x.clock)) [
-      | true ↦ elim (list_all is_silent (peer_watches home x)) as (λ b. is_stabilization (cond b (entered home x) asks).after.state ≡ false →
-          SameView x (cond b (entered home x) asks).after × ((cond b (entered home x) asks).after.clock ≡ x.clock)) [
+    let asks : Stepped PlainNode = record { after = record x { grants = with_ask x.grants }; sends = to_each (message.Ask (own_key x.grants).0 (own_key x.grants).1) (peers_of home) } in
+    elim (wants_to_reconcile home x && is_none x.grants.promise) as (λ b. is_stabilization (cond b (cond (list_all is_silent (peer_watches home x)) (enter_step home x) asks) (silent_step x)).after.state ≡ false →
+    SameView x (cond b (cond (list_all is_silent (peer_watches home x)) (enter_step home x) asks) (silent_step x)).after × ((cond b (cond (list_all is_silent (peer_watches home x)) (enter_step home x) asks) (silent_step x)).after.clock ≡ x.clock)) [
+      | true ↦ elim (list_all is_silent (peer_watches home x)) as (λ b. is_stabilization (cond b (enter_step home x) asks).after.state ≡ false →
+          SameView x (cond b (enter_step home x) asks).after × ((cond b (enter_step home x) asks).after.clock ≡ x.clock)) [
             | true ↦ λ e. cc
             | false ↦ λ e. (record { held = refl; cursor = refl; closed = refl }, refl)
           ]
@@ -137,7 +137,7 @@ reconciling-same home x =
     ]
 
 -- a step that processes nothing stays in STABILIZATION
-processing-calm : (home : Home) (x : PlainNode) → is_stabilization (processing home x).after.state ≡ false → is_stabilization x.state ≡ false
+processing-calm : (home : Home) (x : PlainNode) → is_stabilization (processing_step home x).after.state ≡ false → is_stabilization x.state ≡ false
 processing-calm home x e = by-value (is_stabilization x.state) refl
   where
     by-value : (b : Bool) → is_stabilization x.state ≡ b → is_stabilization x.state ≡ false
@@ -149,14 +149,14 @@ some-held home n place safe =
     let same = holds-length home.plan (streams_of home) (held_by n) safe.inputs in
     let some = place.reads in omega (arith, same, some)
 
-serving-serves : (home : Home) (now : ℕ) (n x : PlainNode) → IsPlace home → IsSafeNode home x → SameView n x → x.clock ≡ now → is_stabilization (serving home x).after.state ≡ false → Serves home now n (serving home x)
+serving-serves : (home : Home) (now : ℕ) (n x : PlainNode) → IsPlace home → IsSafeNode home x → SameView n x → x.clock ≡ now → is_stabilization (serving_step home x).after.state ≡ false → Serves home now n (serving_step home x)
 serving-serves home now n x place safe view clock calm =
-    let a = choosing home x in
-    let b = reconciling home a.after in
-    let c = processing home b.after in
+    let a = choice_step home x in
+    let b = ask_step home a.after in
+    let c = processing_step home b.after in
     let quiet = processing-calm home b.after calm in
     let same = reconciling-same home a.after quiet in
-    let chosen : held_by a.after ≡ held_by x = held-map port_chosen chosen-held x.ports in
+    let chosen : held_by a.after ≡ held_by x = held-map port_after_choice chosen-held x.ports in
     let seen : SameView n b.after = record { held = same.0.held ∙ chosen ∙ view.held; cursor = same.0.cursor ∙ view.cursor; closed = same.0.closed ∙ view.closed } in
     let at_now : b.after.clock ≡ now = same.1 ∙ clock in
     let many : 0 < length (held_by b.after) = rw (same.0.held, chosen) (some-held home x place safe) in
@@ -166,7 +166,7 @@ serving-serves home now n x place safe view clock calm =
       given = λ k some sub e.
           let items = items-same home n b.after c.after seen in
           let found = subst (λ (xs : List Item). IsGivenIn c.sends c.after.subs (own_readers home) xs k) (sym items) (served.given k (λ f. some (items ∙ f))) sub e in
-          within (link_of sub) (a.sends ++ b.sends) c.sends (announcing home c.after).sends (nth 0 (own_readers home) k) _ found;
+          within (link_of sub) (a.sends ++ b.sends) c.sends (announcing_step home c.after).sends (nth 0 (own_readers home) k) _ found;
     }
   where
     within : (o : Option (Sess × ℕ)) (before middle behind : List Mail) (to : ℕ) (items : List Item) →
@@ -175,21 +175,21 @@ serving-serves home now n x place safe view clock calm =
     within (Some l) before middle behind to items h =
         (h.0, h.1, Contains-append_left (before ++ middle) behind _ (Contains-append_right before middle _ h.2))
 
-going_on-serves : (home : Home) (most now : ℕ) (n x : PlainNode) → IsPlace home → IsGood home most x → SameView n x → x.clock ≡ now → is_stabilization (going_on home x).after.state ≡ false → Serves home now n (going_on home x)
+going_on-serves : (home : Home) (most now : ℕ) (n x : PlainNode) → IsPlace home → IsGood home most x → SameView n x → x.clock ≡ now → is_stabilization (rest_of_tick home x).after.state ≡ false → Serves home now n (rest_of_tick home x)
 going_on-serves home most now n x place g view clock =
-    (elim x.recovering as (λ b. x.recovering ≡ b → is_stabilization (cond (not b) (serving home x) (cond (may_start_afresh home x) (serving home (fresh x)) (then_do (asking_snapshots home x) (announcing home)))).after.state ≡ false →
-    Serves home now n (cond (not b) (serving home x) (cond (may_start_afresh home x) (serving home (fresh x)) (then_do (asking_snapshots home x) (announcing home))))) [
+    (elim x.recovering as (λ b. x.recovering ≡ b → is_stabilization (cond (not b) (serving_step home x) (cond (may_start_afresh home x) (serving_step home (with_fresh_start x)) (then_do (snapshot_ask_step home x) (announcing_step home)))).after.state ≡ false →
+    Serves home now n (cond (not b) (serving_step home x) (cond (may_start_afresh home x) (serving_step home (with_fresh_start x)) (then_do (snapshot_ask_step home x) (announcing_step home))))) [
       | false ↦ λ up. serving-serves home now n x place g.safe view clock
-      | true ↦ λ down. elim (may_start_afresh home x) as (λ b. is_stabilization (cond b (serving home (fresh x)) (then_do (asking_snapshots home x) (announcing home))).after.state ≡ false →
-          Serves home now n (cond b (serving home (fresh x)) (then_do (asking_snapshots home x) (announcing home)))) [
-            | true ↦ serving-serves home now n (fresh x) place (fresh-good home most x place down g).safe (record { held = view.held; cursor = view.cursor; closed = view.closed }) clock
+      | true ↦ λ down. elim (may_start_afresh home x) as (λ b. is_stabilization (cond b (serving_step home (with_fresh_start x)) (then_do (snapshot_ask_step home x) (announcing_step home))).after.state ≡ false →
+          Serves home now n (cond b (serving_step home (with_fresh_start x)) (then_do (snapshot_ask_step home x) (announcing_step home)))) [
+            | true ↦ serving-serves home now n (with_fresh_start x) place (fresh-good home most x place down g).safe (record { held = view.held; cursor = view.cursor; closed = view.closed }) clock
             | false ↦ λ calm. let still = (emptied-of x down g.orderly.recovering).state in absurd (let clash : true ≡ false = sym still ∙ calm in cc)
           ]
     ]) refl
 
-pub ticked-serves : (home : Home) (most now : ℕ) (n : PlainNode) → IsPlace home → IsGood home most n → is_stabilization (ticked_at home now n).after.state ≡ false → Serves home now n (ticked_at home now n)
-unfolding ticked_at
+pub ticked-serves : (home : Home) (most now : ℕ) (n : PlainNode) → IsPlace home → IsGood home most n → is_stabilization (tick_step home now n).after.state ≡ false → Serves home now n (tick_step home now n)
+unfolding tick_step
 ticked-serves home most now n place g =
-    let x = clocked now (with_marks_ended n) in
+    let x = after_clock now (with_marks_ended n) in
     going_on-serves home most now n x place (clocked-good home most now (with_marks_ended n) (marks-good home most n g))
-    (record { held = held-map port_ticked (λ p. refl) (map marks_ended n.ports) ∙ held-map marks_ended (λ p. refl) n.ports; cursor = refl; closed = refl }) refl
+    (record { held = held-map port_after_tick (λ p. refl) (map without_ended_marks n.ports) ∙ held-map without_ended_marks (λ p. refl) n.ports; cursor = refl; closed = refl }) refl

@@ -5,7 +5,7 @@ use Rattle.dpc_model.specs.Lists.{nth, list_all, place_of}
 use Rattle.dpc_model.specs.Streams.{cut, is_below, count_below}
 use Rattle.dpc_model.specs.Fragments.{log_of, ideal, ideal_upto}
 use Rattle.dpc_model.specs.Actors.{IsSource, role_of, reads_from, are_peers}
-use Rattle.dpc_model.specs.Sessions.{no_session, link_of, answered, given_items, stable_items, boundary_item}
+use Rattle.dpc_model.specs.Sessions.{no_session, link_of, answer_to, given_items, stable_items, boundary_item}
 use Rattle.dpc_model.specs.declared.tuples.Tuple.{Tuple}
 use Rattle.dpc_model.specs.declared.messages.Message.{Message}
 use Rattle.dpc_model.specs.declared.messages.Message.TheVariants as message
@@ -13,7 +13,7 @@ use Rattle.dpc_model.specs.declared.plans.Plan.{Plan}
 use Rattle.dpc_model.specs.declared.plans.StreamRef.TheVariants.{Source}
 use Rattle.dpc_model.proofs.Prefixes.{length-filter_le}
 use Rattle.node_model.specs.Mails.{Packet, Plain, SnapFor, Stepped}
-use Rattle.node_model.specs.Sources.{SourceState, source_readers, bound_at, source_shown, emitted_upto, source_given, source_gives, source_emits, source_releases, source_subscribed, source_message, source_delivered, source_beat, source_ticked}
+use Rattle.node_model.specs.Sources.{SourceState, source_readers, bound_at, source_shown, emitted_upto, source_given, source_gives, source_emits, source_releases, source_subscribed, source_message, source_packet_step, source_beat, source_tick_step}
 use Rattle.world_model.specs.Safe.{AreTrueItems}
 use Rattle.world_model.specs.Orderly.{fits_stream, is_source_orderly}
 use Rattle.world_safety.proofs.Truth.{stable_items-true, given_items-true, get-drop, ideal-source}
@@ -160,7 +160,7 @@ source-message plan a s sender (message.Subscribe asked) x checked role h =
       | None ↦ λ e. source-silent plan a s x h
       | Some k ↦ λ e.
           let sub = nth no_session x.subs k in
-          let answer = answered (source_shown plan s x) sub asked in
+          let answer = answer_to (source_shown plan s x) sub asked in
           let same = length-changed k (λ _. answer.after) x.subs in
           let subs = h.subs in
           record {
@@ -179,18 +179,18 @@ source-message plan a s sender (message.Grant i n) x checked role h = source-sil
 source-message plan a s sender (message.SnapAsk i n) x checked role h = source-silent plan a s x h
 
 pub source_delivered-step : (plan : Plan) (a s sender : ℕ) (packet : Packet) (x : SourceState) → IsChecked plan → role_of plan a ≡ IsSource s → IsFineSource plan s x →
-    IsSourceStep plan a s x (source_delivered plan s sender packet x)
-unfolding source_delivered
+    IsSourceStep plan a s x (source_packet_step plan s sender packet x)
+unfolding source_packet_step
 source_delivered-step plan a s sender (Plain m) x checked role h = source-message plan a s sender m x checked role h
 source_delivered-step plan a s sender (SnapFor i try snap) x checked role h = source-silent plan a s x h
 
-pub source_ticked-step : (plan : Plan) (a s now : ℕ) (x : SourceState) → role_of plan a ≡ IsSource s → IsFineSource plan s x → IsSourceStep plan a s x (source_ticked plan s now x)
-unfolding source_ticked
+pub source_ticked-step : (plan : Plan) (a s now : ℕ) (x : SourceState) → role_of plan a ≡ IsSource s → IsFineSource plan s x → IsSourceStep plan a s x (source_tick_step plan s now x)
+unfolding source_tick_step
 source_ticked-step plan a s now x role h =
     record {
       fine = record { within = h.within; below = h.below; few = h.few; subs = h.subs };
       subs = refl;
-      mails = mails-weaker plan a ⊥ (Unit {0}) (λ e. tt) (source_ticked plan s now x).sends
+      mails = mails-weaker plan a ⊥ (Unit {0}) (λ e. tt) (source_tick_step plan s now x).sends
           (zipped-mails plan a (IsSource s) (λ sub. source_beat (link_of sub)) (source_readers plan s) x.subs
           (λ to sub way. record {
             truth = rw role tt;

@@ -11,14 +11,14 @@ use Rattle.dpc_model.specs.Inlets.{InletState, new_inlet, restarted_inlet, sess_
 use Rattle.dpc_model.specs.Replicas.{new_watch}
 use Rattle.dpc_model.specs.Actors.{senders_of}
 use Rattle.dpc_model.specs.Ports.{Port, held_at, port_at}
-use Rattle.dpc_model.specs.Sessions.{Acked, shut, no_session}
+use Rattle.dpc_model.specs.Sessions.{Acked, with_session_shut, no_session}
 use Rattle.dpc_model.specs.declared.plans.Plan.{Plan}
 use Rattle.dpc_model.specs.declared.plans.StreamRef.{StreamRef}
 use Rattle.dpc_model.proofs.IdealCausality.{cut-ideal}
 use Rattle.dpc_model.proofs.Prefixes.{cut-beginning}
 use Rattle.node_model.specs.Mails.{Snap}
 use Rattle.node_model.specs.Nodes.{Home, PlainNode, spec_of, streams_of, own_readers, held_by, reader_at, out_stable, new_node, restarted_node, first_session}
-use Rattle.node_model.specs.NodeSteps.{port_emptied, ports_adopted, adopted, fresh, snapshot}
+use Rattle.node_model.specs.NodeSteps.{emptied_port, adopted_ports, after_adoption, with_fresh_start, snapshot}
 use Rattle.world_model.specs.Safe.{HoldsOf, EachHolds, EachReaches, IsSafeNode, IsTrueSnap}
 use Rattle.world_model.specs.Orderly.{is_port_sound, are_ports_sound}
 use Rattle.world_safety.proofs.Outputs.{out_stable-ideal, ideal-InOrder, inputs-held}
@@ -45,7 +45,7 @@ least-none (a ∷ b ∷ acks) h =
 
 -- ---- afresh
 
-pub fresh-good : (home : Home) (most : ℕ) (n : PlainNode) → IsPlace home → n.recovering ≡ true → IsGood home most n → IsGood home most (fresh n)
+pub fresh-good : (home : Home) (most : ℕ) (n : PlainNode) → IsPlace home → n.recovering ≡ true → IsGood home most n → IsGood home most (with_fresh_start n)
 unfolding out_stable
 fresh-good home most n place down g =
     let o = g.orderly in
@@ -58,7 +58,7 @@ fresh-good home most n place down g =
         output = λ _. record {
           reaches = reaches;
           base = let none = e.base in omega (arith, none);
-          output = out_stable-ideal home (fresh n) place.checked.sound place.there g.safe.inputs reaches;
+          output = out_stable-ideal home (with_fresh_start n) place.checked.sound place.there g.safe.inputs reaches;
         };
       };
       orderly = record {
@@ -83,30 +83,30 @@ ideal-holds plan s b checked within =
     }
 
 adopted-holds : (plan : Plan) (b : ℕ) → IsChecked plan → b ≤ plan.end → (ss : List StreamRef) (ports : List Port) → EachHolds plan ss (map held_at ports) →
-    EachHolds plan ss (map held_at (ports_adopted b (map (λ s. ideal_upto plan s b) ss) ports))
+    EachHolds plan ss (map held_at (adopted_ports b (map (λ s. ideal_upto plan s b) ss) ports))
 adopted-holds plan b checked within [] [] h = tt
 adopted-holds plan b checked within [] (p ∷ ports) h = absurd h
 adopted-holds plan b checked within (s ∷ ss) [] h = absurd h
 adopted-holds plan b checked within (s ∷ ss) (p ∷ ports) h = (ideal-holds plan s b checked within, adopted-holds plan b checked within ss ports h.1)
 
-adopted-reaches : (plan : Plan) (b : ℕ) (ss : List StreamRef) (ports : List Port) → EachHolds plan ss (map held_at ports) → EachReaches b (map held_at (ports_adopted b (map (λ s. ideal_upto plan s b) ss) ports))
+adopted-reaches : (plan : Plan) (b : ℕ) (ss : List StreamRef) (ports : List Port) → EachHolds plan ss (map held_at ports) → EachReaches b (map held_at (adopted_ports b (map (λ s. ideal_upto plan s b) ss) ports))
 adopted-reaches plan b [] [] h = tt
 adopted-reaches plan b [] (p ∷ ports) h = absurd h
 adopted-reaches plan b (s ∷ ss) [] h = absurd h
 adopted-reaches plan b (s ∷ ss) (p ∷ ports) h = (omega arith, adopted-reaches plan b ss ports h.1)
 
-adopted-sound : (plan : Plan) (i most b : ℕ) (ss : List StreamRef) (ports : List Port) → are_ports_sound plan i most ss ports ≡ true → are_ports_sound plan i most ss (ports_adopted b (map (λ s. ideal_upto plan s b) ss) ports) ≡ true
+adopted-sound : (plan : Plan) (i most b : ℕ) (ss : List StreamRef) (ports : List Port) → are_ports_sound plan i most ss ports ≡ true → are_ports_sound plan i most ss (adopted_ports b (map (λ s. ideal_upto plan s b) ss) ports) ≡ true
 adopted-sound plan i most b [] [] h = refl
 adopted-sound plan i most b [] (p ∷ ports) h = cc
 adopted-sound plan i most b (s ∷ ss) [] h = cc
 adopted-sound plan i most b (s ∷ ss) (p ∷ ports) h =
     let k = both (is_port_sound plan s i most p) (are_ports_sound plan i most ss ports) h in
-    both-of (is_port_sound plan s i most (port_emptied (ideal_upto plan s b) b p)) _ (emptied-sound plan s i most b (ideal_upto plan s b) p k.0) (adopted-sound plan i most b ss ports k.1)
+    both-of (is_port_sound plan s i most (emptied_port (ideal_upto plan s b) b p)) _ (emptied-sound plan s i most b (ideal_upto plan s b) p k.0) (adopted-sound plan i most b ss ports k.1)
 
-pub adopted-good : (home : Home) (most : ℕ) (s : Snap) (n : PlainNode) → IsPlace home → n.recovering ≡ true → IsTrueSnap home.plan home.frag s → IsGood home most n → IsGood home most (adopted home s n)
-unfolding adopted
+pub adopted-good : (home : Home) (most : ℕ) (s : Snap) (n : PlainNode) → IsPlace home → n.recovering ≡ true → IsTrueSnap home.plan home.frag s → IsGood home most n → IsGood home most (after_adoption home s n)
+unfolding after_adoption
 adopted-good home most s n place down truth g =
-    let m = adopted home s n in
+    let m = after_adoption home s n in
     let b = s.cursor * home.plan.width in
     let o = g.orderly in
     let e = emptied-of n down o.recovering in
@@ -126,7 +126,7 @@ adopted-good home most s n place down truth g =
         closed = closed-test home m (none-closed home s.cursor ((le-div_iff_mul-le {k = home.plan.width} {x = s.cursor} {y = home.plan.end} place.checked.width).1 truth.within));
         stamps = refl;
         base = λ _. le-test (min (least 0 (map (λ (a : Acked). a.1) n.acks)) _) s.base (let none = least-none n.acks e.acks in omega (arith, none));
-        shape = shape-test home most m (record { subs = length-map n.subs shut ∙ k.subs; acks = k.acks; peers = k.peers; heard = k.heard; me = k.me; tries = k.tries; over = k.over });
+        shape = shape-test home most m (record { subs = length-map n.subs with_session_shut ∙ k.subs; acks = k.acks; peers = k.peers; heard = k.heard; me = k.me; tries = k.tries; over = k.over });
       };
     }
 

@@ -4,8 +4,8 @@ use Rattle.std.proofs.lemmas.Grind.{common_steps}
 use Rattle.std.proofs.Math.Nat.{le-div_iff_mul-le}
 use Rattle.dpc_model.specs.Lists.{list_all, push, is_nil}
 use Rattle.dpc_model.specs.Reading.{Reader, NoReading, Skipped, Taken, reading, is_sure, Folded, fold_items, taken_first, tuples_in}
-use Rattle.dpc_model.specs.Inlets.{InletState, Took, take_batch, is_old, broken_by, used}
-use Rattle.dpc_model.specs.Due.{Stamps, stamp_of, stamped, stamped_all}
+use Rattle.dpc_model.specs.Inlets.{InletState, AfterBatch, take_batch, is_old, after_missing_batch, after_next_batch}
+use Rattle.dpc_model.specs.Due.{Stamps, stamp_of, with_stamp, with_stamps}
 use Rattle.dpc_model.specs.declared.batches.Taken.TheVariants.{Used, Old}
 use Rattle.dpc_model.specs.declared.tuples.Tuple.{Tuple}
 use Rattle.dpc_model.specs.declared.tuples.Item.{Item}
@@ -111,13 +111,13 @@ fold_items-sound plan s r (i ∷ items) f h k e =
 -- ---- a batch
 
 -- what a batch leaves: a sound reader in the same session, and items that fit
-pub record TookSoundly (plan : Plan) (s : StreamRef) (inlet : InletState) (t : Took) : Type 0 where
+pub record TookSoundly (plan : Plan) (s : StreamRef) (inlet : InletState) (t : AfterBatch) : Type 0 where
   pub reader : IsSoundReader plan s t.after.held
   pub sess : t.after.sess ≡ inlet.sess
   pub answer : (items : List Item) → t.answer ≡ Used items → list_all (item_fits plan s) items ≡ true
 
 used-sound : (plan : Plan) (s : StreamRef) (inlet : InletState) (items : List Item) (o : Option Folded) → fold_items inlet.held items ≡ o → IsSoundReader plan s inlet.held → list_all (item_fits plan s) items ≡ true →
-    TookSoundly plan s inlet (used inlet o)
+    TookSoundly plan s inlet (after_next_batch inlet o)
 used-sound plan s inlet items None e h k = record { reader = h; sess = refl; answer = λ taken f. cc }
 used-sound plan s inlet items (Some f) e h k =
     let p = fold_items-sound plan s inlet.held items f h k e in
@@ -127,9 +127,9 @@ pub take_batch-sound : (plan : Plan) (s : StreamRef) (inlet : InletState) (u : S
     TookSoundly plan s inlet (take_batch inlet u index items)
 unfolding take_batch
 take_batch-sound plan s inlet u index items h k =
-    elim (is_old inlet u index) as (λ c. TookSoundly plan s inlet (cond c (record { after = inlet; answer = Old }) (cond (inlet.broken || nat_lt inlet.next index) (broken_by inlet) (used inlet (fold_items inlet.held items))))) [
+    elim (is_old inlet u index) as (λ c. TookSoundly plan s inlet (cond c (record { after = inlet; answer = Old }) (cond (inlet.broken || nat_lt inlet.next index) (after_missing_batch inlet) (after_next_batch inlet (fold_items inlet.held items))))) [
       | true ↦ record { reader = h; sess = refl; answer = λ taken f. cc }
-      | false ↦ elim (inlet.broken || nat_lt inlet.next index) as (λ c. TookSoundly plan s inlet (cond c (broken_by inlet) (used inlet (fold_items inlet.held items)))) [
+      | false ↦ elim (inlet.broken || nat_lt inlet.next index) as (λ c. TookSoundly plan s inlet (cond c (after_missing_batch inlet) (after_next_batch inlet (fold_items inlet.held items)))) [
         | true ↦ record { reader = h; sess = refl; answer = λ taken f. cc }
         | false ↦ used-sound plan s inlet items (fold_items inlet.held items) refl h k
       ]
@@ -150,7 +150,7 @@ bucket-within plan time checked h =
           let past : plan.end ≤ time = rw whole at (up high) in absurd (omega (arith, past, h))
     ]) refl
 
-stamped-in : (c clock buckets k : ℕ) (stamps : Stamps) → k < buckets → list_all (is_stamp_in c buckets) stamps ≡ true → list_all (is_stamp_in c buckets) (stamped c clock stamps k) ≡ true
+stamped-in : (c clock buckets k : ℕ) (stamps : Stamps) → k < buckets → list_all (is_stamp_in c buckets) stamps ≡ true → list_all (is_stamp_in c buckets) (with_stamp c clock stamps k) ≡ true
 stamped-in c clock buckets k stamps h all =
     (elim (nat_lt k c) as (λ b. nat_lt k c ≡ b → list_all (is_stamp_in c buckets) (cond (b || is_some (stamp_of stamps k)) stamps (push stamps (k, clock))) ≡ true) [
       | true ↦ λ e. all
@@ -163,11 +163,11 @@ stamped-in c clock buckets k stamps h all =
     ]) refl
 
 pub stamps-taken : (plan : Plan) (c clock : ℕ) (stamps : Stamps) (ts : List Tuple) → IsChecked plan → list_all (λ (t : Tuple). nat_lt t.stime plan.end) ts ≡ true →
-    list_all (is_stamp_in c (buckets_of plan)) stamps ≡ true → list_all (is_stamp_in c (buckets_of plan)) (stamped_all plan.width c clock stamps ts) ≡ true
+    list_all (is_stamp_in c (buckets_of plan)) stamps ≡ true → list_all (is_stamp_in c (buckets_of plan)) (with_stamps plan.width c clock stamps ts) ≡ true
 stamps-taken plan c clock stamps [] checked h all = all
 stamps-taken plan c clock stamps (t ∷ ts) checked h all =
     let p = both (nat_lt t.stime plan.end) (list_all (λ (t : Tuple). nat_lt t.stime plan.end) ts) h in
-    stamps-taken plan c clock (stamped c clock stamps (t.stime / plan.width)) ts checked p.1
+    stamps-taken plan c clock (with_stamp c clock stamps (t.stime / plan.width)) ts checked p.1
     (stamped-in c clock (buckets_of plan) (t.stime / plan.width) stamps (bucket-within plan t.stime checked (lt-of t.stime plan.end p.0)) all)
 
 -- the tuples of items that fit lie below end

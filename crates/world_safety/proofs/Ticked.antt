@@ -4,11 +4,11 @@ use Rattle.std.specs.Prelude.{zip, is_none}
 use Rattle.std.proofs.lemmas.List.{length-map}
 use Rattle.std.specs.List.{filter}
 use Rattle.dpc_model.specs.Lists.{nth, list_all, least, place_of}
-use Rattle.dpc_model.specs.Inlets.{reopened, asked_by}
+use Rattle.dpc_model.specs.Inlets.{with_next_session, asked_by}
 use Rattle.dpc_model.specs.Replicas.{rank_of, rank_order, choose, is_silent}
-use Rattle.dpc_model.specs.Granting.{asking, own_key}
+use Rattle.dpc_model.specs.Granting.{with_ask, own_key}
 use Rattle.dpc_model.specs.Actors.{Role, IsSource, IsNode, IsClient, Nobody, role_of, are_peers, reads_from, senders_of, replicas_of, is_replica_of}
-use Rattle.dpc_model.specs.Ports.{Port, held_at, choice_at, must_reopen, port_chosen, subscriptions, acks_to}
+use Rattle.dpc_model.specs.Ports.{Port, held_at, choice_at, must_reopen, port_after_choice, subscriptions, acks_to}
 use Rattle.dpc_model.specs.Sessions.{Sub, link_of}
 use Rattle.dpc_model.specs.declared.messages.Rank.{Rank}
 use Rattle.dpc_model.specs.declared.messages.Message.{Message}
@@ -18,7 +18,7 @@ use Rattle.dpc_model.specs.declared.plans.StreamRef.{StreamRef}
 use Rattle.dpc_model.specs.declared.plans.StreamRef.TheVariants.{Frag}
 use Rattle.node_model.specs.Mails.{mail, mails, in_actor_order, to_each, Stepped}
 use Rattle.node_model.specs.Nodes.{Home, PlainNode, streams_of, own_readers, held_by, out_stable, wants_to_reconcile}
-use Rattle.node_model.specs.NodeSteps.{silently, then_do, peers_of, peer_watches, clocked, may_start_afresh, choosing, reconciling, entered, processing, done_at, acks_from, beat_of, beats, announcing, serving, asking_snapshots, going_on, fresh, with_marks_ended, ticked_at}
+use Rattle.node_model.specs.NodeSteps.{silent_step, then_do, peers_of, peer_watches, after_clock, may_start_afresh, choice_step, ask_step, enter_step, processing_step, done_at, acks_from, beat_of, beats, announcing_step, serving_step, snapshot_ask_step, rest_of_tick, with_fresh_start, with_marks_ended, tick_step}
 use Rattle.world_model.specs.Orderly.{is_port_sound, are_ports_sound}
 use Rattle.world_safety.proofs.Milling.{IsSafeNode-same}
 use Rattle.world_safety.proofs.Tests.{both, both-of, eq-of, eq-test}
@@ -48,17 +48,17 @@ chosen-below current ranks low =
 pub choice-below : (p : Port) → p.chosen < length p.watches → choice_at p < length p.watches
 choice-below p low = let many = length-map p.watches rank_of in rw many at (chosen-below p.chosen (map rank_of p.watches) (rw many low))
 
-pub chosen-sound : (plan : Plan) (s : StreamRef) (i most : ℕ) (p : Port) → is_port_sound plan s i most p ≡ true → is_port_sound plan s i (most + 1) (port_chosen p) ≡ true
+pub chosen-sound : (plan : Plan) (s : StreamRef) (i most : ℕ) (p : Port) → is_port_sound plan s i most p ≡ true → is_port_sound plan s i (most + 1) (port_after_choice p) ≡ true
 chosen-sound plan s i most p h =
     let k = port-of plan s i most p h in
     let few = k.number in
-    elim (must_reopen p) as (λ b. is_port_sound plan s i (most + 1) (record p { inlet = cond b (reopened p.inlet) p.inlet; chosen = choice_at p; ticks = cond b 0 p.ticks }) ≡ true) [
-      | true ↦ port-test plan s i (most + 1) (record p { inlet = reopened p.inlet; chosen = choice_at p; ticks = 0 }) (record { past = k.past; inc = k.inc; number = omega (arith, few); watches = k.watches; chosen = choice-below p k.chosen; fits = k.fits })
+    elim (must_reopen p) as (λ b. is_port_sound plan s i (most + 1) (record p { inlet = cond b (with_next_session p.inlet) p.inlet; chosen = choice_at p; ticks = cond b 0 p.ticks }) ≡ true) [
+      | true ↦ port-test plan s i (most + 1) (record p { inlet = with_next_session p.inlet; chosen = choice_at p; ticks = 0 }) (record { past = k.past; inc = k.inc; number = omega (arith, few); watches = k.watches; chosen = choice-below p k.chosen; fits = k.fits })
       | false ↦ port-test plan s i (most + 1) (record p { chosen = choice_at p }) (record { past = k.past; inc = k.inc; number = omega (arith, few); watches = k.watches; chosen = choice-below p k.chosen; fits = k.fits })
     ]
 
-pub chosen-held : (p : Port) → held_at (port_chosen p) ≡ held_at p
-chosen-held p = elim (must_reopen p) as (λ b. (cond b (reopened p.inlet) p.inlet).held ≡ p.inlet.held) [ true ↦ refl | false ↦ refl ]
+pub chosen-held : (p : Port) → held_at (port_after_choice p) ≡ held_at p
+chosen-held p = elim (must_reopen p) as (λ b. (cond b (with_next_session p.inlet) p.inlet).held ≡ p.inlet.held) [ true ↦ refl | false ↦ refl ]
 
 -- ---- subscriptions and acknowledgements
 
@@ -84,8 +84,8 @@ subscribed-mails plan a role i most (s ∷ ss) (p ∷ ports) up reads h =
     let many = k.watches in
     let low : choice_at p < length (senders_of plan s) = rw many at (choice-below p k.chosen) in
     let rest = subscribed-mails plan a role i most ss ports up (λ j u e. reads (suc j) u e) d.1 in
-    elim (must_reopen p) as (λ b. AreMails plan a ⊥ (mails (cond b (record { to = nth 0 (senders_of plan s) (choice_at p); message = message.Subscribe (asked_by (reopened p.inlet)) } ∷ []) [] ++ subscriptions plan ports ss))) [
-      | true ↦ (up (asked_by (reopened p.inlet)) (nth 0 (senders_of plan s) (choice_at p)) (all-nth (λ b. reads_from plan role (role_of plan b)) 0 (senders_of plan s) (choice_at p) low (reads 0 s refl)), rest)
+    elim (must_reopen p) as (λ b. AreMails plan a ⊥ (mails (cond b (record { to = nth 0 (senders_of plan s) (choice_at p); message = message.Subscribe (asked_by (with_next_session p.inlet)) } ∷ []) [] ++ subscriptions plan ports ss))) [
+      | true ↦ (up (asked_by (with_next_session p.inlet)) (nth 0 (senders_of plan s) (choice_at p)) (all-nth (λ b. reads_from plan role (role_of plan b)) 0 (senders_of plan s) (choice_at p) low (reads 0 s refl)), rest)
       | false ↦ rest
     ]
 
@@ -179,7 +179,7 @@ beats-mails home me n actor =
 
 -- ---- the steps of a tick
 
-pub announcing-good : (home : Home) (me most : ℕ) (n : PlainNode) → IsActor home me → IsGood home most n → IsGoodStep home me most ⊥ (announcing home n)
+pub announcing-good : (home : Home) (me most : ℕ) (n : PlainNode) → IsActor home me → IsGood home most n → IsGoodStep home me most ⊥ (announcing_step home n)
 announcing-good home me most n actor g =
     record {
       after = g;
@@ -188,17 +188,17 @@ announcing-good home me most n actor g =
           (mails-sorted home.plan me ⊥ (beats home n) (beats-mails home me n actor));
     }
 
-pub choosing-good : (home : Home) (me most : ℕ) (n : PlainNode) → IsActor home me → n.recovering ≡ false → IsGood home most n → IsGoodStep home me (most + 1) ⊥ (choosing home n)
+pub choosing-good : (home : Home) (me most : ℕ) (n : PlainNode) → IsActor home me → n.recovering ≡ false → IsGood home most n → IsGoodStep home me (most + 1) ⊥ (choice_step home n)
 choosing-good home me most n actor up g =
-    let m = record n { ports = map port_chosen n.ports } in
-    let held : held_by m ≡ held_by n = held-map port_chosen chosen-held n.ports in
+    let m = record n { ports = map port_after_choice n.ports } in
+    let held : held_by m ≡ held_by n = held-map port_after_choice chosen-held n.ports in
     let o = (later-good home most n g).orderly in
     let role = IsNode home.frag home.replica in
     record {
       after = record {
         safe = IsSafeNode-held home n m held refl refl refl g.safe;
         orderly = record {
-          ports = ports-map home.plan n.grants.inc most (most + 1) port_chosen (λ s p h. chosen-sound home.plan s n.grants.inc most p h) (streams_of home) n.ports g.orderly.ports;
+          ports = ports-map home.plan n.grants.inc most (most + 1) port_after_choice (λ s p h. chosen-sound home.plan s n.grants.inc most p h) (streams_of home) n.ports g.orderly.ports;
           state = o.state;
           recovering = rw up refl;
           closed = o.closed;
@@ -211,14 +211,14 @@ choosing-good home me most n actor up g =
           (subscribed-mails home.plan me role n.grants.inc most (streams_of home) n.ports (λ asked to way. node-mail home me to (message.Subscribe asked) ⊥ actor tt way refl (λ e. cc)) (home-reads home home.replica) g.orderly.ports);
     }
 
-pub reconciling-good : (home : Home) (me most : ℕ) (n : PlainNode) → IsActor home me → n.recovering ≡ false → IsGood home most n → IsGoodStep home me most ⊥ (reconciling home n)
+pub reconciling-good : (home : Home) (me most : ℕ) (n : PlainNode) → IsActor home me → n.recovering ≡ false → IsGood home most n → IsGoodStep home me most ⊥ (ask_step home n)
 unfolding out_stable
 reconciling-good home me most n actor up g =
-    let m = record n { grants = asking n.grants } in
+    let m = record n { grants = with_ask n.grants } in
     let o = g.orderly in
     let asks = to_each (message.Ask (own_key n.grants).0 (own_key n.grants).1) (peers_of home) in
-    elim (wants_to_reconcile home n && is_none n.grants.promise) as (λ b. IsGoodStep home me most ⊥ (cond b (cond (list_all is_silent (peer_watches home n)) (entered home n) (record { after = m; sends = asks })) (silently n))) [
-      | true ↦ elim (list_all is_silent (peer_watches home n)) as (λ b. IsGoodStep home me most ⊥ (cond b (entered home n) (record { after = m; sends = asks }))) [
+    elim (wants_to_reconcile home n && is_none n.grants.promise) as (λ b. IsGoodStep home me most ⊥ (cond b (cond (list_all is_silent (peer_watches home n)) (enter_step home n) (record { after = m; sends = asks })) (silent_step n))) [
+      | true ↦ elim (list_all is_silent (peer_watches home n)) as (λ b. IsGoodStep home me most ⊥ (cond b (enter_step home n) (record { after = m; sends = asks }))) [
         | true ↦ entered-good home me most n actor up g
         | false ↦ record {
           after = record {
@@ -232,13 +232,13 @@ reconciling-good home me most n actor up g =
       | false ↦ record { after = g; mails = tt }
     ]
 
-pub reconciling-recovering : (home : Home) (n : PlainNode) → (reconciling home n).after.recovering ≡ n.recovering
-unfolding entered
+pub reconciling-recovering : (home : Home) (n : PlainNode) → (ask_step home n).after.recovering ≡ n.recovering
+unfolding enter_step
 reconciling-recovering home n =
-    elim (wants_to_reconcile home n && is_none n.grants.promise) as (λ b. (cond b (cond (list_all is_silent (peer_watches home n)) (entered home n)
-    (record { after = record n { grants = asking n.grants }; sends = to_each (message.Ask (own_key n.grants).0 (own_key n.grants).1) (peers_of home) })) (silently n)).after.recovering ≡ n.recovering) [
-      | true ↦ elim (list_all is_silent (peer_watches home n)) as (λ b. (cond b (entered home n)
-          (record { after = record n { grants = asking n.grants }; sends = to_each (message.Ask (own_key n.grants).0 (own_key n.grants).1) (peers_of home) })).after.recovering ≡ n.recovering) [
+    elim (wants_to_reconcile home n && is_none n.grants.promise) as (λ b. (cond b (cond (list_all is_silent (peer_watches home n)) (enter_step home n)
+    (record { after = record n { grants = with_ask n.grants }; sends = to_each (message.Ask (own_key n.grants).0 (own_key n.grants).1) (peers_of home) })) (silent_step n)).after.recovering ≡ n.recovering) [
+      | true ↦ elim (list_all is_silent (peer_watches home n)) as (λ b. (cond b (enter_step home n)
+          (record { after = record n { grants = with_ask n.grants }; sends = to_each (message.Ask (own_key n.grants).0 (own_key n.grants).1) (peers_of home) })).after.recovering ≡ n.recovering) [
             | true ↦ refl
             | false ↦ refl
           ]
@@ -248,19 +248,19 @@ reconciling-recovering home n =
 pub then-good : (home : Home) (me most more : ℕ) (s : Stepped PlainNode) (f : PlainNode → Stepped PlainNode) → IsGoodStep home me most ⊥ s → IsGoodStep home me more ⊥ (f s.after) → IsGoodStep home me more ⊥ (then_do s f)
 then-good home me most more s f h k = record { after = k.after; mails = mails-append home.plan me ⊥ s.sends (f s.after).sends h.mails k.mails }
 
-pub serving-good : (home : Home) (me most : ℕ) (n : PlainNode) → IsActor home me → n.recovering ≡ false → IsGood home most n → IsGoodStep home me (most + 1) ⊥ (serving home n)
+pub serving-good : (home : Home) (me most : ℕ) (n : PlainNode) → IsActor home me → n.recovering ≡ false → IsGood home most n → IsGoodStep home me (most + 1) ⊥ (serving_step home n)
 serving-good home me most n actor up g =
-    let a = choosing home n in
-    let b = reconciling home a.after in
-    let c = processing home b.after in
+    let a = choice_step home n in
+    let b = ask_step home a.after in
+    let c = processing_step home b.after in
     let one = choosing-good home me most n actor up g in
     let two = reconciling-good home me (most + 1) a.after actor up one.after in
     let three = processing-good home me (most + 1) b.after actor two.after (reconciling-recovering home a.after ∙ up) in
     let four = announcing-good home me (most + 1) c.after actor three.after in
-    then-good home me (most + 1) (most + 1) (then_do (then_do a (reconciling home)) (processing home)) (announcing home)
-    (then-good home me (most + 1) (most + 1) (then_do a (reconciling home)) (processing home) (then-good home me (most + 1) (most + 1) a (reconciling home) one two) three) four
+    then-good home me (most + 1) (most + 1) (then_do (then_do a (ask_step home)) (processing_step home)) (announcing_step home)
+    (then-good home me (most + 1) (most + 1) (then_do a (ask_step home)) (processing_step home) (then-good home me (most + 1) (most + 1) a (ask_step home) one two) three) four
 
-snapshots-good : (home : Home) (me most : ℕ) (n : PlainNode) → IsActor home me → IsGood home most n → IsGoodStep home me most ⊥ (asking_snapshots home n)
+snapshots-good : (home : Home) (me most : ℕ) (n : PlainNode) → IsActor home me → IsGood home most n → IsGoodStep home me most ⊥ (snapshot_ask_step home n)
 snapshots-good home me most n actor g =
     record {
       after = g;
@@ -268,16 +268,16 @@ snapshots-good home me most n actor g =
           (λ to way. node-mail home me to (message.SnapAsk n.grants.inc n.tries) ⊥ actor tt way refl (λ e. cc)) (peers-are home me actor);
     }
 
-going_on-good : (home : Home) (me most : ℕ) (n : PlainNode) → IsActor home me → IsGood home most n → IsGoodStep home me (most + 1) ⊥ (going_on home n)
+going_on-good : (home : Home) (me most : ℕ) (n : PlainNode) → IsActor home me → IsGood home most n → IsGoodStep home me (most + 1) ⊥ (rest_of_tick home n)
 going_on-good home me most n actor g =
-    (elim n.recovering as (λ b. n.recovering ≡ b → IsGoodStep home me (most + 1) ⊥ (cond (not b) (serving home n) (cond (may_start_afresh home n) (serving home (fresh n)) (then_do (asking_snapshots home n) (announcing home))))) [
+    (elim n.recovering as (λ b. n.recovering ≡ b → IsGoodStep home me (most + 1) ⊥ (cond (not b) (serving_step home n) (cond (may_start_afresh home n) (serving_step home (with_fresh_start n)) (then_do (snapshot_ask_step home n) (announcing_step home))))) [
       | false ↦ λ up. serving-good home me most n actor up g
-      | true ↦ λ down. elim (may_start_afresh home n) as (λ b. IsGoodStep home me (most + 1) ⊥ (cond b (serving home (fresh n)) (then_do (asking_snapshots home n) (announcing home)))) [
-        | true ↦ serving-good home me most (fresh n) actor refl (fresh-good home most n actor.place down g)
-        | false ↦ then-good home me most (most + 1) (asking_snapshots home n) (announcing home) (snapshots-good home me most n actor g) (announcing-good home me (most + 1) n actor (later-good home most n g))
+      | true ↦ λ down. elim (may_start_afresh home n) as (λ b. IsGoodStep home me (most + 1) ⊥ (cond b (serving_step home (with_fresh_start n)) (then_do (snapshot_ask_step home n) (announcing_step home)))) [
+        | true ↦ serving-good home me most (with_fresh_start n) actor refl (fresh-good home most n actor.place down g)
+        | false ↦ then-good home me most (most + 1) (snapshot_ask_step home n) (announcing_step home) (snapshots-good home me most n actor g) (announcing-good home me (most + 1) n actor (later-good home most n g))
       ]
     ]) refl
 
-pub ticked-good : (home : Home) (me most now : ℕ) (n : PlainNode) → IsActor home me → IsGood home most n → IsGoodStep home me (most + 1) ⊥ (ticked_at home now n)
-unfolding ticked_at
-ticked-good home me most now n actor g = going_on-good home me most (clocked now (with_marks_ended n)) actor (clocked-good home most now (with_marks_ended n) (marks-good home most n g))
+pub ticked-good : (home : Home) (me most now : ℕ) (n : PlainNode) → IsActor home me → IsGood home most n → IsGoodStep home me (most + 1) ⊥ (tick_step home now n)
+unfolding tick_step
+ticked-good home me most now n actor g = going_on-good home me most (after_clock now (with_marks_ended n)) actor (clocked-good home most now (with_marks_ended n) (marks-good home most n g))

@@ -7,7 +7,7 @@ use Rattle.std.proofs.lemmas.Iterator.{YieldsList}
 use Rattle.std.proofs.lemmas.Iterator.Adapters.{YieldsList-from_vec, YieldsList-from_skip}
 use Rattle.std.proofs.lemmas.Iterator.Consumers.{YieldsList-end}
 use Rattle.dpc_model.specs.declared.tuples.Tuple.{Tuple}
-use Rattle.dpc_model.specs.Due.{stamped_all}
+use Rattle.dpc_model.specs.Due.{with_stamps}
 use Rattle.borealis_top.proofs.SmallStamps.{stamped_all-push}
 use Rattle.borealis_top.proofs.SmallTaking.{Took-none, missed-stands, took-stands}
 use Rattle.borealis_top.proofs.small_node.SmallNode.take.Goals as goal
@@ -57,7 +57,7 @@ returns-clause-stands c w k s h e f =
     took-stands start _ c.args.batch w k (omega arith)
     (record {
       held = loop.held ∙ ap (λ (ts : List Tuple). start.held.items ++ ts) all;
-      stamps = loop.stamps ∙ ap (λ (ts : List Tuple). stamped_all start.timing.width start.cursor start.clock start.stamps.items ts) all;
+      stamps = loop.stamps ∙ ap (λ (ts : List Tuple). with_stamps start.timing.width start.cursor start.clock start.stamps.items ts) all;
       bound = c.max-self.ensures ∙ ap (λ (b : ℕ). max b c.args.batch.bound) loop.bound;
       timing = loop.timing;
       milled = loop.milled;
