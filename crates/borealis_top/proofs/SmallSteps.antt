@@ -19,7 +19,8 @@ use Rattle.dpc_model.specs.declared.plans.StreamRef.TheVariants.{Source, Frag}
 use Rattle.dpc_model.proofs.Folding.{fold_items-taken}
 use Rattle.world_model.specs.Safe.{AreTrueItems, HoldsOf}
 use Rattle.world_safety.proofs.Holding.{fold_items-holds}
-use Rattle.world_safety.proofs.Truth.{stable_items-true, given_items-true, get-drop}
+use Rattle.dpc_model.proofs.Elements.{get-drop}
+use Rattle.world_safety.proofs.Truth.{stable_items-true, given_items-true}
 use Rattle.world_safety.proofs.Outputs.{cut-held}
 use Rattle.world_safety.proofs.Milling.{upto-items-true}
 use Rattle.borealis_top.specs.SmallWorlds.{Sent, SmallWorld, log, operators, sends, emitted_below, release_given, released_at, may_release, output_below, ready, mill_given, milled, may_mill, overdue_end, ticked, may_tick, node_takes, client_takes, comes, happens}

@@ -37,7 +37,7 @@ module _ {X : Type 0} (key : X → ℕ) where
   NoneBelow-le m n (x ∷ xs) h s = (omega (arith, s.0), NoneBelow-le m n xs h s.1)
 
   -- where a test fails, the other order holds
-  not_below : (a b : ℕ) → nat_lt a b ≡ false → b ≤ a
+  pub not_below : (a b : ℕ) → nat_lt a b ≡ false → b ≤ a
   not_below a b e = grind (arith, common_steps)
 
   NoneBelow-insert : (n : ℕ) (x : X) (xs : List X) → n ≤ key x → NoneBelow key n xs → NoneBelow key n (insert_by key x xs)

@@ -10,3 +10,4 @@ pub mod Choice
 pub mod Sorting
 pub mod Buckets
 pub mod Serial
+pub mod Elements

@@ -1,10 +1,9 @@
 -- A node's own order of with_ask: who asks has a complete first bucket, who reconciles promised nobody, and promises are proper.
-use Rattle.std.proofs.Common.{◌≡◌, ℕ, zero, suc, ◌+◌, ◌-◌, ◌*◌, ◌<◌, ◌≤◌, Bool, true, false, cond, not, ◌&&◌, ◌==◌, nat_lt, nat_le, min, List, [], ◌∷◌, map, length, refl, sym, ap, subst, ◌∙◌, arith, Option, Some, None, slice_get, ◌⊎◌, inl, inr}
+use Rattle.std.proofs.Common.{◌≡◌, ℕ, ◌+◌, ◌-◌, ◌*◌, ◌<◌, ◌≤◌, Bool, true, false, cond, not, ◌&&◌, ◌==◌, nat_lt, min, List, [], ◌∷◌, map, length, refl, sym, ap, subst, ◌∙◌, arith, Option, Some, None, slice_get, ◌⊎◌, inl, inr}
 use Rattle.std.specs.Prelude.{is_none}
 use Rattle.std.proofs.lemmas.Grind.{common_steps}
-use Rattle.dpc_model.specs.Lists.{nth, changed, list_all, is_nil}
-use Rattle.dpc_model.specs.Reading.{Reader}
-use Rattle.dpc_model.specs.Inlets.{after_link, take_batch, same_sess}
+use Rattle.dpc_model.specs.Lists.{nth, list_all, is_nil}
+use Rattle.dpc_model.specs.Inlets.{take_batch, same_sess}
 use Rattle.dpc_model.specs.Due.{is_complete}
 use Rattle.dpc_model.specs.Replicas.{is_silent}
 use Rattle.dpc_model.specs.Granting.{Key, key_le, greater_key, Grants, own_key, grants, with_promise, promise_to, over_by, known_over, later_key, after_peer_beat, promise_after, promise_kept, may_enter_by, with_ask, with_ask_over}
@@ -29,7 +28,7 @@ use Rattle.world_model.specs.Safe.{EachReaches}
 use Rattle.world_model.specs.Orderly.{has_state_of_closed, packet_way}
 use Rattle.world_safety.proofs.Milling.{reaches_least}
 use Rattle.world_safety.specs.Plans.{IsPlace}
-use Rattle.world_safety.proofs.Tests.{both, le-of, lt-of, not-lt, eq-of, eq-test}
+use Rattle.world_safety.proofs.Tests.{both, lt-of, not-lt, eq-of, eq-test}
 use Rattle.world_safety.proofs.Frames.{IsGood, held-map, marks-good, clocked-good}
 use Rattle.world_safety.proofs.Emptied.{emptied-of, shape-of}
 use Rattle.world_safety.proofs.Starting.{fresh-good}
@@ -38,10 +37,12 @@ use Rattle.world_safety.proofs.Pointwise.{reaches-changed}
 use Rattle.world_safety.proofs.Batches.{take_batch-bound}
 use Rattle.world_safety.proofs.Numbering.{replica-at}
 use Rattle.world_safety.proofs.Mailing.{IsActor}
-use Rattle.world_safety.proofs.Delivered.{place-nth}
+use Rattle.world_safety.proofs.Delivered.{place-nth, held-changed, failure-calm}
 use Rattle.world_safety.proofs.Ticked.{chosen-held, choosing-good, reconciling-good, reconciling-recovering}
 use Rattle.granting_law.proofs.Keys.{nth-changed, greater-one}
 use Rattle.granting_law.proofs.Saying.{IsGranted, granted-of}
+use Rattle.world_safety.proofs.ClientHolds.{held_at-beat}
+use Rattle.world_safety.proofs.Dues.{complete-reach}
 
 -- ---- what is kept
 
@@ -92,7 +93,7 @@ finished-proper home g h p e = let k = h p e in record { other = k.other; lower 
 
 -- ---- a packet
 
-nth-there : (ports : List Port) (p : ℕ) (q : Port) → slice_get ports p ≡ Some q → nth no_port ports p ≡ q
+pub nth-there : (ports : List Port) (p : ℕ) (q : Port) → slice_get ports p ≡ Some q → nth no_port ports p ≡ q
 nth-there ports p q e = rw e refl
 
 took-asking : (home : Home) (p : ℕ) (u : Sess) (index : ℕ) (items : List Item) (n : PlainNode) → IsAsking home n → IsAsking home (after_taking home p (take_batch (nth no_port n.ports p).inlet u index items) n)
@@ -118,11 +119,6 @@ batch-asking home u index items (Some pr) n h =
       | false ↦ h
     ]
 
-held-changed : (p : ℕ) (f : Port → Port) (ports : List Port) → ((q : Port) → slice_get ports p ≡ Some q → held_at (f q) ≡ held_at q) → map held_at (changed p f ports) ≡ map held_at ports
-held-changed p f [] same = refl
-held-changed zero f (q ∷ ports) same = ap (λ (r : Reader). r ∷ map held_at ports) (same q refl)
-held-changed (suc p) f (q ∷ ports) same = ap (λ (rs : List Reader). held_at q ∷ rs) (held-changed p f ports same)
-
 port-asking : (home : Home) (p : ℕ) (f : Port → Port) (n : PlainNode) → ((q : Port) → slice_get n.ports p ≡ Some q → held_at (f q) ≡ held_at q) → IsAsking home n → IsAsking home (with_port p f n)
 port-asking home p f n same h = asking-same home n (with_port p f n) refl refl refl refl (reaches-same n (with_port p f n) (held-changed p f n.ports same)) h
 
@@ -142,12 +138,9 @@ truncation-asking home u base (Some pr) n h =
       | false ↦ k
     ]
 
-beat-held : (r : ℕ) (b : Beat) (q : Port) → held_at (on_beat r b q) ≡ held_at q
-beat-held r b q = elim (r == q.chosen) as (λ c. (cond c (after_link q.inlet b.link) q.inlet).held ≡ q.inlet.held) [ true ↦ refl | false ↦ refl ]
-
 upstream-asking : (home : Home) (b : Beat) (o : Option (ℕ × ℕ)) (n : PlainNode) → IsAsking home n → IsAsking home (on_upstream_beat b o n)
 upstream-asking home b None n h = h
-upstream-asking home b (Some pr) n h = port-asking home pr.0 (on_beat pr.1 b) n (λ q e. beat-held pr.1 b q) h
+upstream-asking home b (Some pr) n h = port-asking home pr.0 (on_beat pr.1 b) n (λ q e. held_at-beat pr.1 b q) h
 
 -- a promise that is left is not known to be over
 told-proper : (home : Home) (g : Grants) (r : ℕ) (k : Key) → ((p : ℕ × Key) → g.promise ≡ Some p → IsProper home g p) → (p : ℕ × Key) → (after_peer_beat g r k).promise ≡ Some p → IsProper home (after_peer_beat g r k) p
@@ -385,19 +378,10 @@ clocked-asking home now n h =
 choosing-asking : (home : Home) (n : PlainNode) → IsAsking home n → IsAsking home (choice_step home n).after
 choosing-asking home n h = asking-same home n (record n { ports = map port_after_choice n.ports }) refl refl refl refl (reaches-same n (record n { ports = map port_after_choice n.ports }) (held-map port_after_choice chosen-held n.ports)) h
 
-complete-reaches : (width k : ℕ) (rs : List Reader) → is_complete width rs k ≡ true → EachReaches ((k + 1) * width) rs
-complete-reaches width k [] h = tt
-complete-reaches width k (r ∷ rs) h = let p = both (nat_le ((k + 1) * width) r.bound) (is_complete width rs k) h in (le-of ((k + 1) * width) r.bound p.0, complete-reaches width k rs p.1)
-
 failure-unstable : (s : NodeState) → is_up_failure s ≡ true → is_stable s ≡ false
 failure-unstable Stable e = cc
 failure-unstable UpFailure e = refl
 failure-unstable Stabilization e = refl
-
-failure-calm : (s : NodeState) → is_up_failure s ≡ true → is_stabilization s ≡ true → ⊥
-failure-calm Stable e f = cc
-failure-calm UpFailure e f = cc
-failure-calm Stabilization e f = cc
 
 reconciling-asking : (home : Home) (n : PlainNode) → n.recovering ≡ false → IsAsking home n → IsAsking home (ask_step home n).after
 reconciling-asking home n up h =
@@ -414,7 +398,7 @@ reconciling-asking home n up h =
     asks : (is_up_failure n.state ≡ true) × (is_complete home.plan.width (held_by n) n.cursor ≡ true) → n.grants.promise ≡ None → IsAsking home (cond {A = Stepped PlainNode} (list_all is_silent (peer_watches home n)) (enter_step home n)
         (record { after = record n { grants = with_ask n.grants }; sends = to_each (message.Ask (own_key n.grants).0 (own_key n.grants).1) (peers_of home) })).after
     asks w none =
-        let first = complete-reaches home.plan.width n.cursor (held_by n) w.1 in
+        let first = complete-reach home.plan.width n.cursor (held_by n) w.1 in
         elim (list_all is_silent (peer_watches home n)) as (λ b. IsAsking home (cond {A = Stepped PlainNode} b (enter_step home n)
         (record { after = record n { grants = with_ask n.grants }; sends = to_each (message.Ask (own_key n.grants).0 (own_key n.grants).1) (peers_of home) })).after) [
           | true ↦ entered-asking home n up first none

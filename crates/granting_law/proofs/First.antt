@@ -18,7 +18,8 @@ use Rattle.world_model.specs.Orderly.{is_fitting, packet_way, carries_fitting}
 use Rattle.world_model.specs.SessionLaw.{Channel}
 use Rattle.world_safety.specs.Plans.{IsCheckedPlan}
 use Rattle.world_safety.proofs.Tests.{both, eq-of, eq-test}
-use Rattle.world_safety.proofs.Numbering.{all-at, role-split, source-at as source-number, length-range}
+use Rattle.world_safety.proofs.Closing.{length-range}
+use Rattle.world_safety.proofs.Numbering.{all-at, role-split, source-at as source-number, no-node-source}
 use Rattle.world_safety.proofs.Law.{new_world-fine, new_world-plan, run-fine}
 use Rattle.granting_law.specs.Taken.{index_in, index_of, batches_in, taken_in, line_of, IsBatchAt, IsAnsweredIn, PrefixTaken}
 use Rattle.granting_law.proofs.Taking.{run-plan, run-taken}
@@ -34,16 +35,9 @@ sources-first rest none from zero a s e = absurd (none a s e)
 sources-first rest none from (suc count) zero s e = omega arith
 sources-first rest none from (suc count) (suc a) s e = let less = sources-first rest none (from + 1) count a s e in omega (arith, less)
 
-no-source-behind : (ns : List (ℕ × ℕ)) (cs : List ℕ) (i s : ℕ) → nth Nobody (map (λ (n : ℕ × ℕ). IsNode n.0 n.1) ns ++ map IsClient cs) i ≡ IsSource s → ⊥
-no-source-behind [] [] i s e = cc
-no-source-behind [] (c ∷ cs) zero s e = cc
-no-source-behind [] (c ∷ cs) (suc i) s e = no-source-behind [] cs i s e
-no-source-behind (n ∷ ns) cs zero s e = cc
-no-source-behind (n ∷ ns) cs (suc i) s e = no-source-behind ns cs i s e
-
 source-below : (plan : Plan) (a u : ℕ) → role_of plan a ≡ IsSource u → u < length plan.sources
 source-below plan a u e =
-    let less = sources-first (map (λ (n : ℕ × ℕ). IsNode n.0 n.1) (nodes_of plan) ++ map IsClient (range_with_len 0 (length plan.clients))) (no-source-behind (nodes_of plan) (range_with_len 0 (length plan.clients))) 0 (length plan.sources) a u (sym (role-split plan a) ∙ e) in
+    let less = sources-first (map (λ (n : ℕ × ℕ). IsNode n.0 n.1) (nodes_of plan) ++ map IsClient (range_with_len 0 (length plan.clients))) (no-node-source (nodes_of plan) (range_with_len 0 (length plan.clients))) 0 (length plan.sources) a u (sym (role-split plan a) ∙ e) in
     let number = source-number plan a u e in omega (arith, less, number)
 
 sources-at : (plan : Plan) (k n j : ℕ) → j < n → nth no_source (map (new_source plan) (range_with_len k n)) j ≡ new_source plan (k + j)

@@ -24,6 +24,7 @@ use Rattle.node_model.specs.Nodes.{Home, PlainNode, streams_of, due_at, wants_to
 use Rattle.node_model.specs.NodeSteps.{silent_step, then_do, peers_of, peer_watches, replica_number, reader_place, with_port, emptied_port, adopted_ports, enter_step, after_loss, after_adoption, after_taking, with_stamps_of, on_batch, on_subscribe, on_truncation, on_upstream_beat, on_peer_beat, on_ack, on_ask, on_grant, on_snap_ask, on_snap, on_message, on_packet, with_marks_ended, packet_step, mill_step, after_clock, may_start_afresh, choice_step, ask_step, processing_upto, processing_step, announcing_step, serving_step, snapshot_ask_step, rest_of_tick, with_fresh_start, tick_step}
 use Rattle.world_safety.proofs.Tests.{not-lt, eq-of}
 use Rattle.granting_law.specs.Taken.{index_in}
+use Rattle.granting_law.proofs.AtWork.{nth-there}
 
 -- ---- one port
 
@@ -179,9 +180,6 @@ stamped-ports home (Used items) n = refl
 stamped-ports home Old n = refl
 stamped-ports home Broken n = refl
 
-nth-is : (ports : List Port) (p : ℕ) (q : Port) → slice_get ports p ≡ Some q → nth no_port ports p ≡ q
-nth-is ports p q e = rw e refl
-
 module _ (home : Home) (a : ℕ) (packet : Packet) where
   abbrev NodeMoves : PlainNode → PlainNode → Type 0
   NodeMoves n m = PortsMove (DeliversNext home a packet) n.ports m.ports
@@ -200,7 +198,7 @@ module _ (home : Home) (a : ℕ) (packet : Packet) where
       at-port : (q : Port) → slice_get n.ports pr.0 ≡ Some q → ((nth no_port n.ports pr.0).chosen == pr.1) ≡ true →
           Moves (DeliversNext home a packet pr.0) q (record q { inlet = (take_batch (nth no_port n.ports pr.0).inlet u index items).after })
       at-port q there f =
-          let same_port = nth-is n.ports pr.0 q there in
+          let same_port = nth-there n.ports pr.0 q there in
           let chosen : q.chosen ≡ pr.1 = eq-of q.chosen pr.1 (subst (λ (x : Port). (x.chosen == pr.1) ≡ true) same_port f) in
           subst (λ (x : Port). Moves (DeliversNext home a packet pr.0) q (record q { inlet = (take_batch x.inlet u index items).after })) (sym same_port)
           (took-moves (DeliversNext home a packet pr.0) q u index items (λ s i. (subst (λ (r : ℕ). sender_at home.plan (streams_of home) a ≡ Some (pr.0, r)) (sym chosen) e, named s i q)))
@@ -221,7 +219,7 @@ module _ (home : Home) (a : ℕ) (packet : Packet) where
       ]
     where
       marked-port : (q : Port) → slice_get n.ports pr.0 ≡ Some q → Moves (DeliversNext home a packet pr.0) q (on_truncated pr.1 u base (nth no_port n.ports pr.0))
-      marked-port q there = subst (λ (x : Port). Moves (DeliversNext home a packet pr.0) q (on_truncated pr.1 u base x)) (sym (nth-is n.ports pr.0 q there)) (truncated-moves (DeliversNext home a packet pr.0) q pr.1 u base)
+      marked-port q there = subst (λ (x : Port). Moves (DeliversNext home a packet pr.0) q (on_truncated pr.1 u base x)) (sym (nth-there n.ports pr.0 q there)) (truncated-moves (DeliversNext home a packet pr.0) q pr.1 u base)
 
       emptied-after : (p : ℕ) (q m : Port) → m.inlet.sess ≡ q.inlet.sess → m.chosen ≡ q.chosen → Moves (DeliversNext home a packet p) q (emptied_port [] 0 m)
       emptied-after p q m s c = inl (record { sess = s; chosen = c; next = λ e. cc; none = λ e. absurd (omega (arith, e)) })
@@ -235,7 +233,7 @@ module _ (home : Home) (a : ℕ) (packet : Packet) where
             subst (λ (x : Port). Moves (DeliversNext home a packet p) was.0 x) found.2 (elim was.2 [
               | inl same ↦ subst (λ (x : Port). Moves (DeliversNext home a packet p) was.0 (emptied_port [] 0 x)) same (emptied-after p was.0 was.0 refl refl)
               | inr here ↦
-                  let it = nth-is n.ports pr.0 was.0 (subst (λ (x : ℕ). slice_get n.ports x ≡ Some was.0) here.0 was.1) in
+                  let it = nth-there n.ports pr.0 was.0 (subst (λ (x : ℕ). slice_get n.ports x ≡ Some was.0) here.0 was.1) in
                   subst (λ (x : Port). Moves (DeliversNext home a packet p) was.0 (emptied_port [] 0 x)) (ap (λ (x : Port). on_truncated pr.1 u base x) (sym it) ∙ here.1)
                   (emptied-after p was.0 (on_truncated pr.1 u base was.0) refl refl)
             ]),

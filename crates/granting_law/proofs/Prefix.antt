@@ -1,5 +1,5 @@
 -- The batches taken are the first ones sent.
-use Rattle.std.proofs.Common.{◌≡◌, ℕ, zero, suc, ◌+◌, ◌<◌, ◌≤◌, Bool, true, false, cond, ◌==◌, List, [], ◌∷◌, map, length, refl, sym, ap, subst, ◌∙◌, arith, Option, Some, None, slice_get, unwrap_or, ◌⊎◌, inl, inr}
+use Rattle.std.proofs.Common.{◌≡◌, ℕ, zero, suc, ◌+◌, ◌<◌, Bool, true, false, cond, ◌==◌, List, [], ◌∷◌, map, length, refl, sym, ap, subst, ◌∙◌, arith, Option, Some, None, slice_get, unwrap_or, ◌⊎◌, inl, inr}
 use Rattle.std.specs.List.{filter, enumerate_from}
 use Rattle.dpc_model.specs.Lists.{nth, range_with_len, list_any, IsPrefixOf}
 use Rattle.dpc_model.specs.Inlets.{same_sess, sess_of}
@@ -15,7 +15,6 @@ use Rattle.world_model.specs.Worlds.{World, Envelope, Slot, home_of, happens, ru
 use Rattle.world_model.specs.Safe.{EachStep}
 use Rattle.world_model.specs.SessionLaw.{Channel}
 use Rattle.world_safety.specs.Plans.{IsCheckedPlan}
-use Rattle.world_safety.proofs.Histories.{AreDistinct}
 use Rattle.world_safety.proofs.Happening.{IsFine, happens-next}
 use Rattle.world_safety.proofs.Law.{new_world-fine, new_world-plan}
 use Rattle.granting_law.specs.Taken.{index_of, batches_in, IsBatchAt, subscribes, role_inc, IsAnsweredIn}
@@ -24,6 +23,7 @@ use Rattle.granting_law.proofs.Running.{new_world-asking, new-slot}
 use Rattle.granting_law.proofs.Taking.{event-grows}
 use Rattle.granting_law.proofs.Sending.{indexes}
 use Rattle.granting_law.proofs.Sent.{SubHolds, SentOrder, IsNodeLine, event-order}
+use Rattle.world_safety.proofs.Distinct.{readers-distinct}
 
 -- ---- lists
 
@@ -91,47 +91,10 @@ number-found test k (role ∷ roles) (suc i) none e =
       | false ↦ (rest.0, rest.1 ∙ ap {B = Option ℕ} Some next)
     ]
 
-number-least : (test : Role → Bool) (k : ℕ) (roles : List Role) (j v : ℕ) → slice_get (numbers test k roles) j ≡ Some v → k ≤ v
-number-least test k [] j v e = cc
-number-least test k (role ∷ roles) j v e =
-    (elim (test role) as (λ b. slice_get (map (λ (x : ℕ × Role). x.0) (cond b ((k, role) ∷ filter (λ (x : ℕ × Role). test x.1) (enumerate_from (k + 1) roles)) (filter (λ (x : ℕ × Role). test x.1) (enumerate_from (k + 1) roles)))) j ≡ Some v → k ≤ v) [
-      | true ↦ λ d. at-place (λ i c. number-least test (k + 1) roles i v c) j d
-      | false ↦ λ d. let more = number-least test (k + 1) roles j v d in omega (arith, more)
-    ]) e
-  where
-    at-place : ((i : ℕ) → slice_get (numbers test (k + 1) roles) i ≡ Some v → k + 1 ≤ v) → (j : ℕ) → slice_get (k ∷ numbers test (k + 1) roles) j ≡ Some v → k ≤ v
-    at-place ih zero d = let same : k ≡ v = cc in omega (arith, same)
-    at-place ih (suc j) d = let more = ih j d in omega (arith, more)
-
-number-once : (test : Role → Bool) (k : ℕ) (roles : List Role) (i j v : ℕ) → slice_get (numbers test k roles) i ≡ Some v → slice_get (numbers test k roles) j ≡ Some v → i ≡ j
-number-once test k [] i j v e d = cc
-number-once test k (role ∷ roles) i j v e d =
-    (elim (test role) as (λ b. slice_get (map (λ (x : ℕ × Role). x.0) (cond b ((k, role) ∷ filter (λ (x : ℕ × Role). test x.1) (enumerate_from (k + 1) roles)) (filter (λ (x : ℕ × Role). test x.1) (enumerate_from (k + 1) roles)))) i ≡ Some v →
-    slice_get (map (λ (x : ℕ × Role). x.0) (cond b ((k, role) ∷ filter (λ (x : ℕ × Role). test x.1) (enumerate_from (k + 1) roles)) (filter (λ (x : ℕ × Role). test x.1) (enumerate_from (k + 1) roles)))) j ≡ Some v → i ≡ j) [
-      | true ↦ λ c g. at-places (λ i j c g. number-once test (k + 1) roles i j v c g) i j c g
-      | false ↦ λ c g. number-once test (k + 1) roles i j v c g
-    ]) e d
-  where
-    at-places : ((i j : ℕ) → slice_get (numbers test (k + 1) roles) i ≡ Some v → slice_get (numbers test (k + 1) roles) j ≡ Some v → i ≡ j) →
-        (i j : ℕ) → slice_get (k ∷ numbers test (k + 1) roles) i ≡ Some v → slice_get (k ∷ numbers test (k + 1) roles) j ≡ Some v → i ≡ j
-    at-places ih zero zero c g = refl
-    at-places ih zero (suc j) c g = let same : k ≡ v = cc in let more = number-least test (k + 1) roles j v g in absurd (omega (arith, same, more))
-    at-places ih (suc i) zero c g = let same : k ≡ v = cc in let more = number-least test (k + 1) roles i v c in absurd (omega (arith, same, more))
-    at-places ih (suc i) (suc j) c g = ap suc (ih i j c g)
-
-get-of : (xs : List ℕ) (i : ℕ) → i < length xs → slice_get xs i ≡ Some (nth 0 xs i)
-get-of [] i h = absurd (omega (arith, h))
-get-of (x ∷ xs) zero h = refl
-get-of (x ∷ xs) (suc i) h = get-of xs i (omega (arith, h))
-
 get-low : (xs : List ℕ) (i v : ℕ) → slice_get xs i ≡ Some v → i < length xs
 get-low [] i v e = cc
 get-low (x ∷ xs) zero v e = omega arith
 get-low (x ∷ xs) (suc i) v e = let less = get-low xs i v e in omega (arith, less)
-
-pub readers-distinct : (plan : Plan) (u : StreamRef) → AreDistinct (readers_of plan u)
-readers-distinct plan u i j l m e =
-    number-once (λ role. list_any (same_stream u) (inputs_of plan role)) 0 (roles_of plan) i j (nth 0 (readers_of plan u) i) (get-of (readers_of plan u) i l) (get-of (readers_of plan u) j m ∙ ap {B = Option ℕ} Some (sym e))
 
 -- who reads a stream stands among its readers
 pub record IsReader (plan : Plan) (u : StreamRef) (x : ℕ) : Type 0 where

@@ -1,5 +1,5 @@
 -- Asking and granting are in order in every run.
-use Rattle.std.proofs.Common.{◌≡◌, ℕ, zero, suc, ◌+◌, ◌-◌, ◌*◌, ◌≤◌, Bool, true, false, not, ◌||◌, nat_le, List, [], ◌∷◌, map, length, refl, sym, ap, subst, ◌∙◌, arith, Option, Some, None, slice_get, unwrap_or}
+use Rattle.std.proofs.Common.{◌≡◌, ℕ, ◌+◌, ◌-◌, ◌*◌, ◌≤◌, Bool, true, false, not, ◌||◌, nat_le, List, [], ◌∷◌, length, refl, sym, ap, subst, ◌∙◌, arith, Option, Some, None, unwrap_or}
 use Rattle.dpc_model.specs.Lists.{is_nil}
 use Rattle.dpc_model.specs.Reading.{Reader}
 use Rattle.dpc_model.specs.Due.{is_complete}
@@ -25,6 +25,7 @@ use Rattle.world_safety.proofs.Law.{new_world-fine, run-fine}
 use Rattle.granting_law.specs.Asking.{reconciles, AsksInOrder, AreAsksInOrder}
 use Rattle.granting_law.proofs.AtWork.{IsAtWork, IsAsking, idle, unstable-failed}
 use Rattle.granting_law.proofs.Asked.{IsInOrder, IsAskingWorld, heard-none, event-asking}
+use Rattle.dpc_model.proofs.Elements.{get-map}
 
 -- ---- one node
 
@@ -92,11 +93,6 @@ node-order home most n place g h =
 new-asking : (home : Home) → IsAsking home (new_node home)
 unfolding new_node
 new-asking home = idle home (new_node home) refl (λ up e. cc) (λ p e. cc)
-
-get-map : {X Y : Type 0} (f : X → Y) (xs : List X) (i : ℕ) (x : X) → slice_get xs i ≡ Some x → slice_get (map f xs) i ≡ Some (f x)
-get-map f [] i x e = cc
-get-map f (y ∷ xs) zero x e = let same : y ≡ x = cc in rw same refl
-get-map f (y ∷ xs) (suc i) x e = get-map f xs i x e
 
 pub new-slot : (plan : Plan) (a f r : ℕ) → role_of plan a ≡ IsNode f r → slot_of (new_world plan) a ≡ record { last_inc = 1; node = Some (new_node (home_of plan (f, r))) }
 unfolding new_world

@@ -2,13 +2,13 @@
 use Rattle.std.proofs.Common.{◌≡◌, ℕ, zero, suc, ◌+◌, ◌-◌, min, ◌<◌, Bool, true, false, cond, not, ◌&&◌, ◌==◌, nat_lt, List, [], ◌∷◌, ◌++◌, map, length, refl, sym, ap, subst, ◌∙◌, arith, Option, Some, None, inl, inr}
 use Rattle.std.specs.Prelude.{is_none}
 use Rattle.std.proofs.lemmas.List.{length-map}
-use Rattle.dpc_model.specs.Lists.{nth, changed, is_nil, list_all}
+use Rattle.dpc_model.specs.Lists.{nth, changed, list_all}
 use Rattle.dpc_model.specs.Inlets.{same_sess, take_batch, AfterBatch}
 use Rattle.dpc_model.specs.Replicas.{is_silent}
 use Rattle.dpc_model.specs.Granting.{grants, with_promise, own_key, with_ask, may_enter_by}
 use Rattle.dpc_model.specs.Actors.{replicas_of}
 use Rattle.dpc_model.specs.Ports.{no_port, sender_at, on_truncated, all_truncated, subscriptions}
-use Rattle.dpc_model.specs.Sessions.{Sub, no_session, answer_to, with_session_shut, with_batch, with_batches, given_items}
+use Rattle.dpc_model.specs.Sessions.{Sub, no_session, answer_to, with_session_shut, given_items}
 use Rattle.dpc_model.specs.declared.batches.Taken.{Taken}
 use Rattle.dpc_model.specs.declared.batches.Taken.TheVariants.{Used, Old, Broken}
 use Rattle.dpc_model.specs.declared.tuples.Item.{Item}
@@ -35,6 +35,7 @@ use Rattle.granting_law.proofs.Each.{Each, each-append, each-sorted, each-to, ea
 use Rattle.granting_law.proofs.Keys.{nth-changed}
 use Rattle.granting_law.proofs.Asked.{same-or}
 use Rattle.granting_law.proofs.Sending.{indexes, indexes-append, SendsOn, sends-none, sends-shut, sends-then, answer_index, sends-answered, IsNoBatch, none-indexed, skip-other, take-mine, nth-map, sends-given}
+use Rattle.world_safety.proofs.Processing.{length-counted}
 
 map-append : (a : ℕ) (ms ns : List Mail) → map (from a) (ms ++ ns) ≡ map (from a) ms ++ map (from a) ns
 map-append a [] ns = refl
@@ -44,9 +45,6 @@ nth-at : (f : Sub → Sub) (subs : List Sub) (k : ℕ) → k < length subs → n
 nth-at f [] k h = absurd (omega (arith, h))
 nth-at f (x ∷ subs) zero h = refl
 nth-at f (x ∷ subs) (suc k) h = nth-at f subs k (omega (arith, h))
-
-length-counted : (items : List Item) (subs : List Sub) → length (with_batches items subs) ≡ length subs
-length-counted items subs = elim (is_nil items) as (λ b. length (cond b subs (map with_batch subs)) ≡ length subs) [ true ↦ refl | false ↦ length-map subs with_batch ]
 
 -- what a step sends to the reader of one place in one session
 pub record NodeSends (home : Home) (a k : ℕ) (s : Sess) (opens : Bool) (old : List Sub) (t : Stepped PlainNode) : Type 0 where

@@ -14,7 +14,7 @@ use Rattle.node_model.specs.Mails.{Mail, mail, Plain, to_readers}
 use Rattle.world_model.specs.Worlds.{Envelope, from}
 use Rattle.world_model.specs.SessionLaw.{Channel}
 use Rattle.world_safety.proofs.Tests.{both-of, eq-of, eq-test}
-use Rattle.world_safety.proofs.Histories.{AreDistinct}
+use Rattle.world_safety.proofs.Histories.{AreDistinct, newer-kept}
 use Rattle.granting_law.specs.Taken.{index_in, index_of}
 use Rattle.granting_law.proofs.Each.{Each}
 
@@ -168,13 +168,6 @@ sends-counted s opens sub = by-parts sub.kept sub.is_open refl refl
 abbrev pub answer_index : Sess → Option Message → List ℕ
 answer_index s None = []
 answer_index s (Some m) = elim (index_in s (Plain m)) [ None ↦ [] | Some j ↦ j ∷ [] ]
-
-newer-trans : (a b c : Sess) → is_newer a b ≡ true → is_newer b c ≡ true → is_newer a c ≡ true
-newer-trans a b c h k = grind (arith, common_steps)
-
-newer-kept : (a b : Sess) (o : Option Sess) → is_newer a b ≡ true → is_newer_than_kept b o ≡ true → is_newer_than_kept a o ≡ true
-newer-kept a b None h k = refl
-newer-kept a b (Some c) h k = newer-trans a b c h k
 
 same-kept : (a b : Sess) (o : Option Sess) → same_sess a b ≡ true → is_newer_than_kept a o ≡ true → is_newer_than_kept b o ≡ true
 same-kept a b None h k = refl

@@ -32,7 +32,7 @@ use Rattle.granting_law.proofs.Asked.{same-or}
 use Rattle.granting_law.proofs.Taking.{event-grows}
 use Rattle.granting_law.proofs.Sending.{indexes, indexes-append, range-append, SendsOn, sends-none, answer_index, sends-answered, IsNoBatch, none-indexed, skip-other, take-mine, sends-given}
 use Rattle.granting_law.proofs.Sent.{other-indexed, apart-test, SubHolds}
-use Rattle.granting_law.proofs.Prefix.{readers-distinct}
+use Rattle.world_safety.proofs.Distinct.{readers-distinct}
 
 nth-in : {X : Type 0} (d : X) (f : X → X) (xs : List X) (k : ℕ) → k < length xs → nth d (changed k f xs) k ≡ f (nth d xs k)
 nth-in d f [] k h = absurd (omega (arith, h))

@@ -32,6 +32,7 @@ use Rattle.world_safety.proofs.Promises.{slot-here}
 use Rattle.granting_law.proofs.Slots.{slot-there, got-sent}
 use Rattle.granting_law.proofs.Asked.{IsAskingWorld, told-so, same-or, event-asking, each-unit}
 use Rattle.granting_law.proofs.Running.{new_world-asking, run-asking}
+use Rattle.world_safety.proofs.Runs.{run_from-append}
 
 -- ---- what stands
 
@@ -427,10 +428,6 @@ grant-stands w most e k a b i key fine asking sends up =
 
 -- ---- the law
 
-run-append : (w : World) (xs ys : List Event) → run_from w (xs ++ ys) ≡ run_from (run_from w xs) ys
-run-append w [] ys = refl
-run-append w (x ∷ xs) ys = run-append (happens w x) xs ys
-
 pub serves-meanwhile : (plan : Plan) → IsCheckedPlan plan → ServesMeanwhile plan
 unfolding run
 serves-meanwhile plan checked before later e k a b i key sends up calm open_ask n here inc =
@@ -444,6 +441,6 @@ serves-meanwhile plan checked before later e k a b i key sends up calm open_ask 
     let after = (happens-next old many e fine).fine in
     let order = event-asking old many e fine asking in
     let stands = stands-run granted (many + 1) later a b start.frag start.one start.other i key after order start.stands calm in
-    let whole = run-append (new_world plan) before (e ∷ later) in
+    let whole = run_from-append (new_world plan) before (e ∷ later) in
     stands-serves (run_from granted later) a b start.frag start.one start.other i key (run-asking granted (many + 1) later after order) stands
     (subst (λ (w : World). HasOpenAsk w a key) whole open_ask) n (subst (λ (w : World). (slot_of w b).node ≡ Some n) whole here) inc

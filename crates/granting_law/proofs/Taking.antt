@@ -23,7 +23,7 @@ use Rattle.node_model.specs.Clients.{ClientState, client_stream, new_client, wit
 use Rattle.world_model.specs.Worlds.{World, Envelope, Slot, home_of, node_place, slot_of, client_at, from, node_stepped, client_stepped, restart_slot, happens, run_from, run, new_world}
 use Rattle.world_model.specs.SessionLaw.{Channel}
 use Rattle.world_safety.specs.Plans.{IsCheckedPlan}
-use Rattle.world_safety.proofs.Tests.{both-of, eq-of, eq-test}
+use Rattle.world_safety.proofs.Tests.{eq-of, eq-test}
 use Rattle.world_safety.proofs.Numbering.{home-inputs, role-split}
 use Rattle.world_safety.proofs.Delivered.{place-nth}
 use Rattle.world_safety.proofs.Pointwise.{sender-of}
@@ -37,6 +37,8 @@ use Rattle.granting_law.proofs.Slots.{slot-there}
 use Rattle.granting_law.proofs.Asked.{same-or}
 use Rattle.granting_law.proofs.Running.{new-slot}
 use Rattle.granting_law.proofs.Moves.{Moves, stays-same, stays-then, took-moves, beat-moves, truncated-moves, chosen-moves, PortsMove, DeliversNext, NoneTaken, get-mapped, delivered-ports, milled-ports, ticked-ports}
+use Rattle.dpc_model.proofs.Elements.{get-first}
+use Rattle.world_safety.proofs.Histories.{same-self}
 
 -- ---- envelopes stay
 
@@ -68,11 +70,6 @@ grows-cases w =
 
 pub event-grows : (w : World) (e : Event) → Grows w (happens w e)
 event-grows w e = by-event w (λ e next. Grows w next) (grows-cases w) e
-
-pub get-first : {X : Type 0} (xs ys : List X) (k : ℕ) (x : X) → slice_get xs k ≡ Some x → slice_get (xs ++ ys) k ≡ Some x
-get-first [] ys k x e = cc
-get-first (y ∷ xs) ys zero x e = e
-get-first (y ∷ xs) ys (suc k) x e = get-first xs ys k x e
 
 pub batch-later : (l : Channel) (es more : List Envelope) (k j : ℕ) → IsBatchAt l es k j → IsBatchAt l (es ++ more) k j
 batch-later l es more k j h = record { envelope = h.envelope; there = get-first es more k h.envelope h.there; is_batch = h.is_batch }
@@ -369,9 +366,6 @@ module _ (w : World) (most x p : ℕ) (u : StreamRef) (fine : IsFine w most) (in
 pub record HasTaken (w : World) (x : ℕ) (u : StreamRef) (ks : List ℕ) (q : Port) : Type 0 where
   pub each : (j k : ℕ) → slice_get ks j ≡ Some k → IsBatchAt (line_of w.plan x u q) w.envelopes k j
   pub next : q.inlet.broken ≡ false → q.inlet.next ≡ length ks
-
-same-self : (z : Sess) → same_sess z z ≡ true
-same-self z = both-of (z.inc == z.inc) (z.number == z.number) (eq-test z.inc z.inc refl) (eq-test z.number z.number refl)
 
 line-same : (plan : Plan) (x : ℕ) (u : StreamRef) (q r : Port) → r.inlet.sess ≡ q.inlet.sess → r.chosen ≡ q.chosen → line_of plan x u r ≡ line_of plan x u q
 line-same plan x u q r s c = rw (s, c) refl

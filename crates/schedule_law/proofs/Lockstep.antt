@@ -1,5 +1,5 @@
 -- The one-thread journal of a script is live, and leads to the world of its one-thread run.
-use Rattle.std.proofs.Common.{◌≡◌, ℕ, zero, suc, ◌+◌, ◌-◌, ◌≤◌, Bool, true, false, not, cond, ◌&&◌, ◌||◌, nat_lt, List, [], ◌∷◌, map, length, refl, sym, ap, subst, ◌∙◌, arith, Option, Some, slice_get, unwrap_or}
+use Rattle.std.proofs.Common.{◌≡◌, ℕ, zero, suc, ◌+◌, ◌-◌, ◌≤◌, Bool, true, false, not, cond, ◌&&◌, nat_lt, List, [], ◌∷◌, map, length, refl, sym, ap, subst, ◌∙◌, arith, Option, Some, slice_get, unwrap_or}
 use Rattle.std.specs.Prelude.{reverse}
 use Rattle.std.proofs.lemmas.Option.{slice_get_past}
 use Rattle.dpc_model.specs.Lists.{nth}
@@ -15,9 +15,9 @@ use Rattle.world_safety.proofs.Tests.{both-of, lt-test, lt-of}
 use Rattle.schedule_law.proofs.Stages.{Reached, reached}
 use Rattle.schedule_law.proofs.Nodes.{IsZeroed}
 use Rattle.schedule_law.proofs.Calm.{IsZeroedAt, node_in}
-use Rattle.schedule_law.proofs.Waits.{or-right}
 use Rattle.schedule_law.proofs.Directing.{IsBetween}
 use Rattle.schedule_law.proofs.Phases.{phase-told}
+use Rattle.world_safety.proofs.Ticked.{or-left, or-right}
 
 -- ---- the first_progress
 
@@ -42,9 +42,6 @@ phase-next : (script : Script) (p first : ℕ) (x : Told) (r : Reached script (I
 phase-next script p first x r left =
     subst (λ (z : Told). Reached script (IsBetween script (p + 1) (length z.world.envelopes)) (tell_phase p first (phase_of script p).directives (phase_of script p).now z)) (sym r.is_told)
     (phase-told script p first r.here x.events r.follows r.holds left)
-
-or-left : (a b : Bool) → a ≡ true → (a || b) ≡ true
-or-left a b e = rw e refl
 
 -- ---- the script's phases
 

@@ -17,7 +17,8 @@ use Rattle.world_safety.proofs.Tests.{both-of, le-test, lt-of, not-lt}
 use Rattle.schedule_law.proofs.Stages.{at, Follows, Reached, reached, reached-then}
 use Rattle.schedule_law.proofs.Calm.{like-itself}
 use Rattle.schedule_law.proofs.Targets.{Meets, AllMet}
-use Rattle.schedule_law.proofs.Waits.{fresh_from, blocked-done, fresh-done, blocked-pending, or-right}
+use Rattle.world_safety.proofs.Ticked.{or-right}
+use Rattle.schedule_law.proofs.Waits.{fresh_from, blocked-done, fresh-done, blocked-pending}
 use Rattle.schedule_law.proofs.Doing.{IsGoing, IsMilledUpto, mills-all, tell-append}
 use Rattle.schedule_law.proofs.Delivering.{IsDelivered, deliver-all, IsTicking, tick-all}
 use Rattle.schedule_law.proofs.Directing.{IsDirected, directives-told, IsBetween, phase-opened}

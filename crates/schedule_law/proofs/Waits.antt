@@ -6,6 +6,7 @@ use Rattle.world_model.specs.Worlds.{World, Envelope}
 use Rattle.world_model.specs.Schedules.{Undelivered, is_lost, pending_in, delivery_made, same_way, is_first_of_its_way, may_come}
 use Rattle.world_safety.proofs.Tests.{both, both-of, lt-of, lt-test, eq-of, eq-test, not-of}
 use Rattle.schedule_law.proofs.Calm.{IsLike, like-come}
+use Rattle.world_safety.proofs.Ticked.{or-right}
 
 -- ---- those sent in the phase
 
@@ -64,10 +65,6 @@ blocked-kept w v k l (x ∷ xs) c few more h =
     let same = come-kept w v x.number c (omega (arith, low)) in
     both-of (is_blocked v l x) (list_all (is_blocked v l) xs)
     (both-of (x.pending && nat_lt x.number l) _ (both-of x.pending _ r.0 (lt-test x.number l (omega (arith, low)))) (rw same q.1)) (blocked-kept w v k l xs c few more p.1)
-
-pub or-right : (a b : Bool) → b ≡ true → (a || b) ≡ true
-or-right true b e = refl
-or-right false b e = e
 
 -- all has been delivered where these alone are pending
 pub blocked-done : (w : World) (k : ℕ) (xs ys : List Undelivered) → list_all (is_blocked w k) xs ≡ true → list_all (λ (y : Undelivered). not y.pending || not (may_come w (slice_get w.envelopes y.number))) ys ≡ true →

@@ -1,5 +1,5 @@
 -- What opened a session was sent by its reader.
-use Rattle.std.proofs.Common.{◌≡◌, ℕ, zero, suc, true, false, cond, List, [], ◌∷◌, ◌++◌, map, length, drop, refl, sym, ap, ◌∙◌, Option, Some, None, slice_get, unwrap_or, ◌⊎◌, inl, inr}
+use Rattle.std.proofs.Common.{◌≡◌, ℕ, true, false, cond, List, [], ◌∷◌, ◌++◌, map, length, drop, refl, sym, ap, ◌∙◌, Option, Some, None, slice_get, unwrap_or, ◌⊎◌, inl, inr}
 use Rattle.std.proofs.lemmas.List.{append-nil}
 use Rattle.dpc_model.specs.Lists.{push}
 use Rattle.dpc_model.specs.Actors.{Role, IsSource, IsNode, IsClient, Nobody, role_of}
@@ -14,6 +14,7 @@ use Rattle.world_model.specs.Worlds.{World, Envelope, home_of, from, slot_of, so
 use Rattle.world_model.specs.SessionLaw.{Channel}
 use Rattle.session_law.specs.Openings.{first_subscription, asks_for, brings, has_first, asked_next, opened_by}
 use Rattle.session_law.specs.Laws.{WasAsked}
+use Rattle.dpc_model.proofs.Elements.{get-first}
 
 -- ---- no envelope is taken back
 
@@ -111,11 +112,6 @@ event-grows w (Deliver k) = deliver-grows w (slice_get w.envelopes k)
 event-grows w (Tick a now) = tick-grows w a now (role_of w.plan a)
 event-grows w (Mill a r) = mill-grows w a r (role_of w.plan a)
 
-get-before : {X : Type 0} (xs ys : List X) (k : ℕ) (x : X) → slice_get xs k ≡ Some x → slice_get (xs ++ ys) k ≡ Some x
-get-before [] ys k x e = cc
-get-before (y ∷ xs) ys zero x e = e
-get-before (y ∷ xs) ys (suc k) x e = get-before xs ys k x e
-
 -- ---- who asked
 
 -- an envelope of a world asks for the session by this subscription
@@ -123,7 +119,7 @@ abbrev IsSent : Channel → World → Subscribe → Type 0
 IsSent l w asked = (k : ℕ) × (e : Envelope) × (slice_get w.envelopes k ≡ Some e) × (asks_for l e ≡ Some asked)
 
 sent-later : (l : Channel) (w next : World) (asked : Subscribe) → Grows w next → IsSent l w asked → IsSent l next asked
-sent-later l w next asked g h = (h.0, h.1, ap (λ (es : List Envelope). slice_get es h.0) g.1 ∙ get-before w.envelopes g.0 h.0 h.1 h.2, h.3)
+sent-later l w next asked g h = (h.0, h.1, ap (λ (es : List Envelope). slice_get es h.0) g.1 ∙ get-first w.envelopes g.0 h.0 h.1 h.2, h.3)
 
 brought : (l : Channel) (w : World) (e : Event) (asked : Subscribe) → brings l w e ≡ Some asked → IsSent l w asked
 brought l w (Deliver k) asked h =

@@ -4,7 +4,6 @@ use Rattle.std.proofs.lemmas.Grind.{common_steps}
 use Rattle.std.proofs.lemmas.List.{append-nil}
 use Rattle.std.proofs.lemmas.Option.{slice_get_within}
 use Rattle.dpc_model.specs.Lists.{nth, changed}
-use Rattle.dpc_model.specs.Inlets.{is_newer}
 use Rattle.dpc_model.specs.Sessions.{Sub, Shown, Answered, answer_to, first_batch, is_newer_than_kept}
 use Rattle.dpc_model.specs.declared.tuples.Item.{Item}
 use Rattle.dpc_model.specs.declared.messages.Sess.{Sess}
@@ -19,7 +18,7 @@ use Rattle.world_model.specs.SessionLaw.{carried, LeavesView}
 use Rattle.world_safety.proofs.Tests.{eq-of, eq-test}
 use Rattle.world_safety.proofs.Pointwise.{get-changed, length-changed}
 use Rattle.world_safety.proofs.Views.{IsView, first-law}
-use Rattle.world_safety.proofs.Histories.{HoldsSession, AreDistinct, same-self, newer-other}
+use Rattle.world_safety.proofs.Histories.{HoldsSession, AreDistinct, same-self, newer-other, newer-kept}
 use Rattle.session_law.specs.Openings.{asks_for, has_first}
 use Rattle.session_law.proofs.Keeping.{HeldBy, line_of, mailed, held-same, no-more}
 
@@ -30,13 +29,6 @@ opens a readers ms e q k u = cond (has_first (line_of a readers k u) (map (from 
 -- the answer's mail
 abbrev pub answer_mails : ℕ → Option Message → List Mail
 answer_mails to o = elim o [ None ↦ [] | Some m ↦ mail to m ∷ [] ]
-
-newer-trans : (u v w : Sess) → is_newer u v ≡ true → is_newer v w ≡ true → is_newer u w ≡ true
-newer-trans u v w e f = grind (arith, common_steps)
-
-newer-kept : (u v : Sess) (o : Option Sess) → is_newer u v ≡ true → is_newer_than_kept v o ≡ true → is_newer_than_kept u o ≡ true
-newer-kept u v None e f = refl
-newer-kept u v (Some w) e f = newer-trans u v w e f
 
 pub changed-other : {X : Type 0} (i j : ℕ) (f : X → X) (xs : List X) → (i == j) ≡ false → slice_get (changed i f xs) j ≡ slice_get xs j
 changed-other i j f [] e = refl

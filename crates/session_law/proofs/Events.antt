@@ -27,11 +27,12 @@ use Rattle.world_safety.proofs.Worlding.{true-at, actor-at}
 use Rattle.world_safety.proofs.Happening.{IsFine, happens-next, node-here, source-here, may-mill}
 use Rattle.session_law.specs.Openings.{asks_for, brings, has_first, asked_next, opened_by}
 use Rattle.session_law.proofs.Keeping.{line_of, mailed, held-same, mapped}
-use Rattle.session_law.proofs.Distinct.{readers-distinct}
+use Rattle.world_safety.proofs.Distinct.{readers-distinct}
 use Rattle.session_law.proofs.Noding.{Goes, ticked-goes, milled-goes, server-of}
 use Rattle.session_law.proofs.Delivering.{delivered-takes}
 use Rattle.session_law.proofs.Sources.{SourceGoes, emits-goes, releases-goes, source_delivered-takes, source_ticked-goes}
 use Rattle.session_law.proofs.Worlds.{no_slot, HeldNode, HeldAt, AreHeld, past_next, opened_next, AreHeldNext, untouched, quiet-held, void-held, other-held, other-slot, stepped-slot, StepTakes, node-held, SourceStepTakes, source-held}
+use Rattle.dpc_model.proofs.Elements.{drop-whole}
 
 -- nothing is brought
 abbrev nothing : Channel → Option Subscribe
@@ -77,10 +78,6 @@ release-held w most a t (IsClient c) h q e fine held = void-held w nothing h q h
 release-held w most a t Nobody h q e fine held = void-held w nothing h q held
 
 -- ---- crashes and restarts
-
-pub drop-whole : {X : Type 0} (xs : List X) → drop (length xs) xs ≡ []
-drop-whole [] = refl
-drop-whole (x ∷ xs) = drop-whole xs
 
 gone : (c : Bool) (xs : List Item) → (c ≡ false → xs ≡ []) → cond c [] xs ≡ []
 gone true xs h = refl

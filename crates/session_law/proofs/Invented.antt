@@ -28,7 +28,7 @@ use Rattle.session_law.specs.Laws.{TentativesStand, tentative_output, NoneInvent
 use Rattle.session_law.proofs.Keeping.{is_bare}
 use Rattle.session_law.proofs.Noding.{subscriptions-bare}
 use Rattle.session_law.proofs.Worlds.{stepped-slot}
-use Rattle.session_law.proofs.Events.{drop-whole}
+use Rattle.dpc_model.proofs.Elements.{drop-whole}
 use Rattle.session_law.proofs.Standing.{AreStanding, Stands, bare-standing, ticked-stands, milled-stands, delivered-stands, emits-standing, releases-standing, source_delivered-standing, source_ticked-standing}
 
 -- what a world sent anew stands

@@ -1,6 +1,5 @@
 pub mod Keeping
 pub mod Noding
-pub mod Distinct
 pub mod Asking
 pub mod Delivering
 pub mod Sources

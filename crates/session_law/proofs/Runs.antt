@@ -1,5 +1,5 @@
 -- The session law of every run.
-use Rattle.std.proofs.Common.{◌≡◌, ℕ, zero, suc, ◌*◌, true, List, [], ◌∷◌, map, length, refl, sym, ap, subst, ◌∙◌, arith, Option, Some, None, slice_get, unwrap_or}
+use Rattle.std.proofs.Common.{◌≡◌, ℕ, ◌*◌, true, List, [], map, length, refl, sym, ap, subst, ◌∙◌, arith, Option, Some, None, slice_get, unwrap_or}
 use Rattle.std.specs.Prelude.{IfSome}
 use Rattle.dpc_model.specs.Lists.{nth, range_with_len}
 use Rattle.dpc_model.specs.Fragments.{ideal, ideal_upto}
@@ -29,6 +29,7 @@ use Rattle.session_law.specs.Laws.{SessionsLeaveView, SessionLawOf, SessionLaw}
 use Rattle.session_law.proofs.Keeping.{line_of, SameShown, view-held, mapped}
 use Rattle.session_law.proofs.Worlds.{no_slot, HeldNode, HeldSource, HeldAt, AreHeld}
 use Rattle.session_law.proofs.Events.{run-held}
+use Rattle.dpc_model.proofs.Elements.{get-map}
 
 -- ---- the first_subscription
 
@@ -64,11 +65,6 @@ new-node-held home a place k sub e = opening-held home.plan (Frag home.frag) a (
 new-source-held : (plan : Plan) (a s i : ℕ) → HeldSource plan a s (λ l. []) first_subscription (new_source plan i)
 unfolding new_source
 new-source-held plan a s i k sub e = opening-held plan (Source s) a (source_readers plan s) k (source_shown plan s (new_source plan i)) sub (record { stable = refl; bound = refl; tentative = refl; passed = refl })
-
-get-map : {X Y : Type 0} (f : X → Y) (xs : List X) (i : ℕ) (x : X) → slice_get xs i ≡ Some x → slice_get (map f xs) i ≡ Some (f x)
-get-map f [] i x e = cc
-get-map f (y ∷ xs) zero x e = let same : y ≡ x = cc in rw same refl
-get-map f (y ∷ xs) (suc i) x e = get-map f xs i x e
 
 sources-held : (plan : Plan) (a s n : ℕ) → HeldSource plan a s (λ l. []) first_subscription (nth no_source (map (new_source plan) (range_with_len 0 n)) s)
 sources-held plan a s n =

@@ -25,7 +25,7 @@ use Rattle.world_safety.proofs.Sourcing.{IsFineSource, ideal-log, count-few}
 use Rattle.world_safety.proofs.Giving.{place-below}
 use Rattle.world_safety.proofs.Delivered.{place-nth}
 use Rattle.world_safety.proofs.Views.{IsView, IsViewStep, IsBoundStep, given-law}
-use Rattle.session_law.proofs.Distinct.{readers-distinct}
+use Rattle.world_safety.proofs.Distinct.{readers-distinct}
 use Rattle.session_law.proofs.Keeping.{HeldBy, Keeps, mailed, is_bare, keeps-same, keeps-gave}
 use Rattle.session_law.proofs.Asking.{opens, asked-held}
 

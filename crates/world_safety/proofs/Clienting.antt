@@ -15,13 +15,13 @@ use Rattle.dpc_model.specs.declared.messages.Message.{Message}
 use Rattle.dpc_model.specs.declared.messages.Message.TheVariants as message
 use Rattle.dpc_model.specs.declared.plans.Plan.{Plan}
 use Rattle.dpc_model.specs.declared.plans.StreamRef.{StreamRef}
-use Rattle.dpc_model.proofs.Folding.{fold_items-taken}
+use Rattle.dpc_model.proofs.Folding.{fold_items-taken, first_taken}
 use Rattle.node_model.specs.Mails.{mails, Packet, Plain, SnapFor}
 use Rattle.node_model.specs.Clients.{ClientState, client_stream, new_client, reader_of, with_taken, client_after_batch, client_message, client_packet, client_marks_ended, client_after_packet, client_tick_step}
 use Rattle.world_model.specs.Safe.{IsTruePacket, TookDoneSurely, IsSafeClient}
 use Rattle.world_model.specs.Orderly.{is_port_sound, carries_fitting}
 use Rattle.world_safety.proofs.Senders.{sender_sends}
-use Rattle.world_safety.proofs.ClientHolds.{client_delivered-holds}
+use Rattle.world_safety.proofs.ClientHolds.{client_delivered-holds, held_at-beat}
 use Rattle.world_safety.specs.Plans.{IsChecked, has_senders}
 use Rattle.world_safety.proofs.Tests.{both, both-of}
 use Rattle.world_safety.proofs.SoundPorts.{port-of}
@@ -30,16 +30,12 @@ use Rattle.world_safety.proofs.Emptied.{empty-holds}
 use Rattle.world_safety.proofs.Starting.{new-sound}
 use Rattle.world_safety.proofs.Taking.{take_batch-sound}
 use Rattle.world_safety.proofs.Batches.{took-sound}
-use Rattle.world_safety.proofs.Delivered.{truncated-sound, beat-sound, beat-held, role-fits}
+use Rattle.world_safety.proofs.Delivered.{truncated-sound, beat-sound, role-fits}
 use Rattle.world_safety.proofs.Mailing.{AreMails, mails-append}
 use Rattle.world_safety.proofs.Numbering.{senders-read}
 use Rattle.world_safety.proofs.Ticked.{chosen-sound, chosen-held, subscribed-mails, acked-mails, Reads}
 
 -- ---- items taken one list after another
-
-first_taken : (i : Item) (o : Option Folded) (f : Folded) → taken_first i o ≡ Some f → (g : Folded) × (o ≡ Some g) × (f ≡ record g { taken = i ∷ g.taken })
-first_taken i None f e = absurd (cc)
-first_taken i (Some g) f e = (g, refl, cc)
 
 pub fold-append : (r : Reader) (xs ys : List Item) (f g : Folded) → fold_items r xs ≡ Some f → fold_items f.after ys ≡ Some g → fold_items r (xs ++ ys) ≡ Some (record { after = g.after; taken = f.taken ++ g.taken })
 fold-append r [] ys f g e d = let same : f ≡ record { after = r; taken = [] } = cc in rw same (rw same at d)
@@ -158,7 +154,7 @@ message-kept plan c most a r (message.Truncated u base) x place fits k =
       sound = truncated-sound plan (client_stream plan c) 1 most r u base x.port k.sound;
     }
 message-kept plan c most a r (message.Beat b) x place fits k =
-    record { folded = rw (beat-held r b x.port) k.folded; sound = beat-sound plan (client_stream plan c) 1 most r b x.port k.sound }
+    record { folded = rw (held_at-beat r b x.port) k.folded; sound = beat-sound plan (client_stream plan c) 1 most r b x.port k.sound }
 message-kept plan c most a r (message.Ack i n) x place fits k = k
 message-kept plan c most a r (message.Ask i n) x place fits k = k
 message-kept plan c most a r (message.Grant i n) x place fits k = k

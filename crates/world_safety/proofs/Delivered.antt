@@ -39,10 +39,11 @@ use Rattle.world_safety.proofs.Batches.{took-good, take_batch-broken}
 use Rattle.world_safety.proofs.Numbering.{all-at}
 use Rattle.world_safety.proofs.Mailing.{mails-weaker, IsActor, node-mail, node-snap}
 use Rattle.world_safety.proofs.Giving.{IsGoodStep, IsDoneNode, on_subscribe-good, entered-good, place-below}
+use Rattle.world_safety.proofs.ClientHolds.{held_at-beat}
 
 -- ---- one port is changed, and what is held stays
 
-held-changed : (p : ℕ) (f : Port → Port) (ports : List Port) → ((q : Port) → slice_get ports p ≡ Some q → held_at (f q) ≡ held_at q) → map held_at (changed p f ports) ≡ map held_at ports
+pub held-changed : (p : ℕ) (f : Port → Port) (ports : List Port) → ((q : Port) → slice_get ports p ≡ Some q → held_at (f q) ≡ held_at q) → map held_at (changed p f ports) ≡ map held_at ports
 held-changed p f [] same = refl
 held-changed zero f (q ∷ ports) same = ap (λ (r : Reader). r ∷ map held_at ports) (same q refl)
 held-changed (suc p) f (q ∷ ports) same = ap (λ (rs : List Reader). held_at q ∷ rs) (held-changed p f ports same)
@@ -187,9 +188,6 @@ on_truncation-good home most a u base n place g =
 
 -- ---- a beat
 
-pub beat-held : (r : ℕ) (b : Beat) (q : Port) → held_at (on_beat r b q) ≡ held_at q
-beat-held r b q = elim (r == q.chosen) as (λ d. (cond d (after_link q.inlet b.link) q.inlet).held ≡ q.inlet.held) [ true ↦ refl | false ↦ refl ]
-
 pub beat-sound : (plan : Plan) (s : StreamRef) (i most r : ℕ) (b : Beat) (q : Port) → is_port_sound plan s i most q ≡ true → is_port_sound plan s i most (on_beat r b q) ≡ true
 beat-sound plan s i most r b q h =
     let many = length-changed r (after_beat b.inc b.state b.recovering) q.watches in
@@ -211,7 +209,7 @@ on_upstream_beat-good home most a b n g =
       | None ↦ λ e. g
       | Some pr ↦ λ e.
           let h = sender-of home.plan (streams_of home) a pr.0 pr.1 e in
-          port-kept-good home most pr.0 h.stream (on_beat pr.1 b) n h.at (λ q k. beat-held pr.1 b q) (λ q k l. beat-sound home.plan h.stream n.grants.inc most pr.1 b q l) (λ q k l. beat-empty pr.1 b q l) g
+          port-kept-good home most pr.0 h.stream (on_beat pr.1 b) n h.at (λ q k. held_at-beat pr.1 b q) (λ q k l. beat-sound home.plan h.stream n.grants.inc most pr.1 b q l) (λ q k l. beat-empty pr.1 b q l) g
     ]) refl
 
 pub on_peer_beat-good : (home : Home) (most : ℕ) (b : Beat) (o : Option ℕ) (n : PlainNode) → IsGood home most n → IsGood home most (on_peer_beat b o n)
@@ -322,7 +320,7 @@ on_ask-good home me most sender i ask n actor way g =
           ]
     ]) refl
 
-failure-calm : (state : NodeState) → is_up_failure state ≡ true → is_stabilization state ≡ true → ⊥
+pub failure-calm : (state : NodeState) → is_up_failure state ≡ true → is_stabilization state ≡ true → ⊥
 failure-calm state.Stable e f = cc
 failure-calm state.UpFailure e f = cc
 failure-calm state.Stabilization e f = cc

@@ -100,7 +100,7 @@ later-none home n m now k held stamp low cases e =
 
 -- ---- complete buckets
 
-complete-reach : (width k : ℕ) (rs : List Reader) → is_complete width rs k ≡ true → EachReaches ((k + 1) * width) rs
+pub complete-reach : (width k : ℕ) (rs : List Reader) → is_complete width rs k ≡ true → EachReaches ((k + 1) * width) rs
 complete-reach width k [] e = tt
 complete-reach width k (r ∷ rs) e =
     let p = both (nat_le ((k + 1) * width) r.bound) (is_complete width rs k) e in (le-of ((k + 1) * width) r.bound p.0, complete-reach width k rs p.1)

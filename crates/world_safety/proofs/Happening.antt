@@ -28,6 +28,7 @@ use Rattle.world_safety.proofs.Frames.{IsGood}
 use Rattle.world_safety.proofs.Emptied.{later-good}
 use Rattle.world_safety.proofs.Starting.{restarted-good}
 use Rattle.world_safety.proofs.Pointwise.{get-changed}
+use Rattle.dpc_model.proofs.Elements.{drop-whole}
 use Rattle.world_safety.proofs.Numbering.{node-at, source-at, all-at}
 use Rattle.world_safety.proofs.Mailing.{AreMails, mails-true, mails-fit, mails-weaker}
 use Rattle.world_safety.proofs.Giving.{IsGoodStep, IsDoneNode, milled-good}
@@ -59,10 +60,6 @@ pub record IsNext (w : World) (most : ℕ) (next : World) : Type 0 where
 -- one that sends nothing
 sends-nothing : (w next : World) → next.envelopes ≡ w.envelopes → SendsDoneSurely next (drop (length w.envelopes) next.envelopes)
 sends-nothing w next same = subst (λ (es : List Envelope). SendsDoneSurely next es) (sym (ap (λ (es : List Envelope). drop (length w.envelopes) es) same ∙ drop-whole w.envelopes)) tt
-  where
-    drop-whole : (es : List Envelope) → drop (length es) es ≡ []
-    drop-whole [] = refl
-    drop-whole (e ∷ es) = drop-whole es
 
 later-fine : (w : World) (most : ℕ) → IsFine w most → IsFine w (most + 1)
 later-fine w most h =

@@ -94,6 +94,13 @@ carried-given readers a j (suc i) u items (s ∷ subs) sub distinct few e =
 pub same-self : (u : Sess) → same_sess u u ≡ true
 same-self u = both-of (u.inc == u.inc) (u.number == u.number) (eq-test u.inc u.inc refl) (eq-test u.number u.number refl)
 
+pub newer-trans : (u v w : Sess) → is_newer u v ≡ true → is_newer v w ≡ true → is_newer u w ≡ true
+newer-trans u v w e f = grind (arith, common_steps)
+
+pub newer-kept : (u v : Sess) (o : Option Sess) → is_newer u v ≡ true → is_newer_than_kept v o ≡ true → is_newer_than_kept u o ≡ true
+newer-kept u v None e f = refl
+newer-kept u v (Some w) e f = newer-trans u v w e f
+
 pub newer-other : (u v : Sess) → is_newer u v ≡ true → same_sess v u ≡ false
 newer-other u v e = grind (arith, common_steps)
 

@@ -37,3 +37,4 @@ pub mod Continues
 pub mod NodeViews
 pub mod Histories
 pub mod Promises
+pub mod Distinct

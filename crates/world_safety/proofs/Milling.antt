@@ -16,7 +16,8 @@ use Rattle.node_model.specs.Nodes.{Home, PlainNode, held_by, out_stable, complet
 use Rattle.node_model.specs.NodeSteps.{past_buckets, after_stable_buckets}
 use Rattle.world_model.specs.Safe.{AreTrueItems, EachHolds, EachReaches, IsSafeNode}
 use Rattle.world_safety.proofs.Outputs.{ideal-InOrder, out_stable-ideal}
-use Rattle.world_safety.proofs.Truth.{stable_items-true, get-drop}
+use Rattle.dpc_model.proofs.Elements.{get-drop}
+use Rattle.world_safety.proofs.Truth.{stable_items-true}
 
 -- ---- items of the failure-free output
 

@@ -11,6 +11,7 @@ use Rattle.dpc_model.specs.declared.plans.StreamRef.TheVariants.{Source, Frag}
 use Rattle.node_model.specs.Nodes.{Home, no_fragment, streams_of}
 use Rattle.world_model.specs.Worlds.{node_place}
 use Rattle.world_safety.proofs.Tests.{both, both-of, eq-of, eq-test}
+use Rattle.world_safety.proofs.Closing.{length-range}
 
 -- the actors that pass a test, of these roles from number k on
 abbrev numbers_where : (Role → Bool) → ℕ → List Role → List ℕ
@@ -275,10 +276,6 @@ sources-skip [] rest a f r e = let none : a - 0 ≡ a = omega arith in rw none e
 sources-skip (s ∷ ss) rest zero f r e = cc
 sources-skip (s ∷ ss) rest (suc a) f r e = let same : suc a - suc (length ss) ≡ a - length ss = omega arith in rw same (sources-skip ss rest a f r e)
 
-pub length-range : (a n : ℕ) → length (range_with_len a n) ≡ n
-length-range a zero = refl
-length-range a (suc n) = ap suc (length-range (a + 1) n)
-
 pub node-at : (plan : Plan) (a f r : ℕ) → role_of plan a ≡ IsNode f r → slice_get (nodes_of plan) (node_place plan a) ≡ Some (f, r)
 node-at plan a f r e =
     node-among (nodes_of plan) (range_with_len 0 (length plan.clients)) (a - length plan.sources) f r
@@ -291,7 +288,7 @@ no-source roles none from zero a s e = absurd (none a s e)
 no-source roles none from (suc count) zero s e = let same : from ≡ s = cc in omega (arith, same)
 no-source roles none from (suc count) (suc a) s e = let far = no-source roles none (from + 1) count a s e in omega (arith, far)
 
-no-node-source : (ns : List (ℕ × ℕ)) (cs : List ℕ) (i s : ℕ) → nth Nobody (map (λ (n : ℕ × ℕ). IsNode n.0 n.1) ns ++ map IsClient cs) i ≡ IsSource s → ⊥
+pub no-node-source : (ns : List (ℕ × ℕ)) (cs : List ℕ) (i s : ℕ) → nth Nobody (map (λ (n : ℕ × ℕ). IsNode n.0 n.1) ns ++ map IsClient cs) i ≡ IsSource s → ⊥
 no-node-source [] [] i s e = cc
 no-node-source [] (c ∷ cs) zero s e = cc
 no-node-source [] (c ∷ cs) (suc i) s e = no-node-source [] cs i s e

@@ -22,7 +22,7 @@ use Rattle.world_safety.specs.Plans.{IsCheckedPlan}
 use Rattle.world_safety.specs.Holders.{Holder, AtClient, AtPort, client_holds, port_holds, node_holds, role_holds, holding}
 use Rattle.world_safety.specs.Promises.{AllSentIsTrue, ReadersAreRight, OutputsAreRight, DoneLeavesNothing, DoneIsSurelySent, NoneWaits}
 use Rattle.world_safety.proofs.Runs.{run-push}
-use Rattle.world_safety.proofs.Truth.{get-drop}
+use Rattle.dpc_model.proofs.Elements.{get-drop}
 use Rattle.world_safety.proofs.Outputs.{cut-held}
 use Rattle.world_safety.proofs.Frames.{IsGood}
 use Rattle.world_safety.proofs.Pointwise.{holds-at, get-changed}

@@ -1,5 +1,5 @@
 -- A tick outside STABILIZATION leaves no bucket due, and what it processed stands in one batch of every open session.
-use Rattle.std.proofs.Common.{◌≡◌, ◌≢◌, ℕ, ◌+◌, ◌-◌, ◌<◌, Bool, true, false, cond, not, ◌&&◌, nat_lt, List, [], ◌∷◌, ◌++◌, map, length, drop, refl, sym, ap, subst, ◌∙◌, arith, Option, Some, None, length-append}
+use Rattle.std.proofs.Common.{◌≡◌, ◌≢◌, ℕ, ◌+◌, ◌-◌, ◌<◌, Bool, true, false, cond, not, ◌&&◌, nat_lt, List, [], ◌++◌, map, length, refl, sym, ap, subst, ◌∙◌, arith, Option, Some, None, length-append}
 use Rattle.std.specs.Prelude.{IfSome, is_none}
 use Rattle.std.proofs.lemmas.Grind.{common_steps}
 use Rattle.std.proofs.lemmas.List.{length-map}
@@ -26,6 +26,7 @@ use Rattle.world_safety.proofs.Frames.{IsGood, out_stable-held, out_tentative-he
 use Rattle.world_safety.proofs.Emptied.{emptied-of}
 use Rattle.world_safety.proofs.Starting.{fresh-good}
 use Rattle.world_safety.proofs.Ticked.{chosen-held}
+use Rattle.dpc_model.proofs.Elements.{drop-whole}
 
 -- ---- what sessions leave
 
@@ -42,13 +43,9 @@ lt-more l count r = grind (arith, common_steps)
 lt-self : (c : ℕ) → nat_lt c c ≡ false
 lt-self c = grind (arith, common_steps)
 
-drop-all : {X : Type 0} (xs : List X) → drop (length xs) xs ≡ []
-drop-all [] = refl
-drop-all (x ∷ xs) = drop-all xs
-
 -- a node that did nothing gives nothing
 none-given : (home : Home) (x : PlainNode) (count : ℕ) → given_items count (given_by home x x false false) ≡ []
-none-given home x count = rw (drop-all (out_stable home x), drop-all (out_tentative home x)) refl
+none-given home x count = rw (drop-whole (out_stable home x), drop-whole (out_tentative home x)) refl
 
 -- ---- the step that processes buckets
 

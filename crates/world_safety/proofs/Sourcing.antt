@@ -1,5 +1,5 @@
 -- Steps of a source.
-use Rattle.std.proofs.Common.{◌≡◌, ℕ, zero, suc, ◌+◌, ◌≤◌, max, Bool, true, false, cond, ◌||◌, ◌==◌, nat_lt, nat_le, List, [], ◌∷◌, length, take, drop, refl, sym, ap, ◌∙◌, arith, Option, Some, None, slice_get}
+use Rattle.std.proofs.Common.{◌≡◌, ℕ, zero, suc, ◌+◌, ◌≤◌, max, Bool, true, false, cond, ◌||◌, ◌==◌, nat_lt, nat_le, List, [], ◌∷◌, length, take, drop, refl, sym, ap, ◌∙◌, arith, Option, Some, None}
 use Rattle.std.proofs.lemmas.Grind.{common_steps}
 use Rattle.dpc_model.specs.Lists.{nth, list_all, place_of}
 use Rattle.dpc_model.specs.Streams.{cut, is_below, count_below}
@@ -16,7 +16,7 @@ use Rattle.node_model.specs.Mails.{Packet, Plain, SnapFor, Stepped}
 use Rattle.node_model.specs.Sources.{SourceState, source_readers, bound_at, source_shown, emitted_upto, source_given, source_gives, source_emits, source_releases, source_subscribed, source_message, source_packet_step, source_beat, source_tick_step}
 use Rattle.world_model.specs.Safe.{AreTrueItems}
 use Rattle.world_model.specs.Orderly.{fits_stream, is_source_orderly}
-use Rattle.world_safety.proofs.Truth.{stable_items-true, given_items-true, get-drop, ideal-source}
+use Rattle.world_safety.proofs.Truth.{stable_items-true, given_items-true, ideal-source}
 use Rattle.world_safety.specs.Plans.{IsChecked}
 use Rattle.world_safety.proofs.Tests.{both, both-of, le-of, le-test, eq-of, eq-test, lt-of, all-weaker}
 use Rattle.world_safety.proofs.Processing.{length-counted}
@@ -26,6 +26,7 @@ use Rattle.world_safety.proofs.Numbering.{readers-read, source-sends-it}
 use Rattle.world_safety.proofs.Mailing.{AreMails, source-sender, batches-mails, given-fit, IsBoundWithin, mails-weaker}
 use Rattle.world_safety.proofs.Giving.{IsShown, answer-mails, place-below}
 use Rattle.world_safety.proofs.Ticked.{zipped-mails, or-left}
+use Rattle.dpc_model.proofs.Elements.{get-take, get-drop}
 
 -- what is kept of a source
 pub record IsFineSource (plan : Plan) (s : ℕ) (x : SourceState) : Type 0 where
@@ -59,12 +60,6 @@ all-take : {X : Type 0} (q : X → Bool) (k : ℕ) (xs : List X) → list_all q 
 all-take q zero xs h = refl
 all-take q (suc k) [] h = refl
 all-take q (suc k) (x ∷ xs) h = let p = both (q x) (list_all q xs) h in both-of (q x) (list_all q (take k xs)) p.0 (all-take q k xs p.1)
-
-get-take : {X : Type 0} (m j : ℕ) (xs : List X) (t : X) → slice_get (take m xs) j ≡ Some t → slice_get xs j ≡ Some t
-get-take zero j xs t e = cc
-get-take (suc m) j [] t e = e
-get-take (suc m) zero (x ∷ xs) t e = e
-get-take (suc m) (suc j) (x ∷ xs) t e = get-take m j xs t e
 
 -- a part of the log makes true items
 part-true : (plan : Plan) (s k m : ℕ) → IsChecked plan → AreTrueItems plan (Source s) (stable_items k (drop k (take m (log_of plan s))))

@@ -1,5 +1,5 @@
 -- Every envelope sent is true: what some of the events keep of it.
-use Rattle.std.proofs.Common.{◌≡◌, ℕ, ◌+◌, Bool, true, false, List, [], ◌∷◌, ◌++◌, take, drop, Some, None, Option, refl, arith, slice_get, zero-add, suc-add, add-zero, zero, suc}
+use Rattle.std.proofs.Common.{◌≡◌, ℕ, ◌+◌, Bool, true, false, List, [], ◌∷◌, ◌++◌, Some, None, Option, refl, arith, slice_get, add-zero, suc}
 use Rattle.dpc_model.specs.Streams.{cut}
 use Rattle.dpc_model.specs.Fragments.{ideal, ideal_upto, log_of}
 use Rattle.dpc_model.specs.Actors.{role_of}
@@ -19,18 +19,6 @@ use Rattle.world_model.specs.Safe.{AreTrueItems, IsTruePacket, AreTrue}
 -- ---- events that send nothing
 
 -- ---- an emit
-
--- the elements of a part of a list, by number
-get-take : {X : Type 0} (m j : ℕ) (xs : List X) (t : X) → slice_get (take m xs) j ≡ Some t → slice_get xs j ≡ Some t
-get-take zero j xs t e = cc
-get-take (suc m) j [] t e = e
-get-take (suc m) zero (x ∷ xs) t e = e
-get-take (suc m) (suc j) (x ∷ xs) t e = get-take m j xs t e
-
-pub get-drop : {X : Type 0} (k i : ℕ) (xs : List X) → slice_get (drop k xs) i ≡ slice_get xs (k + i)
-get-drop zero i xs = rw (zero-add i) refl
-get-drop (suc k) i [] = refl
-get-drop (suc k) i (x ∷ xs) = rw (suc-add k i) (get-drop k i xs)
 
 -- tuples that are those of the stream from number k on make true items
 pub stable_items-true : (plan : Plan) (s : StreamRef) (k : ℕ) (ts : List Tuple) →

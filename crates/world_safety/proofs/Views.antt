@@ -15,7 +15,7 @@ use Rattle.dpc_model.specs.declared.plans.Plan.{Plan}
 use Rattle.dpc_model.specs.declared.plans.StreamRef.{StreamRef}
 use Rattle.std.proofs.lemmas.List.Elements.{filter-append}
 use Rattle.dpc_model.proofs.Prefixes.{get-prefix}
-use Rattle.world_safety.proofs.Truth.{get-drop}
+use Rattle.dpc_model.proofs.Elements.{get-drop}
 use Rattle.dpc_model.specs.Engines.{from_time}
 use Rattle.world_model.specs.SessionLaw.{Fits, bound_of, soft_of, taken_whole, LeavesView}
 use Rattle.world_safety.proofs.Tests.{both, le-test, lt-of, lt-test, eq-of, eq-test}
