@@ -21,7 +21,7 @@ use Rattle.granting_law.specs.Asking.{IsOver, WasAsked, TellsSo}
 use Rattle.granting_law.proofs.Each.{Each}
 use Rattle.granting_law.proofs.Saying.{PacketSays, Says, told_key, asked_key, Hears, Asks, Ends, Never, FoundSilent, IsOwnStep, own-delivered, own-milled, own-ticked}
 use Rattle.granting_law.proofs.AtWork.{IsAsking, idle, delivered-asking, ticked-asking, milled-asking}
-use Rattle.granting_law.proofs.Events.{AreCases, by-event}
+use Rattle.world_safety.proofs.EventCases.{AreCases, by-event}
 use Rattle.world_safety.proofs.Promises.{slot-here}
 use Rattle.granting_law.proofs.Slots.{slot-there, Advances, advances-same, advances-down, advances-restart, advances-step, got-sent}
 

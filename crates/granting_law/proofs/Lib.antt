@@ -2,7 +2,6 @@ pub mod Each
 pub mod Keys
 pub mod Saying
 pub mod AtWork
-pub mod Events
 pub mod Slots
 pub mod Asked
 pub mod Running

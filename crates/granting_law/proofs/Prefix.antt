@@ -20,7 +20,7 @@ use Rattle.world_safety.proofs.Law.{new_world-fine, new_world-plan}
 use Rattle.granting_law.specs.Taken.{index_of, batches_in, IsBatchAt, subscribes, role_inc, IsAnsweredIn}
 use Rattle.granting_law.proofs.Asked.{IsAskingWorld, event-asking}
 use Rattle.granting_law.proofs.Running.{new_world-asking, new-slot}
-use Rattle.granting_law.proofs.Taking.{event-grows}
+use Rattle.world_safety.proofs.Growing.{event-grows}
 use Rattle.granting_law.proofs.Sending.{indexes}
 use Rattle.granting_law.proofs.Sent.{SubHolds, SentOrder, IsNodeLine, event-order}
 use Rattle.world_safety.proofs.Distinct.{readers-distinct}

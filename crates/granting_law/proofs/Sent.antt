@@ -18,7 +18,7 @@ use Rattle.world_safety.proofs.Histories.{AreDistinct}
 use Rattle.world_safety.proofs.Happening.{IsFine, node-here}
 use Rattle.granting_law.specs.Taken.{subscribes_packet, envelope_subscribes, subscribes, role_inc}
 use Rattle.granting_law.proofs.Saying.{own-delivered, own-milled, own-ticked}
-use Rattle.granting_law.proofs.Events.{AreCases, by-event}
+use Rattle.world_safety.proofs.EventCases.{AreCases, by-event}
 use Rattle.world_safety.proofs.Promises.{slot-here}
 use Rattle.granting_law.proofs.Slots.{slot-there}
 use Rattle.granting_law.proofs.Asked.{IsAskingWorld, same-or}

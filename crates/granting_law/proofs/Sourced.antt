@@ -27,9 +27,9 @@ use Rattle.world_safety.proofs.Numbering.{source-at as source-number}
 use Rattle.granting_law.specs.Taken.{subscribes_packet, envelope_subscribes, subscribes, role_inc}
 use Rattle.granting_law.proofs.Each.{Each}
 use Rattle.granting_law.proofs.Keys.{nth-changed}
-use Rattle.granting_law.proofs.Events.{AreCases, by-event}
+use Rattle.world_safety.proofs.EventCases.{AreCases, by-event}
 use Rattle.granting_law.proofs.Asked.{same-or}
-use Rattle.granting_law.proofs.Taking.{event-grows}
+use Rattle.world_safety.proofs.Growing.{event-grows}
 use Rattle.granting_law.proofs.Sending.{indexes, indexes-append, range-append, SendsOn, sends-none, answer_index, sends-answered, IsNoBatch, none-indexed, skip-other, take-mine, sends-given}
 use Rattle.granting_law.proofs.Sent.{other-indexed, apart-test, SubHolds}
 use Rattle.world_safety.proofs.Distinct.{readers-distinct}

@@ -27,7 +27,7 @@ use Rattle.granting_law.specs.Meanwhile.{role_finds, finds_silent, NeverFindsSil
 use Rattle.granting_law.proofs.Each.{Each}
 use Rattle.granting_law.proofs.Keys.{key-trans, IsAskStep}
 use Rattle.granting_law.proofs.Saying.{Says, PacketSays, Hears, Asks, Ends, Never, FoundSilent, own-delivered, own-milled, own-ticked}
-use Rattle.granting_law.proofs.Events.{AreCases, by-event}
+use Rattle.world_safety.proofs.EventCases.{AreCases, by-event}
 use Rattle.world_safety.proofs.Promises.{slot-here}
 use Rattle.granting_law.proofs.Slots.{slot-there, got-sent}
 use Rattle.granting_law.proofs.Asked.{IsAskingWorld, told-so, same-or, event-asking, each-unit}

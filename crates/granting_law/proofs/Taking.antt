@@ -1,7 +1,6 @@
 -- The batches that a port took in its session are numbered from 0 on, and are of the replica that it reads.
 use Rattle.std.proofs.Common.{◌≡◌, ℕ, zero, suc, ◌+◌, Bool, true, false, cond, ◌==◌, nat_lt, List, [], ◌∷◌, ◌++◌, map, length, refl, sym, ap, subst, ◌∙◌, arith, Option, Some, None, slice_get, unwrap_or, ◌⊎◌, inl, inr, length-append}
 use Rattle.std.proofs.lemmas.Grind.{common_steps}
-use Rattle.std.proofs.lemmas.List.{append-nil}
 use Rattle.dpc_model.specs.Lists.{nth, changed, range_with_len}
 use Rattle.dpc_model.specs.Inlets.{take_batch, same_sess, restarted_inlet, new_inlet, sess_of}
 use Rattle.dpc_model.specs.Actors.{Role, IsSource, IsNode, IsClient, Nobody, role_of, nodes_of, inputs_of, senders_of}
@@ -31,45 +30,17 @@ use Rattle.world_safety.proofs.Happening.{IsFine, happens-next}
 use Rattle.world_safety.proofs.Law.{new_world-fine, new_world-plan}
 use Rattle.granting_law.specs.Taken.{index_in, node_port, role_port, port_of, delivers, taken_next, taken_from, line_of, IsBatchAt, TakenInOrder}
 use Rattle.granting_law.proofs.Keys.{nth-changed}
-use Rattle.granting_law.proofs.Events.{AreCases, by-event}
+use Rattle.world_safety.proofs.EventCases.{AreCases, by-event}
 use Rattle.world_safety.proofs.Promises.{slot-here}
 use Rattle.granting_law.proofs.Slots.{slot-there}
 use Rattle.granting_law.proofs.Asked.{same-or}
 use Rattle.granting_law.proofs.Running.{new-slot}
 use Rattle.granting_law.proofs.Moves.{Moves, stays-same, stays-then, took-moves, beat-moves, truncated-moves, chosen-moves, PortsMove, DeliversNext, NoneTaken, get-mapped, delivered-ports, milled-ports, ticked-ports}
 use Rattle.dpc_model.proofs.Elements.{get-first}
+use Rattle.world_safety.proofs.Growing.{event-grows}
 use Rattle.world_safety.proofs.Histories.{same-self}
 
--- ---- envelopes stay
-
-pub record Grows (w next : World) : Type 0 where
-  pub plan : next.plan ≡ w.plan
-  pub more : List Envelope
-  pub envelopes : next.envelopes ≡ w.envelopes ++ more
-
-grows-same : (w next : World) → next.plan ≡ w.plan → next.envelopes ≡ w.envelopes → Grows w next
-grows-same w next plan same = record { plan = plan; more = []; envelopes = same ∙ sym (append-nil w.envelopes) }
-
-grows-cases : (w : World) → AreCases w (λ e next. Grows w next)
-grows-cases w =
-    record {
-      still = λ e. grows-same w w refl refl;
-      wires = λ e cuts. grows-same w _ refl refl;
-      emitted = λ a s t role. record { plan = refl; more = _; envelopes = refl };
-      released = λ a s t role. record { plan = refl; more = _; envelopes = refl };
-      source_took = λ k s e there can role. record { plan = refl; more = _; envelopes = refl };
-      source_ticks = λ a s now role. record { plan = refl; more = _; envelopes = refl };
-      crashed = λ a f r role. grows-same w _ refl refl;
-      restarted = λ a i f r role. grows-same w _ refl refl;
-      node_took = λ k f r e n there can role up. record { plan = refl; more = _; envelopes = refl };
-      node_ticked = λ a now f r n role up clock. record { plan = refl; more = _; envelopes = refl };
-      node_milled = λ a r f q n role up can. record { plan = refl; more = _; envelopes = refl };
-      client_took = λ k c e there can role. grows-same w _ refl refl;
-      client_ticks = λ a c now role. record { plan = refl; more = _; envelopes = refl };
-    }
-
-pub event-grows : (w : World) (e : Event) → Grows w (happens w e)
-event-grows w e = by-event w (λ e next. Grows w next) (grows-cases w) e
+-- ---- batches
 
 pub batch-later : (l : Channel) (es more : List Envelope) (k j : ℕ) → IsBatchAt l es k j → IsBatchAt l (es ++ more) k j
 batch-later l es more k j h = record { envelope = h.envelope; there = get-first es more k h.envelope h.there; is_batch = h.is_batch }

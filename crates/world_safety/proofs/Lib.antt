@@ -38,3 +38,5 @@ pub mod NodeViews
 pub mod Histories
 pub mod Promises
 pub mod Distinct
+pub mod EventCases
+pub mod Growing
