@@ -3,7 +3,7 @@ use Rattle.std.specs.Prelude.{⊤}
 use Rattle.std.proofs.Common.{◌≡◌, ℕ, zero, suc, ◌+◌, ◌-◌, ◌*◌, ◌≤◌, Bool, true, false, cond, ◌==◌, List, [], ◌∷◌, ◌++◌, map, refl, arith, Option, Some, None, unwrap_or}
 use Rattle.std.specs.List.{filter, flat_map, last_or}
 use Rattle.dpc_model.specs.Lists.{nth, push, range_with_len, is_nil}
-use Rattle.dpc_model.specs.Streams.{NoneBelow, IsOrdered, time_of, InOrder, is_below}
+use Rattle.dpc_model.specs.Streams.{AllInOrder, NoneBelow, IsOrdered, time_of, InOrder, is_below}
 use Rattle.dpc_model.specs.Values.{column, is_true, value_of}
 use Rattle.dpc_model.specs.Operators.{output_of, all_of, pairs_with, group_rows, window_rows, between, window_count, tuple_of, total_of, distinct_values, mapped_tuple}
 use Rattle.dpc_model.specs.Fragments.{serial, tagged_from, read_wire, outputs_after, fragment_value, log_of, stream_upto, fragments_upto, ideal_upto, LogsInOrder}
@@ -77,10 +77,6 @@ windows_in_order size step group aggs us a (suc n) =
     rows_first group aggs (a * step + size - 1) (between (a * step) (a * step + size) us) _ (NoneBelow-less (a * step + size - 1) ((a + 1) * step + size - 1) _ later rest.0) rest.1
 
 -- ---- any operator
-
-abbrev pub AllInOrder : List (List Tuple) → Type 0
-AllInOrder [] = ⊤
-AllInOrder (ts ∷ rest) = InOrder ts × AllInOrder rest
 
 pub nth-InOrder : (xss : List (List Tuple)) (i : ℕ) → AllInOrder xss → InOrder (nth [] xss i)
 nth-InOrder [] i h = tt

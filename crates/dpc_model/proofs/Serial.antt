@@ -4,12 +4,12 @@ use Rattle.std.proofs.lemmas.Grind.{common_steps}
 use Rattle.std.proofs.lemmas.List.Elements.{filter-append}
 use Rattle.std.specs.List.{filter}
 use Rattle.dpc_model.specs.Lists.{nth, sort_by}
-use Rattle.dpc_model.specs.Streams.{time_of}
+use Rattle.dpc_model.specs.Streams.{time_of, AllInOrder}
 use Rattle.dpc_model.specs.Fragments.{tag, tagged_from, serial, at_port}
 use Rattle.dpc_model.specs.declared.tuples.Tuple.{Tuple}
 use Rattle.dpc_model.specs.declared.tuples.Tagged.{Tagged}
 use Rattle.dpc_model.proofs.Causality.{filter-sort, sort_by-ordered}
-use Rattle.dpc_model.proofs.Order.{AllInOrder, IsOrdered-map, nth-InOrder}
+use Rattle.dpc_model.proofs.Order.{IsOrdered-map, nth-InOrder}
 use Rattle.dpc_model.proofs.Buckets.{tagged_time}
 
 abbrev is_at : ℕ → Tagged → Bool

@@ -19,6 +19,11 @@ time_of t = t.stime
 abbrev pub InOrder : List Tuple → Type 0
 InOrder ts = IsOrdered time_of ts
 
+-- several streams, each in order of time
+abbrev pub AllInOrder : List (List Tuple) → Type 0
+AllInOrder [] = Unit {0}
+AllInOrder (ts ∷ rest) = InOrder ts × AllInOrder rest
+
 -- whether a tuple lies below a time
 abbrev pub is_below : ℕ → Tuple → Bool
 is_below b t = nat_lt t.stime b

@@ -7,14 +7,13 @@ use Rattle.std.proofs.lemmas.List.Elements.{filter-append}
 use Rattle.std.specs.List.{filter, AllAdjacentBelow}
 use Rattle.std.specs.Prelude.{IsTrue}
 use Rattle.dpc_model.specs.Lists.{nth, insert_by, sort_by, range_with_len}
-use Rattle.dpc_model.specs.Streams.{NoneBelow, IsOrdered}
+use Rattle.dpc_model.specs.Streams.{NoneBelow, IsOrdered, AllInOrder}
 use Rattle.dpc_model.specs.Engines.{precedes, ports_of}
 use Rattle.dpc_model.specs.Fragments.{tag, tagged_from, serial, at_port}
 use Rattle.dpc_model.specs.declared.tuples.Tuple.{Tuple}
 use Rattle.dpc_model.specs.declared.tuples.Tagged.{Tagged}
 use Rattle.dpc_model.proofs.Buckets.{tagged_time}
 use Rattle.dpc_model.proofs.Causality.{filter-map, filter-sort}
-use Rattle.dpc_model.proofs.Order.{AllInOrder}
 use Rattle.dpc_model.proofs.Serial.{at_port-serial}
 
 abbrev port_of : Tagged → ℕ

@@ -1,10 +1,9 @@
 -- What a mill's own functions say of one operator, and what is true of every mill.
 use Rattle.std.specs.Prelude.{⊤, ◌≡◌, ℕ, ◌≤◌, Bool, false, List, length, All}
-use Rattle.dpc_model.specs.Streams.{cut, cut_each}
+use Rattle.dpc_model.specs.Streams.{cut, cut_each, AllInOrder}
 use Rattle.dpc_model.specs.Engines.{Value, FitsBucket, SameMake}
 use Rattle.dpc_model.specs.Fragments.{serial}
 use Rattle.dpc_model.specs.Operators.{output_of}
-use Rattle.dpc_model.proofs.Order.{AllInOrder}
 use Rattle.dpc_model.specs.declared.tuples.Tuple.{Tuple}
 use Rattle.dpc_model.specs.declared.tuples.Tagged.{Tagged}
 use Rattle.dpc_model.specs.declared.operators.OpKind.{OpKind}

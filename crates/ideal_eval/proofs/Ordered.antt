@@ -2,13 +2,13 @@
 use Rattle.std.proofs.Common.{ℕ, List, [], ◌∷◌, map, take, All}
 use Rattle.std.proofs.lemmas.List.Elements.{recursion_from_All, All-from_recursion}
 use Rattle.std.specs.List.{AllByRecursion}
-use Rattle.dpc_model.specs.Streams.{InOrder}
+use Rattle.dpc_model.specs.Streams.{InOrder, AllInOrder}
 use Rattle.dpc_model.specs.Fragments.{stream_upto, fragments_upto, LogsInOrder}
 use Rattle.dpc_model.specs.declared.tuples.Tuple.{Tuple}
 use Rattle.dpc_model.specs.declared.plans.FragSpec.{FragSpec}
 use Rattle.dpc_model.specs.declared.plans.Plan.{Plan}
 use Rattle.dpc_model.specs.declared.plans.StreamRef.{StreamRef}
-use Rattle.dpc_model.proofs.Order.{AllInOrder, fragments-InOrder, stream-InOrder}
+use Rattle.dpc_model.proofs.Order.{fragments-InOrder, stream-InOrder}
 
 in_order-from : (tss : List (List Tuple)) → AllByRecursion InOrder tss → AllInOrder tss
 in_order-from [] h = tt
