@@ -1,19 +1,31 @@
--- Known bytes that move in pieces.
-use Rattle.std.proofs.Common.{◌≡◌, ℕ, ◌+◌, ◌-◌, List, ◌++◌, length, take, drop, Option, Some, None, ◌∙◌, ap, append_assoc}
+-- Bytes that move in pieces.
+use Rattle.std.proofs.Common.{◌≡◌, ℕ, ◌+◌, ◌-◌, ◌≤◌, List, ◌++◌, length, take, drop, ◌∙◌, arith}
 use Rattle.std.proofs.Math.Seq.{take-add, take-length}
-use Rattle.std.proofs.lemmas.List.{length-drop}
-use Rattle.std.specs.Io.KnownBytes.{Appends}
+use Rattle.std.proofs.lemmas.List.{length-append, length-drop}
+use Rattle.std.proofs.KnownBytes.{Appends-trans, Consumes-trans}
+use Rattle.dpc_edge.specs.Edges.{Edge, Gave, Took}
+use Rattle.borealis_top.specs.Transfers.{GaveAtMost}
 
--- one piece after another was appended
-Appends-then : (a b c : Option (List ℕ)) (xs ys : List ℕ) → Appends a b xs → Appends b c ys → Appends a c (xs ++ ys)
-Appends-then None b c xs ys p q = tt
-Appends-then (Some xs0) None c xs ys p q = absurd p
-Appends-then (Some xs0) (Some xs1) None xs ys p q = absurd q
-Appends-then (Some xs0) (Some xs1) (Some xs2) xs ys p q = q ∙ ap (λ (t : List ℕ). t ++ ys) p ∙ append_assoc xs0 xs ys
-
--- the next bytes of a text, from place i on, were appended behind those before it
-pub Appends-next : (a b c : Option (List ℕ)) (i n : ℕ) (text : List ℕ) → Appends a b (take i text) →
-    Appends b c (take n (take (length text - i) (drop i text))) → Appends a c (take (i + n) text)
-Appends-next a b c i n text p q =
+-- the next bytes of a text, from place i on, were taken behind those before it
+pub Took-next : (a b c : Edge) (i n : ℕ) (text : List ℕ) → Took a b (take i text) →
+    Took b c (take n (take (length text - i) (drop i text))) → Took a c (take (i + n) text)
+Took-next a b c i n text p q =
     let whole : take (length text - i) (drop i text) ≡ drop i text = rw (← length-drop i text) (take-length (drop i text)) in
-    rw take-add (Appends-then a b c (take i text) (take n (drop i text)) p (rw whole at q))
+    record {
+      bytes = rw take-add (Appends-trans a.bytes b.bytes c.bytes (take i text) (take n (drop i text)) p.bytes (rw whole at q.bytes));
+      faults = q.faults ∙ p.faults;
+    }
+
+-- one piece after another was given
+pub Gave-then : (a b c : Edge) (first next : List ℕ) → Gave a b first → Gave b c next → Gave a c (first ++ next)
+Gave-then a b c first next p q =
+    record { bytes = Consumes-trans a.bytes b.bytes c.bytes first next p.bytes q.bytes; faults = q.faults ∙ p.faults }
+
+-- so was a piece, and then some more bytes
+pub Gave-some : (a b c : Edge) (first : List ℕ) (most all : ℕ) → Gave a b first → GaveAtMost most b c → length first + most ≤ all → GaveAtMost all a c
+Gave-some a b c first most all p q within =
+    record {
+      text = first ++ q.text;
+      bytes = Consumes-trans a.bytes b.bytes c.bytes first q.text p.bytes q.bytes;
+      few = omega (arith, length-append first q.text, q.few, within);
+    }

@@ -1,14 +1,3 @@
 pub mod Known
-pub mod SmallPlans
-pub mod SmallSteps
-pub mod SmallSafety
-pub mod SmallBatches
-pub mod SmallMilling
-pub mod SmallStamps
-pub mod SmallTaking
-pub mod SmallTicks
-pub mod SmallFrames
-pub mod SmallReports
-pub mod SmallRunning
-pub mod SmallRounds
 pub mod Ended
+pub mod Commands

@@ -1,10 +1,6 @@
 pub mod Codes
 pub mod Commands
-pub mod Inputs
-pub mod SmallWorlds
-pub mod SmallSchedules
-pub mod SmallSafe
-pub mod OrderProps
-pub mod SmallSides
+pub mod Texts
+pub mod Transfers
 pub mod Ends
-pub mod SmallRuns
+pub mod Programs

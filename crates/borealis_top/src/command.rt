@@ -1,6 +1,6 @@
 //! The words of the program.
-ghost use Rattle.std.specs.Prelude.{◌≡◌, map, string_bytes};
-ghost use Rattle.borealis_top.specs.Commands.{same_bytes, command_of};
+ghost use Rattle.std.specs.Prelude.{◌≡◌, map, string_bytes, bytes_eq};
+ghost use Rattle.borealis_top.specs.Commands.{command_of};
 
 /// What the program is to do.
 #[derive(Clone, Copy, PartialEq, Eq, Debug)]
@@ -15,16 +15,9 @@ pub enum Command {
 
 /// Whether an argument is this word.
 fn is_word(argument: &String, word: &[u8]) -> bool
-    ensures { result ≡ same_bytes (string_bytes argument.now) word.now }
+    ensures { result ≡ bytes_eq (string_bytes argument.now) word.now }
 {
-    are_same(argument.as_bytes(), word)
-}
-
-/// Whether two words have the same bytes.
-fn are_same(word: &[u8], other: &[u8]) -> bool
-    ensures { result ≡ same_bytes word.now other.now }
-{
-    word == other
+    argument.as_bytes() == word
 }
 
 /// The command that the words are.

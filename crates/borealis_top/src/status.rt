@@ -1,6 +1,9 @@
 //! How a command ends.
 ghost use Rattle.std.specs.Prelude.{◌≡◌};
+ghost use Rattle.std.specs.Process.{exit_status};
 ghost use Rattle.borealis_top.specs.Codes.{code_of};
+
+use std::process::ExitCode;
 
 /// How a command ended.
 #[derive(Clone, Copy, PartialEq, Eq, Debug)]
@@ -23,8 +26,15 @@ pub enum Status {
 }
 
 impl Status {
-    /// The exit status of the program: 0 to 7 in the order of the variants.
-    pub fn code(&self) -> u8
+    /// The exit status of the program.
+    pub fn exit(&self) -> ExitCode
+        ensures { exit_status result ≡ code_of self.now }
+    {
+        ExitCode::from(self.code())
+    }
+
+    /// Its number: 0 to 7 in the order of the variants.
+    fn code(&self) -> u8
         ensures { result ≡ code_of self.now }
     {
         match self {

@@ -1,7 +1,9 @@
 //! Whole inputs and whole texts, over sources and sinks that move pieces.
 ghost use Rattle.std.specs.Prelude.{◌≡◌, ◌≢◌, ◌+◌, ◌<◌, ◌≤◌, ◌++◌, ℕ, List, take, length, vec_len, IfOk, OnOk, OnErr, Err};
-ghost use Rattle.std.specs.Io.KnownBytes.{Consumes, Appends, IsAtEnd};
+ghost use Rattle.std.specs.Io.KnownBytes.{IsAtEnd};
 ghost use Rattle.dpc_edge.specs.Faults.{Rises};
+ghost use Rattle.dpc_edge.specs.Edges.{Gave, Took};
+ghost use Rattle.borealis_top.specs.Transfers.{GaveAtMost, TookPart};
 
 use dpc_edge::faults::Failed;
 use dpc_edge::sink::Sink;
@@ -58,12 +60,13 @@ fn read_more<S: Source>(
     bytes: &mut Vec<u8>,
 ) -> Result<usize, InputFault>
     ensures bound { IfOk result (λ n. n ≤ length buffer.new) }
-    ensures read { IfOk result (λ n. Consumes (S.left input.old) (S.left input.new) (take n buffer.new)) }
+    ensures gave { IfOk result (λ n. Gave (S.edge input.old) (S.edge input.new) (take n buffer.new)) }
     ensures bytes { IfOk result (λ n. bytes.new.items ≡ bytes.old.items ++ take n buffer.new) }
-    ensures end { result ≡ Ok 0 → 0 < length buffer.old → IsAtEnd (S.left input.new) }
-    ensures failed { result ≡ Err InputFault.Failed → Rises (S.faults input.old) (S.faults input.new) }
-    ensures others { result ≢ Err InputFault.Failed → S.faults input.new ≡ S.faults input.old }
+    ensures end { result ≡ Ok 0 → 0 < length buffer.old → IsAtEnd (S.edge input.new).bytes }
+    ensures failed { result ≡ Err InputFault.Failed → Rises (S.edge input.old).faults (S.edge input.new).faults }
+    ensures others { result ≢ Err InputFault.Failed → (S.edge input.new).faults ≡ (S.edge input.old).faults }
     ensures long { result ≢ Err InputFault.TooLong }
+    ensures most { OnErr result (GaveAtMost (length buffer.old) (S.edge input.old) (S.edge input.new)) }
 {
     let given = input.read(buffer)?;
     bytes.extend_from_slice(&buffer[..given])?;
@@ -72,13 +75,16 @@ fn read_more<S: Source>(
 
 /// Reads an input to its end, or to one byte past the longest script.
 pub fn read_whole<S: Source>(alloc: Global, input: &mut S) -> Result<Vec<u8>, InputFault>
-    ensures bytes { IfOk result (λ bytes. Consumes (S.left input.old) (S.left input.new) bytes.items) }
-    ensures end { OnOk result (IsAtEnd (S.left input.new)) }
+    ensures gave { IfOk result (λ bytes. Gave (S.edge input.old) (S.edge input.new) bytes.items) }
+    ensures end { OnOk result (IsAtEnd (S.edge input.new).bytes) }
     ensures short { IfOk result (λ bytes. vec_len bytes ≤ MOST_INPUT) }
     ensures long { result ≡ Err InputFault.TooLong
-        → (bytes : List ℕ) × Consumes (S.left input.old) (S.left input.new) bytes × (length bytes ≡ MOST_INPUT + 1) }
-    ensures failed { result ≡ Err InputFault.Failed → Rises (S.faults input.old) (S.faults input.new) }
-    ensures others { result ≢ Err InputFault.Failed → S.faults input.new ≡ S.faults input.old }
+        → (bytes : List ℕ) × Gave (S.edge input.old) (S.edge input.new) bytes × (length bytes ≡ MOST_INPUT + 1) }
+    ensures failed { result ≡ Err InputFault.Failed → Rises (S.edge input.old).faults (S.edge input.new).faults }
+    ensures others { result ≢ Err InputFault.Failed → (S.edge input.new).faults ≡ (S.edge input.old).faults }
+
+    // Whatever ends it, at most one byte past the longest script is read.
+    ensures most { OnErr result (GaveAtMost (MOST_INPUT + 1) (S.edge input.old) (S.edge input.new)) }
 {
     let mut room = piece_room(alloc)?;
     let mut bytes = Vec::new(alloc);
@@ -93,12 +99,8 @@ pub fn read_whole<S: Source>(alloc: Global, input: &mut S) -> Result<Vec<u8>, In
 
 /// Writes a whole text, in as many pieces as the sink takes.
 pub fn write_whole<K: Sink>(out: &mut K, text: &[u8]) -> Result<(), Failed>
-    ensures ok { OnOk result (Appends (K.taken out.old) (K.taken out.new) text.now) }
-    ensures faults { OnOk result (K.faults out.new ≡ K.faults out.old) }
-
-    // Where the sink failed, it has taken a proper beginning.
-    ensures part { OnErr result ((n : ℕ) × (n < length text.now) × Appends (K.taken out.old) (K.taken out.new) (take n text.now)) }
-    ensures failed { OnErr result (Rises (K.faults out.old) (K.faults out.new)) }
+    ensures took { OnOk result (Took (K.edge out.old) (K.edge out.new) text.now) }
+    ensures failed { OnErr result (TookPart (K.edge out.old) (K.edge out.new) text.now) }
 {
     let mut done = 0;
     while done < text.len() {

@@ -1,5 +1,5 @@
 //! Failed calls, and their count.
-ghost use Rattle.std.specs.Prelude.{◌≡◌, ℕ, ◌≤◌};
+ghost use Rattle.std.specs.Prelude.{◌≡◌, ℕ};
 ghost use Rattle.dpc_edge.specs.Faults.{Rises, one_more};
 
 use std::marker::Model;
@@ -10,7 +10,7 @@ pub struct Failed;
 
 /// How many calls of an object failed. It stays once it is the greatest `u64`. Contracts see the number.
 #[derive(Drop)]
-pub struct FaultCount {
+pub(crate) struct FaultCount {
     count: u64,
 }
 
@@ -22,14 +22,14 @@ impl Model for FaultCount {
 
 impl FaultCount {
     /// No call failed so far.
-    pub fn new() -> FaultCount
+    pub(crate) fn new() -> FaultCount
         ensures { result ≡ 0 }
     {
         FaultCount { count: 0 }
     }
 
     /// One more call fails, with this answer.
-    pub fn raise(&mut self) -> Failed
+    pub(crate) fn raise(&mut self) -> Failed
         ensures raised { self.new ≡ one_more self.old }
         ensures rises { Rises self.old self.new }
     {

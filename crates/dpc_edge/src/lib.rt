@@ -3,11 +3,11 @@
 //! code outside the object can bring about. No call of this crate takes memory.
 #![tactic(auto)]
 
+pub mod counted;
 pub mod faults;
 pub mod gate;
 pub mod memory;
 pub mod sink;
 pub mod source;
-pub mod standard;
 #[cfg(test)]
 mod tests;

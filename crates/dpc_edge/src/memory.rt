@@ -1,9 +1,9 @@
 //! A source and a sink in memory, which fail at the calls that a test lists. Calls are numbered from
 //! 0; from the greatest `u64` on they share that number.
-ghost use Rattle.std.specs.Prelude.{◌≡◌, ◌+◌, ◌-◌, ◌<◌, ◌≤◌, ◌⊎◌, ◌++◌, length, take, drop, min, Some, IfOk, OnOk, OnErr, Contains, ◌↔◌, IsErr};
-ghost use Rattle.std.specs.Io.KnownBytes.{Consumes, Appends, Keeps, IsAtEnd};
-ghost use Rattle.dpc_edge.specs.Faults.{Rises, one_more};
-ghost use Rattle.dpc_edge.specs.Memory.{giving_from, taking_into};
+ghost use Rattle.std.specs.Prelude.{[], ◌≡◌, ◌+◌, ◌-◌, ◌<◌, ◌≤◌, ◌⊎◌, ◌++◌, length, take, drop, min, IfOk, OnErr, Contains, ◌↔◌, IsErr};
+ghost use Rattle.dpc_edge.specs.Faults.{one_more};
+ghost use Rattle.dpc_edge.specs.Edges.{Gave, Took, Fails};
+ghost use Rattle.dpc_edge.specs.Memory.{giving_from, giving_edge, taking_into, taking_edge};
 
 use crate::faults::{Failed, FaultCount};
 use crate::sink::Sink;
@@ -57,17 +57,13 @@ impl MemSource {
 }
 
 impl Source for MemSource {
-    ghost left = { λ s. Some s.left };
-
-    ghost faults = { λ s. s.faults };
+    ghost edge = { giving_edge };
 
     fn read(&mut self, buffer: &mut [u8]) -> Result<usize, Failed>
         ensures bound { IfOk result (λ n. n ≤ length buffer.new) }
-        ensures bytes { IfOk result (λ n. Consumes (Some self.old.left) (Some self.new.left) (take n buffer.new)) }
-        ensures end { result ≡ Ok 0 → 0 < length buffer.new → IsAtEnd (Some self.new.left) }
-        ensures faults { OnOk result (self.new.faults ≡ self.old.faults) }
-        ensures err { OnErr result (Keeps (Some self.old.left) (Some self.new.left)) }
-        ensures failed { OnErr result (Rises self.old.faults self.new.faults) }
+        ensures gave { IfOk result (λ n. Gave (giving_edge self.old) (giving_edge self.new) (take n buffer.new)) }
+        ensures end { result ≡ Ok 0 → 0 < length buffer.new → self.new.left ≡ [] }
+        ensures failed { OnErr result (Fails (giving_edge self.old) (giving_edge self.new)) }
 
         // Just the calls that are listed fail, and the others give as much as they can.
         ensures listed { IsErr result ↔ Contains self.old.fails self.old.calls }
@@ -143,17 +139,13 @@ impl MemSink {
 }
 
 impl Sink for MemSink {
-    ghost taken = { λ s. Some s.taken };
-
-    ghost faults = { λ s. s.faults };
+    ghost edge = { taking_edge };
 
     fn write(&mut self, piece: &[u8]) -> Result<usize, Failed>
         ensures bound { IfOk result (λ n. n ≤ length piece.now) }
         ensures some { IfOk result (λ n. 0 < length piece.now → 0 < n) }
-        ensures bytes { IfOk result (λ n. Appends (Some self.old.taken) (Some self.new.taken) (take n piece.now)) }
-        ensures faults { OnOk result (self.new.faults ≡ self.old.faults) }
-        ensures err { OnErr result (Keeps (Some self.old.taken) (Some self.new.taken)) }
-        ensures failed { OnErr result (Rises self.old.faults self.new.faults) }
+        ensures took { IfOk result (λ n. Took (taking_edge self.old) (taking_edge self.new) (take n piece.now)) }
+        ensures failed { OnErr result (Fails (taking_edge self.old) (taking_edge self.new)) }
 
         // Just the calls that are listed fail, and those that find no room; the others take what they can.
         ensures listed { IsErr result ↔ (Contains self.old.fails self.old.calls ⊎ ((self.old.space ≡ 0) × (0 < length piece.now))) }

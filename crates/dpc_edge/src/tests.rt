@@ -1,9 +1,9 @@
 //! What no clause says: that the calls succeed, and the pieces as a person counts them.
+use crate::counted::Counted;
 use crate::gate::{Gate, OpenGate};
 use crate::memory::{MemSink, MemSource};
 use crate::sink::Sink;
 use crate::source::Source;
-use crate::standard::{StdSink, StdSource};
 use std::test::Fail;
 
 #[test]
@@ -31,11 +31,11 @@ fn memory_moves_pieces_and_fails_listed_calls(rt: HostRuntime) -> Result<(), Fai
 #[test]
 fn standard_streams_move_bytes(rt: HostRuntime) {
     let mut buffer = [0u8; 4];
-    let mut input = StdSource::new(rt.stdin());
+    let mut input = Counted::new(rt.stdin());
     assert!(rt; input.read(&mut buffer).is_ok());
-    let mut output = StdSink::output(rt.stdout());
+    let mut output = Counted::new(rt.stdout());
     assert_eq!(rt; output.write(b"to standard output\n").ok(), Some(19));
-    let mut error = StdSink::error(rt.stderr());
+    let mut error = Counted::new(rt.stderr());
     assert_eq!(rt; error.write(b"to standard error\n").ok(), Some(18));
     OpenGate.at_mill(0);
     OpenGate.at_event(0);

@@ -16,7 +16,8 @@ use Rattle.dpc_model.specs.declared.plans.Plan.{Plan}
 use Rattle.dpc_model.specs.declared.plans.StreamRef.{StreamRef}
 use Rattle.dpc_model.specs.declared.plans.StreamRef.TheVariants.{Source}
 use Rattle.node_model.specs.Mails.{Packet, Plain, SnapFor, Stepped}
-use Rattle.node_model.specs.Nodes.{Home, PlainNode, streams_of, reader_at, new_node, restarted_node}
+use Rattle.dpc_model.specs.Reading.{stable_reader}
+use Rattle.node_model.specs.Nodes.{Home, PlainNode, streams_of, new_node, restarted_node}
 use Rattle.node_model.specs.NodeSteps.{packet_step, mill_step, tick_step}
 use Rattle.node_model.specs.Clients.{ClientState, client_stream, new_client, with_taken, client_after_batch, client_message, client_packet, client_marks_ended, client_after_packet, client_tick_step}
 use Rattle.world_model.specs.Worlds.{World, Envelope, Slot, home_of, node_place, slot_of, client_at, from, node_stepped, client_stepped, restart_slot, happens, run_from, run, new_world}
@@ -112,7 +113,7 @@ module _ (w : World) (most x f q p : ℕ) (u : StreamRef) (fine : IsFine w most)
   restarted-port : (home : Home) (i : ℕ) (r : Port) → slice_get (restarted_node home i).ports p ≡ Some r → r.inlet.broken ≡ true
   unfolding restarted_node
   restarted-port home i r e =
-      let k = get-mapped (port_at home.plan (restarted_inlet (reader_at [] 0) (sess_of i 0))) (streams_of home) p r e in
+      let k = get-mapped (port_at home.plan (restarted_inlet (stable_reader [] 0) (sess_of i 0))) (streams_of home) p r e in
       sym (ap (λ (z : Port). z.inlet.broken) k.2)
 
   node-restart : (e : Event) (home : Home) (i : ℕ) (r : Port) → node_port p (restart_slot home i (slot_of w x)).node ≡ Some r → Came w e x p u r

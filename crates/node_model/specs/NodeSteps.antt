@@ -2,7 +2,7 @@
 use Rattle.std.specs.Prelude.{ℕ, ◌+◌, ◌-◌, ◌*◌, Bool, true, false, not, ◌&&◌, ◌||◌, ◌==◌, nat_lt, nat_le, min, if◌then◌else◌, List, [], ◌∷◌, ◌++◌, map, length, drop, filter, zip, Option, Some, None, is_none}
 use Rattle.dpc_model.specs.Lists.{nth, changed, is_nil, list_all, range_with_len, numbered, place_of}
 use Rattle.dpc_model.specs.Streams.{count_below}
-use Rattle.dpc_model.specs.Reading.{tuples_in}
+use Rattle.dpc_model.specs.Reading.{tuples_in, stable_reader}
 use Rattle.dpc_model.specs.Inlets.{same_sess, restarted_inlet, AfterBatch, take_batch}
 use Rattle.dpc_model.specs.declared.batches.Taken.{Taken}
 use Rattle.dpc_model.specs.declared.batches.Taken.TheVariants.{Used, Old, Broken}
@@ -24,7 +24,7 @@ use Rattle.dpc_model.specs.declared.plans.StreamRef.{StreamRef}
 use Rattle.dpc_model.specs.Sessions.{Sub, with_session_shut, link_of, Given, given_items, after_ack, base_after}
 use Rattle.node_model.specs.Mails.{Stepped, Snap, Packet, Plain, SnapFor, Mail, mail, mails, in_actor_order, to_each, to_sessions, to_subscriber}
 use Rattle.dpc_model.specs.NodeStates.{is_up_failure, is_stabilization}
-use Rattle.node_model.specs.Nodes.{Home, streams_of, own_readers, PlainNode, reader_at, inputs_done, view_cursor, out_stable, out_tentative, out_bound, out_passed, shown, bucket_of, complete_buckets, ready, due_at, wants_to_reconcile}
+use Rattle.node_model.specs.Nodes.{Home, streams_of, own_readers, PlainNode, inputs_done, view_cursor, out_stable, out_tentative, out_bound, out_passed, shown, bucket_of, complete_buckets, ready, due_at, wants_to_reconcile}
 
 abbrev pub silent_step : PlainNode → Stepped PlainNode
 silent_step n = record { after = n; sends = [] }
@@ -68,7 +68,7 @@ enter_step home n =
 
 -- the inputs of a port are lost; the number of its last session and what is known of its replicas stay
 abbrev pub emptied_port : List Tuple → ℕ → Port → Port
-emptied_port ts b p = record p { inlet = restarted_inlet (reader_at ts b) p.inlet.sess; ticks = 0 }
+emptied_port ts b p = record p { inlet = restarted_inlet (stable_reader ts b) p.inlet.sess; ticks = 0 }
 
 -- the node loses what it holds, and is recovering
 unfoldable pub after_loss : Home → PlainNode → PlainNode

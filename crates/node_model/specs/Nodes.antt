@@ -4,7 +4,7 @@ use Rattle.dpc_model.specs.Lists.{nth, least, is_nil}
 use Rattle.dpc_model.specs.Streams.{cut}
 use Rattle.dpc_model.specs.Operators.{between, all_of}
 use Rattle.dpc_model.specs.Fragments.{serial, fragment_value}
-use Rattle.dpc_model.specs.Reading.{Reader}
+use Rattle.dpc_model.specs.Reading.{Reader, stable_reader}
 use Rattle.dpc_model.specs.Inlets.{new_inlet, restarted_inlet, sess_of}
 use Rattle.dpc_model.specs.Due.{Stamps, DueView, is_complete, last_due, delay_of}
 use Rattle.dpc_model.specs.Replicas.{Watch, new_watch}
@@ -91,15 +91,11 @@ new_node home =
       tries = 0;
     }
 
--- a reader that holds these tuples, which are all below b
-abbrev pub reader_at : List Tuple → ℕ → Reader
-reader_at ts b = record { stable = ts; bound = b; tentative = []; soft = 0 }
-
 -- a node that was restarted with a new incarnation has nothing, and is recovering
 unfoldable pub restarted_node : Home → ℕ → PlainNode
 restarted_node home i =
     record {
-      ports = map (port_at home.plan (restarted_inlet (reader_at [] 0) (sess_of i 0))) (streams_of home);
+      ports = map (port_at home.plan (restarted_inlet (stable_reader [] 0) (sess_of i 0))) (streams_of home);
       stamps = [];
       cursor = 0;
       closed = [];

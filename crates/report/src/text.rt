@@ -1,5 +1,6 @@
 //! The text report.
-ghost use Rattle.std.specs.Prelude.{◌≡◌, ◌∷◌, [], ◌++◌, OnOk, codes, decimal, map};
+ghost use Rattle.std.specs.Prelude.{◌≡◌, ◌∷◌, [], ◌++◌, OnOk, OnErr, codes, decimal, map};
+ghost use Rattle.std.specs.Io.{StartsWith};
 ghost use Rattle.std.specs.Fmt.{signed_decimal};
 ghost use Rattle.dpc_model.specs.Words.{spaced, line_of, text_of};
 ghost use Rattle.report.specs.Spaces.{behind_spaces};
@@ -20,8 +21,10 @@ pub struct Summary {
 }
 
 /// A word behind a space.
+#[tactic(auto, using(crate::proofs::Kept::kept_same, crate::proofs::Kept::kept_behind))]
 fn put_word(text: &mut Vec<u8>, word: &[u8]) -> Result<(), NoMemory>
-    ensures { OnOk result (text.new.items ≡ text.old.items ++ behind_spaces (word.now ∷ [])) }
+    ensures put { OnOk result (text.new.items ≡ text.old.items ++ behind_spaces (word.now ∷ [])) }
+    ensures kept { OnErr result (StartsWith text.new.items text.old.items) }
 {
     text.push(b' ')?;
     text.extend_from_slice(word)?;
@@ -30,15 +33,18 @@ fn put_word(text: &mut Vec<u8>, word: &[u8]) -> Result<(), NoMemory>
 
 /// A number behind a space.
 fn put_number(text: &mut Vec<u8>, number: u64) -> Result<(), NoMemory>
-    ensures { OnOk result (text.new.items ≡ text.old.items ++ behind_spaces (decimal number ∷ [])) }
+    ensures put { OnOk result (text.new.items ≡ text.old.items ++ behind_spaces (decimal number ∷ [])) }
+    ensures kept { OnErr result (StartsWith text.new.items text.old.items) }
 {
     let mut buffer = Buffer::new();
     put_word(text, buffer.format(number).as_bytes())
 }
 
 /// The values, each behind a space.
+#[tactic(auto, using(crate::proofs::Kept::kept_then))]
 fn put_values(text: &mut Vec<u8>, values: &[i64]) -> Result<(), NoMemory>
-    ensures { OnOk result (text.new.items ≡ text.old.items ++ behind_spaces (map signed_decimal values.now)) }
+    ensures put { OnOk result (text.new.items ≡ text.old.items ++ behind_spaces (map signed_decimal values.now)) }
+    ensures kept { OnErr result (StartsWith text.new.items text.old.items) }
 {
     for value in values {
         let mut buffer = Buffer::new();
@@ -48,24 +54,30 @@ fn put_values(text: &mut Vec<u8>, values: &[i64]) -> Result<(), NoMemory>
 }
 
 /// The time and the values of a tuple, each behind a space.
+#[tactic(auto, using(crate::proofs::Kept::kept_last))]
 fn put_tuple(text: &mut Vec<u8>, tuple: &Tuple) -> Result<(), NoMemory>
-    ensures { OnOk result (text.new.items ≡ text.old.items ++ behind_spaces (tuple_words tuple.now)) }
+    ensures put { OnOk result (text.new.items ≡ text.old.items ++ behind_spaces (tuple_words tuple.now)) }
+    ensures kept { OnErr result (StartsWith text.new.items text.old.items) }
 {
     put_number(text, tuple.stime)?;
     put_values(text, tuple.vals.as_slice())
 }
 
 /// The first word of a line.
+#[tactic(auto, using(crate::proofs::Kept::kept_same))]
 fn put_first(text: &mut Vec<u8>, word: &[u8]) -> Result<(), NoMemory>
-    ensures { OnOk result (text.new.items ≡ text.old.items ++ word.now) }
+    ensures put { OnOk result (text.new.items ≡ text.old.items ++ word.now) }
+    ensures kept { OnErr result (StartsWith text.new.items text.old.items) }
 {
     text.extend_from_slice(word)?;
     Ok(())
 }
 
 /// The words of an item.
+#[tactic(auto, using(crate::proofs::Kept::kept_then, crate::proofs::Kept::kept_last))]
 fn put_item(text: &mut Vec<u8>, item: &Item) -> Result<(), NoMemory>
-    ensures { OnOk result (text.new.items ≡ text.old.items ++ spaced (item_words item.now)) }
+    ensures put { OnOk result (text.new.items ≡ text.old.items ++ spaced (item_words item.now)) }
+    ensures kept { OnErr result (StartsWith text.new.items text.old.items) }
 {
     match item {
         Item::Stable(number, tuple) => {
@@ -95,8 +107,10 @@ fn put_item(text: &mut Vec<u8>, item: &Item) -> Result<(), NoMemory>
 }
 
 /// One line for each item.
+#[tactic(auto, using(crate::proofs::Kept::kept_behind, crate::proofs::Kept::kept_then))]
 fn put_items(text: &mut Vec<u8>, items: &[Item]) -> Result<(), NoMemory>
-    ensures { OnOk result (text.new.items ≡ text.old.items ++ text_of (map item_words items.now)) }
+    ensures put { OnOk result (text.new.items ≡ text.old.items ++ text_of (map item_words items.now)) }
+    ensures kept { OnErr result (StartsWith text.new.items text.old.items) }
 {
     for item in items {
         put_item(text, item)?;
@@ -106,8 +120,10 @@ fn put_items(text: &mut Vec<u8>, items: &[Item]) -> Result<(), NoMemory>
 }
 
 /// The line of a client's name.
+#[tactic(auto, using(crate::proofs::Kept::kept_behind, crate::proofs::Kept::kept_then))]
 fn put_name(text: &mut Vec<u8>, name: &[u8]) -> Result<(), NoMemory>
-    ensures { OnOk result (text.new.items ≡ text.old.items ++ line_of (codes "client" ∷ name.now ∷ [])) }
+    ensures put { OnOk result (text.new.items ≡ text.old.items ++ line_of (codes "client" ∷ name.now ∷ [])) }
+    ensures kept { OnErr result (StartsWith text.new.items text.old.items) }
 {
     put_first(text, b"client")?;
     put_word(text, name)?;
@@ -116,8 +132,10 @@ fn put_name(text: &mut Vec<u8>, name: &[u8]) -> Result<(), NoMemory>
 }
 
 /// A word and a number, each behind a space.
+#[tactic(auto, using(crate::proofs::Kept::kept_last))]
 fn put_count(text: &mut Vec<u8>, word: &[u8], number: u64) -> Result<(), NoMemory>
-    ensures { OnOk result (text.new.items ≡ text.old.items ++ behind_spaces (word.now ∷ decimal number ∷ [])) }
+    ensures put { OnOk result (text.new.items ≡ text.old.items ++ behind_spaces (word.now ∷ decimal number ∷ [])) }
+    ensures kept { OnErr result (StartsWith text.new.items text.old.items) }
 {
     put_word(text, word)?;
     put_number(text, number)
@@ -125,7 +143,8 @@ fn put_count(text: &mut Vec<u8>, word: &[u8], number: u64) -> Result<(), NoMemor
 
 /// Whether a client is settled, as a word behind a space.
 fn put_settled(text: &mut Vec<u8>, settled: bool) -> Result<(), NoMemory>
-    ensures { OnOk result (text.new.items ≡ text.old.items ++ behind_spaces (settled_word settled ∷ [])) }
+    ensures put { OnOk result (text.new.items ≡ text.old.items ++ behind_spaces (settled_word settled ∷ [])) }
+    ensures kept { OnErr result (StartsWith text.new.items text.old.items) }
 {
     if settled {
         put_word(text, b"settled")
@@ -134,9 +153,11 @@ fn put_settled(text: &mut Vec<u8>, settled: bool) -> Result<(), NoMemory>
     }
 }
 
-/// The summary line of a client.
+/// The summary line of a client. Where memory ends, the old text stands.
+#[tactic(auto, using(crate::proofs::Kept::kept_behind, crate::proofs::Kept::kept_then))]
 pub fn put_summary(text: &mut Vec<u8>, name: &[u8], summary: &Summary) -> Result<(), NoMemory>
-    ensures { OnOk result (text.new.items ≡ text.old.items ++ line_of (summary_words name.now summary.now)) }
+    ensures put { OnOk result (text.new.items ≡ text.old.items ++ line_of (summary_words name.now summary.now)) }
+    ensures kept { OnErr result (StartsWith text.new.items text.old.items) }
 {
     put_first(text, b"summary")?;
     put_word(text, name)?;
@@ -149,14 +170,16 @@ pub fn put_summary(text: &mut Vec<u8>, name: &[u8], summary: &Summary) -> Result
 }
 
 /// Appends the lines of one client: its name, one line for each item that it took, and its summary.
-/// Where memory ends, what stands behind the old text is left open.
+/// Where memory ends, the old text stands, and what stands behind it is left open.
+#[tactic(auto, using(crate::proofs::Kept::kept_then, crate::proofs::Kept::kept_last))]
 pub fn put_client(
     text: &mut Vec<u8>,
     name: &[u8],
     items: &[Item],
     summary: &Summary,
 ) -> Result<(), NoMemory>
-    ensures { OnOk result (text.new.items ≡ text.old.items ++ text_of (client_lines name.now items.now summary.now)) }
+    ensures put { OnOk result (text.new.items ≡ text.old.items ++ text_of (client_lines name.now items.now summary.now)) }
+    ensures kept { OnErr result (StartsWith text.new.items text.old.items) }
 {
     put_name(text, name)?;
     put_items(text, items)?;

@@ -11,7 +11,8 @@ use Rattle.dpc_model.specs.declared.tuples.Tuple.{Tuple}
 use Rattle.dpc_model.specs.declared.plans.Plan.{Plan}
 use Rattle.dpc_model.specs.declared.plans.StreamRef.{StreamRef}
 use Rattle.dpc_model.specs.NodeStates.{is_stabilization}
-use Rattle.node_model.specs.Nodes.{Home, PlainNode, spec_of, streams_of, own_readers, reader_at}
+use Rattle.dpc_model.specs.Reading.{stable_reader}
+use Rattle.node_model.specs.Nodes.{Home, PlainNode, spec_of, streams_of, own_readers}
 use Rattle.node_model.specs.NodeSteps.{emptied_port, after_loss}
 use Rattle.world_model.specs.Safe.{HoldsOf, EachHolds}
 use Rattle.world_model.specs.Orderly.{is_port_sound, are_ports_sound, recovers_empty, has_shape}
@@ -124,7 +125,7 @@ pub none-below : (ts : List Tuple) → list_all (is_below 0) ts ≡ true → ts 
 none-below [] h = refl
 none-below (t ∷ ts) h = let p = both (is_below 0 t) (list_all (is_below 0) ts) h in absurd (let less = lt-of t.stime 0 p.0 in omega (arith, less))
 
-pub empty-holds : (plan : Plan) (s : StreamRef) → IsChecked plan → HoldsOf plan s (reader_at [] 0)
+pub empty-holds : (plan : Plan) (s : StreamRef) → IsChecked plan → HoldsOf plan s (stable_reader [] 0)
 empty-holds plan s checked =
     record {
       stable = (ideal plan s, refl);

@@ -5,7 +5,7 @@ use Rattle.std.proofs.lemmas.List.{length-map}
 use Rattle.std.proofs.Math.Nat.{le-div_iff_mul-le}
 use Rattle.dpc_model.specs.Lists.{list_all, least}
 use Rattle.dpc_model.specs.Fragments.{ideal, ideal_upto}
-use Rattle.dpc_model.specs.Reading.{Reader}
+use Rattle.dpc_model.specs.Reading.{Reader, stable_reader}
 use Rattle.dpc_model.specs.Granting.{Key}
 use Rattle.dpc_model.specs.Inlets.{InletState, new_inlet, restarted_inlet, sess_of}
 use Rattle.dpc_model.specs.Replicas.{new_watch}
@@ -17,7 +17,7 @@ use Rattle.dpc_model.specs.declared.plans.StreamRef.{StreamRef}
 use Rattle.dpc_model.proofs.IdealCausality.{cut-ideal}
 use Rattle.dpc_model.proofs.Prefixes.{cut-beginning}
 use Rattle.node_model.specs.Mails.{Snap}
-use Rattle.node_model.specs.Nodes.{Home, PlainNode, spec_of, streams_of, own_readers, held_by, reader_at, out_stable, new_node, restarted_node, first_session}
+use Rattle.node_model.specs.Nodes.{Home, PlainNode, spec_of, streams_of, own_readers, held_by, out_stable, new_node, restarted_node, first_session}
 use Rattle.node_model.specs.NodeSteps.{emptied_port, adopted_ports, after_adoption, with_fresh_start, snapshot}
 use Rattle.world_model.specs.Safe.{HoldsOf, EachHolds, EachReaches, IsSafeNode, IsTrueSnap}
 use Rattle.world_model.specs.Orderly.{is_port_sound, are_ports_sound}
@@ -74,7 +74,7 @@ fresh-good home most n place down g =
 
 -- ---- a snapshot
 
-ideal-holds : (plan : Plan) (s : StreamRef) (b : ℕ) → IsChecked plan → b ≤ plan.end → HoldsOf plan s (reader_at (ideal_upto plan s b) b)
+ideal-holds : (plan : Plan) (s : StreamRef) (b : ℕ) → IsChecked plan → b ≤ plan.end → HoldsOf plan s (stable_reader (ideal_upto plan s b) b)
 ideal-holds plan s b checked within =
     record {
       stable = rw (← cut-ideal plan s b checked.sound.ops within) (cut-beginning b (ideal plan s) (ideal-InOrder plan s checked.sound));
@@ -146,11 +146,11 @@ snapshot-true home n place up safe =
 -- ---- the opening, and a restart
 
 -- ports of an inlet that holds nothing
-new-holds : (plan : Plan) (inlet : InletState) → IsChecked plan → inlet.held ≡ reader_at [] 0 → (ss : List StreamRef) → EachHolds plan ss (map held_at (map (port_at plan inlet) ss))
+new-holds : (plan : Plan) (inlet : InletState) → IsChecked plan → inlet.held ≡ stable_reader [] 0 → (ss : List StreamRef) → EachHolds plan ss (map held_at (map (port_at plan inlet) ss))
 new-holds plan inlet checked none [] = tt
 new-holds plan inlet checked none (s ∷ ss) = (rw none (empty-holds plan s checked), new-holds plan inlet checked none ss)
 
-pub new-sound : (plan : Plan) (i most : ℕ) (inlet : InletState) → inlet.held ≡ reader_at [] 0 → inlet.sess.inc ≡ i → inlet.sess.number ≤ most → (ss : List StreamRef) → list_all (has_senders plan) ss ≡ true →
+pub new-sound : (plan : Plan) (i most : ℕ) (inlet : InletState) → inlet.held ≡ stable_reader [] 0 → inlet.sess.inc ≡ i → inlet.sess.number ≤ most → (ss : List StreamRef) → list_all (has_senders plan) ss ≡ true →
     are_ports_sound plan i most ss (map (port_at plan inlet) ss) ≡ true
 new-sound plan i most inlet none inc number [] sent = refl
 new-sound plan i most inlet none inc number (s ∷ ss) sent =
@@ -167,8 +167,8 @@ new-sound plan i most inlet none inc number (s ∷ ss) sent =
       fits = rw none refl;
     })) (new-sound plan i most inlet none inc number ss p.1)
 
-empty-ports : (plan : Plan) (i : ℕ) (ss : List StreamRef) → list_all is_empty_port (map (port_at plan (restarted_inlet (reader_at [] 0) (sess_of i 0))) ss) ≡ true
-empty-ports plan i ss = all-map is_empty_port (port_at plan (restarted_inlet (reader_at [] 0) (sess_of i 0))) ss (λ s. refl)
+empty-ports : (plan : Plan) (i : ℕ) (ss : List StreamRef) → list_all is_empty_port (map (port_at plan (restarted_inlet (stable_reader [] 0) (sess_of i 0))) ss) ≡ true
+empty-ports plan i ss = all-map is_empty_port (port_at plan (restarted_inlet (stable_reader [] 0) (sess_of i 0))) ss (λ s. refl)
 
 length-replicate : {X : Type 0} (n : ℕ) (x : X) → length (replicate n x) ≡ n
 length-replicate zero x = refl
@@ -178,7 +178,7 @@ pub restarted-good : (home : Home) (most i : ℕ) → IsPlace home → IsGood ho
 unfolding restarted_node
 restarted-good home most i place =
     let m = restarted_node home i in
-    let inlet = restarted_inlet (reader_at [] 0) (sess_of i 0) in
+    let inlet = restarted_inlet (stable_reader [] 0) (sess_of i 0) in
     record {
       safe = record { inputs = new-holds home.plan inlet place.checked refl (streams_of home); output = λ e. cc };
       orderly = record {

@@ -1,5 +1,5 @@
 use Rattle.std.proofs.Common.{◌≡◌, ◌≤◌, ◌-◌, ◌+◌, vec_len}
-use Rattle.std.specs.Io.KnownBytes.{Consumes}
+use Rattle.dpc_edge.specs.Edges.{Gave}
 use Rattle.borealis_top.specs.declared.transfer.TheConstants.{MOST_INPUT, PIECE}
 use Rattle.borealis_top.proofs.transfer.read_whole.Given as goal
 
@@ -7,10 +7,9 @@ abbrev pub invariant-loop-bytes : goal.invariant-loop-bytes
 invariant-loop-bytes g l =
     let source = g.S.Source in
     record {
-      moved : Consumes (source.left l.fn.input) (source.left l.input) l.bytes.items;
+      gave : Gave (source.edge l.fn.input) (source.edge l.input) l.bytes.items;
       short : vec_len l.bytes ≤ MOST_INPUT + 1;
       room : vec_len l.room ≡ PIECE;
-      faults : source.faults l.input ≡ source.faults l.fn.input;
     }
 
 abbrev pub decreases-loop-bytes : goal.decreases-loop-bytes

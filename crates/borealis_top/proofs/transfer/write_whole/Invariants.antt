@@ -1,5 +1,5 @@
-use Rattle.std.proofs.Common.{◌≡◌, ◌≤◌, ◌-◌, take, length}
-use Rattle.std.specs.Io.KnownBytes.{Appends}
+use Rattle.std.proofs.Common.{◌≤◌, ◌-◌, take, length}
+use Rattle.dpc_edge.specs.Edges.{Took}
 use Rattle.borealis_top.proofs.transfer.write_whole.Given as goal
 
 abbrev pub invariant-loop-done : goal.invariant-loop-done
@@ -7,8 +7,7 @@ invariant-loop-done g l =
     let sink = g.K.Sink in
     record {
       within : l.done ≤ length l.text;
-      moved : Appends (sink.taken l.fn.out) (sink.taken l.out) (take l.done l.text);
-      faults : sink.faults l.out ≡ sink.faults l.fn.out;
+      took : Took (sink.edge l.fn.out) (sink.edge l.out) (take l.done l.text);
     }
 
 abbrev pub decreases-loop-done : goal.decreases-loop-done

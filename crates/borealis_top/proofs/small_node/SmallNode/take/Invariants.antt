@@ -1,5 +1,0 @@
-use Rattle.borealis_top.proofs.SmallTaking.{Took}
-use Rattle.borealis_top.proofs.small_node.SmallNode.take.Given as goal
-
-abbrev pub invariant-loop-tuple : goal.invariant-loop-tuple
-invariant-loop-tuple l = Took l.fn.self l.self l.yielded l.fn.self.bound

@@ -1,0 +1,33 @@
+-- How the program ends: each side by the words, and the exit status.
+use Rattle.std.specs.Prelude.{◌≡◌, ℕ, ◌⊎◌, List, Option, None, Some}
+use Rattle.dpc_edge.specs.Edges.{Edge}
+use Rattle.borealis_top.specs.declared.command.Command.{Command}
+use Rattle.borealis_top.specs.declared.command.Command.TheVariants.{Run, Help, Version}
+use Rattle.borealis_top.specs.declared.status.Status.{Status}
+use Rattle.borealis_top.specs.declared.status.Status.TheVariants.{Done, Words, NoMemory}
+use Rattle.borealis_top.specs.Codes.{code_of}
+use Rattle.borealis_top.specs.Commands.{command_of}
+use Rattle.borealis_top.specs.Texts.{help_text, version_text, unknown_words_line}
+use Rattle.borealis_top.specs.Ends.{IsTold, RunEnds, RunIsWhole}
+
+-- how a command ends, or words that are none
+abbrev pub CommandEnds : Option Command → Edge → Edge → Edge → Edge → Edge → Edge → Status → Type 0
+CommandEnds None input input_new out out_new err err_new result =
+    IsTold err err_new unknown_words_line Words result × (out_new ≡ out) × (input_new ≡ input)
+CommandEnds (Some Help) input input_new out out_new err err_new result =
+    IsTold out out_new help_text Done result × (err_new ≡ err) × (input_new ≡ input)
+CommandEnds (Some Version) input input_new out out_new err err_new result =
+    IsTold out out_new version_text Done result × (err_new ≡ err) × (input_new ≡ input)
+CommandEnds (Some Run) input input_new out out_new err err_new result =
+    RunEnds input input_new out out_new err err_new result × RunIsWhole input input_new out out_new result
+
+-- nothing was touched, for want of memory
+abbrev pub IsUntouched : Edge → Edge → Edge → Edge → Edge → Edge → Status → Type 0
+IsUntouched input input_new out out_new err err_new result = (result ≡ NoMemory) × (input_new ≡ input) × (out_new ≡ out) × (err_new ≡ err)
+
+-- the program does what some words say, or lacks the memory for them, and its exit status tells how that ended
+pub record ProgramEnds (input input_new out out_new err err_new : Edge) (exit : ℕ) : Type 0 where
+  pub words : List (List ℕ)
+  pub status : Status
+  pub code : exit ≡ code_of status
+  pub ends : CommandEnds (command_of words) input input_new out out_new err err_new status ⊎ IsUntouched input input_new out out_new err err_new status

@@ -1,0 +1,12 @@
+pub mod SmallPlans
+pub mod SmallSteps
+pub mod SmallSafety
+pub mod SmallBatches
+pub mod SmallMilling
+pub mod SmallStamps
+pub mod SmallTaking
+pub mod SmallTicks
+pub mod SmallFrames
+pub mod SmallReports
+pub mod SmallRunning
+pub mod SmallRounds

@@ -1,0 +1,168 @@
+-- What a reader that holds stable tuples alone makes of a batch, and batches as items.
+use Rattle.std.proofs.Common.{◌≡◌, ℕ, zero, suc, ◌+◌, ◌-◌, ◌≤◌, ◌<◌, Bool, false, cond, List, [], ◌∷◌, ◌++◌, length, drop, get_or, refl, ap, arith, nat_lt, max, Some, None, inl, inr}
+use Rattle.std.proofs.lemmas.Grind.{common_steps}
+use Rattle.std.proofs.lemmas.Bool.{cases_lt, lt-ltb, le-ltb, le-leb, lt-leb, eq-eqb, ne_eqb}
+use Rattle.std.proofs.lemmas.List.{append-nil, append_assoc, length_push, drop_all}
+use Rattle.std.proofs.Math.Nat.{sub_self}
+use Rattle.dpc_model.specs.Lists.{is_nil}
+use Rattle.dpc_model.specs.Streams.{NoneBelow, time_of, InOrder, cut, count_below}
+use Rattle.dpc_model.specs.Reading.{fold_items, tuples_in, stable_reader}
+use Rattle.dpc_model.specs.Sessions.{given_items, stable_items, boundary_item}
+use Rattle.dpc_model.specs.declared.tuples.Tuple.{Tuple}
+use Rattle.dpc_model.specs.declared.tuples.Item.{Item}
+use Rattle.dpc_model.specs.declared.tuples.Item.TheVariants.{Stable, Tentative, Passed, Boundary, Undo, RecDone}
+use Rattle.small_run.specs.SmallWorlds.{SmallWorld, sends}
+use Rattle.small_run.specs.SmallSides.{batch_items}
+
+-- ---- what a reader makes of a batch
+
+-- a boundary moves the reader's bound up, where no tuple below it is missing
+fold_boundary : (held : List Tuple) (bound m upto : ℕ) → m ≤ length held →
+    fold_items (stable_reader held bound) (Boundary upto m ∷ [])
+    ≡ Some (record { after = stable_reader held (max bound upto); taken = boundary_item (cond (nat_lt bound upto) (Some (upto, m)) None) })
+fold_boundary held bound m upto h =
+    elim (cases_lt bound upto) [
+      | inl less ↦
+          let top : max bound upto ≡ upto = omega (arith, less) in
+          rw (top, le-leb m (length held) h, lt-ltb bound upto less, fold_items) refl
+      | inr most ↦
+          let top : max bound upto ≡ bound = omega (arith, most) in
+          rw (top, le-leb m (length held) h, le-ltb bound upto most, fold_items) refl
+    ]
+
+-- tuples that follow at once on those held are all taken
+fold_next : (held : List Tuple) (bound first : ℕ) (tuples : List Tuple) (upto : ℕ) → first ≡ length held →
+    fold_items (stable_reader held bound) (batch_items first tuples upto)
+    ≡ Some (record {
+      after = stable_reader (held ++ tuples) (max bound upto);
+      taken = stable_items first tuples ++ boundary_item (cond (nat_lt bound upto) (Some (upto, first + length tuples)) None);
+    })
+fold_next held bound first [] upto e = rw (append-nil held) (fold_boundary held bound (first + 0) upto (omega arith))
+fold_next held bound first (t ∷ ts) upto e =
+    let more = fold_next (held ++ t ∷ []) bound (first + 1) ts upto (omega (arith, length_push held t)) in
+    let count : first + 1 + length ts ≡ first + length (t ∷ ts) = omega arith in
+    rw (le-ltb first (length held) (omega arith), eq-eqb first (length held) e, fold_items)
+    (rw (rw (count, append_assoc held (t ∷ []) ts) at more) refl)
+
+-- a batch is taken from the first tuple on that the reader doesn't hold
+pub fold_batch : (held : List Tuple) (bound first : ℕ) (tuples : List Tuple) (upto : ℕ) → first ≤ length held →
+    fold_items (stable_reader held bound) (batch_items first tuples upto)
+    ≡ Some (record {
+      after = stable_reader (held ++ drop (length held - first) tuples) (max bound upto);
+      taken = stable_items (length held) (drop (length held - first) tuples) ++ boundary_item (cond (nat_lt bound upto) (Some (upto, first + length tuples)) None);
+    })
+fold_batch held bound first [] upto h =
+    rw (drop_all {X = Tuple} (length held - first) [] (omega arith), append-nil held) (fold_boundary held bound (first + 0) upto (omega arith))
+fold_batch held bound first (t ∷ ts) upto h =
+    elim (cases_lt first (length held)) [
+      | inl less ↦
+          let more = fold_batch held bound (first + 1) ts upto (omega (arith, less)) in
+          let count : first + 1 + length ts ≡ first + length (t ∷ ts) = omega arith in
+          let past : length held - first ≡ suc (length held - (first + 1)) = omega (arith, less) in
+          rw past (rw (lt-ltb first (length held) less, fold_items) (rw count at more))
+      | inr most ↦
+          let same : first ≡ length held = omega (arith, most, h) in
+          rw same (rw (sub_self (length held)) (fold_next held bound (length held) (t ∷ ts) upto refl))
+    ]
+
+-- a batch behind tuples that the reader doesn't hold has no reading
+pub fold_batch-missing : (held : List Tuple) (bound first : ℕ) (tuples : List Tuple) (upto : ℕ) → length held < first →
+    fold_items (stable_reader held bound) (batch_items first tuples upto) ≡ None
+fold_batch-missing held bound first [] upto h = rw (lt-leb (first + 0) (length held) (omega arith), fold_items) refl
+fold_batch-missing held bound first (t ∷ ts) upto h =
+    rw (le-ltb first (length held) (omega arith), ne_eqb first (length held) (λ e. absurd (omega arith)), fold_items) refl
+
+-- ---- the tuples in a list of items
+
+pub tuples_in-append : (xs ys : List Item) → tuples_in (xs ++ ys) ≡ tuples_in xs ++ tuples_in ys
+tuples_in-append [] ys = refl
+tuples_in-append (Stable k t ∷ xs) ys = ap (λ (ts : List Tuple). t ∷ ts) (tuples_in-append xs ys)
+tuples_in-append (Tentative t ∷ xs) ys = ap (λ (ts : List Tuple). t ∷ ts) (tuples_in-append xs ys)
+tuples_in-append (Passed b ∷ xs) ys = tuples_in-append xs ys
+tuples_in-append (Boundary b m ∷ xs) ys = tuples_in-append xs ys
+tuples_in-append (Undo n ∷ xs) ys = tuples_in-append xs ys
+tuples_in-append (RecDone ∷ xs) ys = tuples_in-append xs ys
+
+pub tuples_in-stable : (k : ℕ) (ts : List Tuple) → tuples_in (stable_items k ts) ≡ ts
+tuples_in-stable k [] = refl
+tuples_in-stable k (t ∷ ts) = ap (λ (us : List Tuple). t ∷ us) (tuples_in-stable (k + 1) ts)
+
+-- they are no more than the items
+pub length-tuples_in : (xs : List Item) → length (tuples_in xs) ≤ length xs
+length-tuples_in [] = omega arith
+length-tuples_in (Stable k t ∷ xs) = omega (arith, length-tuples_in xs)
+length-tuples_in (Tentative t ∷ xs) = omega (arith, length-tuples_in xs)
+length-tuples_in (Passed b ∷ xs) = omega (arith, length-tuples_in xs)
+length-tuples_in (Boundary b m ∷ xs) = omega (arith, length-tuples_in xs)
+length-tuples_in (Undo n ∷ xs) = omega (arith, length-tuples_in xs)
+length-tuples_in (RecDone ∷ xs) = omega (arith, length-tuples_in xs)
+
+-- one more tuple at the end
+pub stable_items-push : (k : ℕ) (ts : List Tuple) (t : Tuple) → stable_items k (ts ++ t ∷ []) ≡ stable_items k ts ++ Stable (k + length ts) t ∷ []
+stable_items-push k [] t = let e : k + 0 ≡ k = omega arith in rw e refl
+stable_items-push k (u ∷ us) t =
+    let e : k + 1 + length us ≡ k + length (u ∷ us) = omega arith in
+    ap (λ (is : List Item). Stable k u ∷ is) (rw e at (stable_items-push (k + 1) us t))
+
+-- ---- batches as what is given
+
+-- new tuples and a boundary behind them are a batch
+pub given-batch : (count : ℕ) (tuples : List Tuple) (bound number : ℕ) → number ≡ count + length tuples →
+    given_items count (record { stable = tuples; bound = Some (bound, number); tentative = []; passed = None; done = false }) ≡ batch_items count tuples bound
+given-batch count tuples bound number e = rw e (simp append-nil)
+
+-- a batch has items
+is_nil-batch : (first : ℕ) (tuples : List Tuple) (bound : ℕ) → is_nil (batch_items first tuples bound) ≡ false
+is_nil-batch first [] bound = refl
+is_nil-batch first (t ∷ ts) bound = refl
+
+-- so it is sent
+pub sends-batch : (to_client : Bool) (first : ℕ) (tuples : List Tuple) (bound : ℕ) (w : SmallWorld) →
+    sends to_client (batch_items first tuples bound) w
+    ≡ record w { sent = w.sent ++ record { to_client = to_client; items = batch_items first tuples bound } ∷ [] }
+sends-batch to_client first tuples bound w = rw (is_nil-batch first tuples bound) refl
+
+-- ---- how many tuples in order lie below a time
+
+-- where no tuple lies below a number, none is cut at a time up to it
+cut-none : (n b : ℕ) (ts : List Tuple) → b ≤ n → NoneBelow time_of n ts → cut ts b ≡ []
+cut-none n b [] h s = refl
+cut-none n b (t ∷ ts) h s = rw (le-ltb t.stime b (omega (arith, h, s.0))) (cut-none n b ts h s.1)
+
+-- such tuples read by number
+NoneBelow-get : (n i : ℕ) (ts : List Tuple) (d : Tuple) → NoneBelow time_of n ts → i < length ts → n ≤ (get_or ts i d).stime
+NoneBelow-get n i [] d s h = absurd (omega arith)
+NoneBelow-get n zero (t ∷ ts) d s h = s.0
+NoneBelow-get n (suc i) (t ∷ ts) d s h = NoneBelow-get n i ts d s.1 (omega (arith, h))
+
+-- no more tuples than there are
+pub count_below-length : (ts : List Tuple) (b : ℕ) → count_below ts b ≤ length ts
+count_below-length [] b = omega arith
+count_below-length (t ∷ ts) b = grind (arith, common_steps, count_below-length ts b)
+
+-- nothing lies below 0
+pub count_below-zero : (ts : List Tuple) → count_below ts 0 ≡ 0
+count_below-zero [] = refl
+count_below-zero (t ∷ ts) = grind (arith, common_steps, count_below-zero ts)
+
+-- below a later time lie no fewer
+pub count_below-later : (ts : List Tuple) (b e : ℕ) → b ≤ e → count_below ts b ≤ count_below ts e
+count_below-later [] b e h = omega arith
+count_below-later (t ∷ ts) b e h = grind (arith, common_steps, count_below-later ts b e h)
+
+-- a tuple below the time is counted, with all those before it
+pub count_below-more : (ts : List Tuple) (i b : ℕ) (d : Tuple) → InOrder ts → i < length ts → (get_or ts i d).stime < b → i + 1 ≤ count_below ts b
+count_below-more [] i b d o h k = absurd (omega arith)
+count_below-more (t ∷ ts) zero b d o h k = rw (lt-ltb t.stime b k) (omega arith)
+count_below-more (t ∷ ts) (suc i) b d o h k =
+    let within : i < length ts = omega (arith, h) in
+    let first : t.stime < b = omega (arith, NoneBelow-get t.stime i ts d o.0 within, k) in
+    rw (lt-ltb t.stime b first) (omega (arith, count_below-more ts i b d o.1 within k))
+
+-- no tuple is counted from one on that isn't below the time
+pub count_below-end : (ts : List Tuple) (i b : ℕ) (d : Tuple) → InOrder ts → i < length ts → b ≤ (get_or ts i d).stime → count_below ts b ≤ i
+count_below-end [] i b d o h k = absurd (omega arith)
+count_below-end (t ∷ ts) zero b d o h k = rw (le-ltb t.stime b k, cut-none t.stime b ts k o.0) (omega arith)
+count_below-end (t ∷ ts) (suc i) b d o h k =
+    let rest = count_below-end ts i b d o.1 (omega (arith, h)) k in
+    grind (arith, common_steps, rest)
