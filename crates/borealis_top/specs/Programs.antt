@@ -31,3 +31,14 @@ pub record ProgramEnds (input input_new out out_new err err_new : Edge) (exit : 
   pub status : Status
   pub code : exit ≡ code_of status
   pub ends : CommandEnds (command_of words) input input_new out out_new err err_new status ⊎ IsUntouched input input_new out out_new err err_new status
+
+-- a standard stream: it tells no bytes, and so many of its calls failed
+abbrev pub stream : ℕ → Edge
+stream faults = record { bytes = None; faults = faults }
+
+-- the program ends so over standard streams, which had no fault before
+pub record StreamsEnd (exit : ℕ) : Type 0 where
+  pub input : ℕ
+  pub out : ℕ
+  pub err : ℕ
+  pub ends : ProgramEnds (stream 0) (stream input) (stream 0) (stream out) (stream 0) (stream err) exit

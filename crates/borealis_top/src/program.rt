@@ -1,6 +1,6 @@
 //! The program at its edge: the words that it is given, the standard streams, and the exit status.
 ghost use Rattle.std.specs.Process.{exit_status};
-ghost use Rattle.borealis_top.specs.Programs.{ProgramEnds};
+ghost use Rattle.borealis_top.specs.Programs.{ProgramEnds, StreamsEnd};
 
 use crate::plain::plain;
 use crate::status::Status;
@@ -19,7 +19,9 @@ pub fn over_streams<R: Env + AllocGlobal>(
     input: Stdin,
     out: Stdout,
     err: Stderr,
-) -> ExitCode {
+) -> ExitCode
+    ensures { StreamsEnd (exit_status result) }
+{
     let mut input = Counted::new(input);
     let mut out = Counted::new(out);
     let mut err = Counted::new(err);
