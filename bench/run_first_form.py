@@ -1,5 +1,8 @@
 #!/usr/bin/env python3
-"""Measures `borealis run` on large scripts of the first form: seconds, and the most memory held."""
+"""Measures `borealis run` on large scripts of the first form: seconds, and the most memory held.
+
+The program is the one that `./build` or the gate left.
+"""
 import os
 import resource
 import subprocess

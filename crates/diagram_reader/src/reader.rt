@@ -79,12 +79,12 @@ fn read_header(lines: &mut Lines<'_>) -> Result<Header, ScriptFault>
 fn values(alloc: Global, words: &mut Words<'_>, columns: u64) -> Result<Vals, ScriptFault>
     ensures { Gives (λ vals. vals) result (values_at columns (words_left words.old)) }
 {
-    let mut vals = Vec::new(alloc);
+    let mut vals = Vals::new(alloc);
     for _ in 0..columns {
         vals.push(words.value()?)?;
     }
     words.end()?;
-    Ok(Listed::from_vec(vals))
+    Ok(vals)
 }
 
 /// The source of a log: its name, its columns, and the end of the run.

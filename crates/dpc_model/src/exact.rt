@@ -1,8 +1,10 @@
 //! Copies and comparisons that are exact.
 ghost use Rattle.std.specs.Prelude.{◌≡◌, ◌↔◌, IfOk, IsTrue};
 
+use crate::inlined::Inlined;
 use crate::lists::Listed;
 use std::alloc::{AllocError, Global};
+use std::default::MadeWith;
 
 /// A value of which an equal one can be made, and which can be compared, as contracts see it.
 pub trait Exact: Sized + Drop {
@@ -115,6 +117,17 @@ impl<T: Exact> Exact for Listed<T> {
     }
 
     fn same(&self, other: &Listed<T>) -> bool {
+        are_same(self.as_slice(), other.as_slice())
+    }
+}
+
+impl<T: Exact + MadeWith<Global> + Copy, const N: usize> Exact for Inlined<T, N> {
+    #[inline]
+    fn copy(&self, alloc: Global) -> Result<Inlined<T, N>, AllocError> {
+        Inlined::from_slice(alloc, self.as_slice())
+    }
+
+    fn same(&self, other: &Inlined<T, N>) -> bool {
         are_same(self.as_slice(), other.as_slice())
     }
 }

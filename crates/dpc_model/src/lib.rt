@@ -6,6 +6,7 @@ pub mod engines;
 pub mod exact;
 pub mod expressions;
 pub mod faults;
+pub mod inlined;
 pub mod laws;
 pub mod lists;
 pub mod messages;

@@ -4,8 +4,9 @@ use crate::expressions::{BinOp, Expr, ExprNode};
 use crate::lists::{Listed, Name};
 use crate::operators::{Agg, OpKind, OpSpec, Wire};
 use crate::plans::{ClientSpec, FragSpec, Plan, SourceSpec, StreamRef};
-use crate::tuples::{Item, Items, Tagged, Tuple};
+use crate::tuples::{Item, Items, Tagged, Tuple, Vals};
 use std::alloc::{AllocError, Global};
+use std::cmp::Ordering;
 use std::test::Fail;
 
 fn leaf(node: ExprNode) -> Expr {
@@ -28,7 +29,7 @@ fn named(alloc: Global, name: &[u8]) -> Result<Name, AllocError> {
 }
 
 fn tuple(alloc: Global, stime: u64, value: i64) -> Result<Tuple, AllocError> {
-    let vals = Listed::from_vec(vec![in alloc; value, 1]?);
+    let vals = Vals::from_slice(alloc, &[value, 1])?;
     Ok(Tuple { stime, vals })
 }
 
@@ -108,5 +109,19 @@ fn copies_are_made_and_are_the_same(rt: HostRuntime) -> Result<(), Fail> {
         tuple: tuple(alloc, 1, 2)?,
     };
     assert!(rt; tagged.copy(alloc)?.same(&tagged));
+    Ok(())
+}
+
+#[test]
+fn values_in_memory_are_as_those_in_a_tuple(rt: HostRuntime) -> Result<(), Fail> {
+    let alloc = rt.alloc();
+    let few = Vals::from_slice(alloc, &[1, 2, 3, 4, 5])?;
+    let mut many = Vals::with_capacity(alloc, 6)?;
+    many.extend_from_slice(few.as_slice())?;
+    assert!(rt; many == few && many.same(&few));
+    many.push(-6)?;
+    assert_eq!(rt; many.len(), 6);
+    assert!(rt; many.copy(alloc)?.same(&many) && !many.same(&few));
+    assert!(rt; few < many && few.cmp(&many) == Ordering::Less);
     Ok(())
 }

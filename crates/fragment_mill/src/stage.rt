@@ -78,7 +78,7 @@ fn gather(
 ) -> Result<Vec<Tagged>, AllocError>
     ensures { IfOk result (λ xs. xs.items ≡ serial (map (read_wire inputs.now outputs.now) reads.now)) }
 {
-    let mut gathered = Vec::new(alloc);
+    let mut gathered = Vec::with_capacity(alloc, inputs.len())?;
     for (port, wire) in reads.iter().enumerate() {
         append_wire(alloc, &mut gathered, port as u64, inputs, outputs, *wire)?;
     }

@@ -13,7 +13,7 @@ use dpc_model::faults::NoMemory;
 use dpc_model::lists::Listed;
 use dpc_model::operators::{OpKind, OpSpec, Wire};
 use dpc_model::plans::{FragSpec, Plan};
-use dpc_model::tuples::{Tagged, Tuple, Tuples};
+use dpc_model::tuples::{Tagged, Tuple, Tuples, Vals};
 use std::alloc::{AllocError, Global};
 use std::test::Fail;
 
@@ -71,7 +71,7 @@ fn mill(alloc: Global) -> Result<FragMill, NoMemory>
 fn tuple(alloc: Global, row: (u64, i64)) -> Result<Tuple, AllocError>
     ensures { IfOk result (λ t. t.stime ≡ row.0) }
 {
-    let vals = Listed::from_vec(vec![in alloc; row.1]?);
+    let vals = Vals::from_slice(alloc, &[row.1])?;
     Ok(Tuple { stime: row.0, vals })
 }
 

@@ -8,7 +8,7 @@ use dpc_model::exact::Exact;
 use dpc_model::expressions::Expr;
 use dpc_model::faults::NoMemory;
 use dpc_model::lists::Listed;
-use dpc_model::tuples::{Tuple, Tuples};
+use dpc_model::tuples::{Tuple, Tuples, Vals};
 use ops_stateless::eval;
 use std::alloc::Global;
 
@@ -42,13 +42,13 @@ pub fn filter(alloc: Global, test: &Expr, tuples: &[Tuple]) -> Result<Tuples, No
 fn mapped_one(alloc: Global, exprs: &[Expr], tuple: &Tuple) -> Result<Tuple, NoMemory>
     ensures { IfOk result (λ out. out ≡ mapped_tuple exprs.now tuple.now) }
 {
-    let mut vals = Vec::with_capacity(alloc, exprs.len())?;
+    let mut vals = Vals::new(alloc);
     for expr in exprs {
         vals.push(eval(expr, tuple))?;
     }
     Ok(Tuple {
         stime: tuple.stime,
-        vals: Listed::from_vec(vals),
+        vals,
     })
 }
 
@@ -112,12 +112,11 @@ fn agree(keys: &[(u64, u64)], left: &Tuple, right: &Tuple) -> bool
 fn pair(alloc: Global, left: &Tuple, right: &Tuple) -> Result<Tuple, NoMemory>
     ensures { IfOk result (λ out. out ≡ paired left.now right.now) }
 {
-    let (left_vals, right_vals) = (left.vals.as_slice(), right.vals.as_slice());
-    let mut vals = Vec::from_slice(alloc, left_vals)?;
-    vals.extend_from_slice(right_vals)?;
+    let mut vals = left.vals.copy(alloc)?;
+    vals.extend_from_slice(right.vals.as_slice())?;
     Ok(Tuple {
         stime: left.stime.max(right.stime),
-        vals: Listed::from_vec(vals),
+        vals,
     })
 }
 

@@ -8,7 +8,7 @@ use dpc_model::exact::Exact;
 use dpc_model::faults::NoMemory;
 use dpc_model::lists::Listed;
 use dpc_model::operators::Agg;
-use dpc_model::tuples::{Tuple, Tuples};
+use dpc_model::tuples::{Tuple, Tuples, Vals};
 use std::alloc::Global;
 use std::collections::BTreeSet;
 
@@ -99,8 +99,8 @@ fn total(tuples: &[Tuple], agg: Agg) -> Result<i64, NoMemory>
 }
 
 /// Appends the totals of tuples, one for each aggregate.
-fn push_totals(vals: &mut Vec<i64>, tuples: &[Tuple], aggs: &[Agg]) -> Result<(), NoMemory>
-    ensures { OnOk result (vals.new.items ≡ vals.old.items ++ map (total_of tuples.now) aggs.now) }
+fn push_totals(vals: &mut Vals, tuples: &[Tuple], aggs: &[Agg]) -> Result<(), NoMemory>
+    ensures { OnOk result (vals.new ≡ vals.old ++ map (total_of tuples.now) aggs.now) }
 {
     for agg in aggs {
         vals.push(total(tuples, *agg)?)?;
@@ -148,9 +148,8 @@ fn push_rows(
     match group {
         None => {
             if !tuples.is_empty() {
-                let mut vals = Vec::new(alloc);
+                let mut vals = Vals::new(alloc);
                 push_totals(&mut vals, tuples, aggs)?;
-                let vals = Listed::from_vec(vals);
                 out.push(Tuple { stime, vals })?;
             }
         }
@@ -176,10 +175,9 @@ fn push_group(
     ensures { OnOk result (out.new.items ≡ out.old.items ++ group_row column aggs.now stime tuples.now value.now ∷ []) }
 {
     let members = members(alloc, tuples, column, *value)?;
-    let mut vals = Vec::with_capacity(alloc, 1)?;
+    let mut vals = Vals::new(alloc);
     vals.push(*value)?;
     push_totals(&mut vals, members.as_slice(), aggs)?;
-    let vals = Listed::from_vec(vals);
     out.push(Tuple { stime, vals })?;
     Ok(())
 }

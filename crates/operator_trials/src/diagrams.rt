@@ -4,7 +4,7 @@ use dpc_model::faults::NoMemory;
 use dpc_model::lists::{Listed, Name};
 use dpc_model::operators::{Agg, OpKind, OpSpec, Wire};
 use dpc_model::plans::{FragSpec, Plan, SourceSpec, StreamRef};
-use dpc_model::tuples::{Tuple, Tuples};
+use dpc_model::tuples::{Tuple, Tuples, Vals};
 use std::alloc::Global;
 
 /// The width of a bucket of generated streams.
@@ -155,7 +155,7 @@ pub fn plan(
 
 /// A tuple of a key and a value.
 pub fn tuple(alloc: Global, stime: u64, key: i64, value: i64) -> Result<Tuple, NoMemory> {
-    let vals = Listed::from_vec(Vec::from_slice(alloc, &[key, value])?);
+    let vals = Vals::from_slice(alloc, &[key, value])?;
     Ok(Tuple { stime, vals })
 }
 

@@ -9,7 +9,7 @@ use dpc_model::faults::NoMemory;
 use dpc_model::lists::Listed;
 use dpc_model::operators::{Agg, OpKind, OpSpec, Wire};
 use dpc_model::plans::{Plan, StreamRef};
-use dpc_model::tuples::{Tuple, Tuples};
+use dpc_model::tuples::{Tuple, Tuples, Vals};
 use fragment_mill::mill::FragMill;
 use ideal_eval::ideal;
 use ideal_eval::sound::is_sound;
@@ -68,7 +68,7 @@ const CASES: [Case; 12] = [
 fn log(alloc: Global, rows: &[Row]) -> Result<Tuples, NoMemory> {
     let mut tuples = Vec::new(alloc);
     for (stime, vals) in rows {
-        let vals = Listed::from_vec(Vec::from_slice(alloc, vals)?);
+        let vals = Vals::from_slice(alloc, vals)?;
         tuples.push(Tuple {
             stime: *stime,
             vals,
@@ -145,7 +145,7 @@ fn aggregate(
 fn eight(alloc: Global) -> Result<Plan, NoMemory> {
     let (mut logs, mut wires) = (Vec::new(alloc), Vec::new(alloc));
     for port in 0..8 {
-        let vals = Listed::from_vec(Vec::from_slice(alloc, &[8 - port as i64])?);
+        let vals = Vals::from_slice(alloc, &[8 - port as i64])?;
         let mut tuples = Vec::new(alloc);
         tuples.push(Tuple { stime: 5, vals })?;
         logs.push(Listed::from_vec(tuples))?;

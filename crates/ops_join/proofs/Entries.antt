@@ -1,12 +1,12 @@
 -- The index of a side after a tuple came or went.
-use Rattle.std.proofs.Common.{◌≡◌, ℕ, ◌+◌, ◌^◌, ◌<◌, ℤ, Bool, true, false, cond, ◌||◌, ◌&&◌, List, [], ◌∷◌, ◌++◌, length, length-append, drop, get_or, refl, sym, ◌∙◌, ap, arith}
+use Rattle.std.proofs.Common.{◌≡◌, ℕ, ◌+◌, ◌^◌, ◌<◌, ◌≤◌, nat_le, ℤ, Bool, true, false, cond, ◌||◌, ◌&&◌, List, [], ◌∷◌, ◌++◌, length, length-append, drop, refl, sym, ◌∙◌, ap, arith}
 use Rattle.std.proofs.lemmas.Grind.{common_steps}
+use Rattle.std.specs.List.{filter, list_any}
 use Rattle.std.specs.Ordering.{nat_cmp, int_cmp, ordering_then, is_eq}
 use Rattle.std.specs.Cmp.Lexicographic.{slice_cmp}
 use Rattle.std.specs.BTreeSet.{BTreeSet, contains}
 use Rattle.std.specs.declared.cmp.Ordering.{Ordering}
 use Rattle.std.specs.declared.cmp.Ordering.TheVariants.{Less, Equal, Greater}
-use Rattle.std.specs.Global.{Vec}
 use Rattle.dpc_model.specs.declared.tuples.Tuple.{Tuple}
 use Rattle.ops_join.specs.declared.ends.End.{End}
 use Rattle.ops_join.specs.Sides.{key_of, entry_cmp, index_cmp, has_entry, IsIndexOf}
@@ -16,15 +16,15 @@ is_eq-then Less p = refl
 is_eq-then Equal p = refl
 is_eq-then Greater p = refl
 
+pub is_eq-past : (o : Ordering) (n m : ℕ) → n < m → is_eq (ordering_then o (nat_cmp n m)) ≡ false
+is_eq-past Less n m h = refl
+is_eq-past Equal n m h = grind (arith, common_steps)
+is_eq-past Greater n m h = refl
+
 is_eq-apart : (o : Ordering) (n m : ℕ) → m < n → is_eq (ordering_then o (nat_cmp n m)) ≡ false
 is_eq-apart Less n m h = refl
 is_eq-apart Equal n m h = grind (arith, common_steps)
 is_eq-apart Greater n m h = refl
-
-number_at : (o : Ordering) (n m : ℕ) → is_eq (ordering_then o (nat_cmp n m)) ≡ true → m < n + 1
-number_at Less n m e = absurd (cc)
-number_at Equal n m e = grind (arith, common_steps)
-number_at Greater n m e = absurd (cc)
 
 cond_or : (b c : Bool) → cond b true c ≡ (b || c)
 cond_or true c = refl
@@ -37,45 +37,41 @@ module _ (end : End) (keys : List (ℕ × ℕ)) where
   has_entry-push n [] t key m = grind (arith, common_steps)
   has_entry-push n (u ∷ ts) t key m = grind (arith, common_steps, has_entry-push (n + 1) ts t key m)
 
-  push_is : (n : ℕ) (ts : List Tuple) (t : Tuple) (k : Vec ℤ) → k.items ≡ key_of end keys t → (q : Vec ℤ × ℕ) (had : Bool) → had ≡ has_entry end keys n ts q.0.items q.1 →
-      cond (is_eq (index_cmp (k, n + length ts) q)) true had ≡ has_entry end keys n (ts ++ t ∷ []) q.0.items q.1
+  push_is : (n : ℕ) (ts : List Tuple) (t : Tuple) (k : List ℤ) → k ≡ key_of end keys t → (q : List ℤ × ℕ) (had : Bool) → had ≡ has_entry end keys n ts q.0 q.1 →
+      cond (is_eq (index_cmp (k, n + length ts) q)) true had ≡ has_entry end keys n (ts ++ t ∷ []) q.0 q.1
   push_is n ts t k is q had h =
-      cond_or (is_eq (index_cmp (k, n + length ts) q)) had ∙ rw (is, h) (sym (has_entry-push n ts t q.0.items q.1))
+      cond_or (is_eq (index_cmp (k, n + length ts) q)) had ∙ rw (is, h) (sym (has_entry-push n ts t q.0 q.1))
 
-  -- no tuple has a number below the first one's
-  has_entry-low : (n : ℕ) (ts : List Tuple) (key : List ℤ) (m : ℕ) → m < n → has_entry end keys n ts key m ≡ false
-  has_entry-low n [] key m h = refl
-  has_entry-low n (t ∷ ts) key m h =
-      rw (is_eq-apart (slice_cmp int_cmp (key_of end keys t) key) n m h, has_entry-low (n + 1) ts key m (omega (arith, h))) refl
-
-  -- what goes with the first tuple
-  has_entry-drop : (n : ℕ) (t : Tuple) (ts : List Tuple) (key : List ℤ) (m : ℕ) →
-      cond (is_eq (entry_cmp (key_of end keys t) n key m)) false (has_entry end keys n (t ∷ ts) key m) ≡ has_entry end keys (n + 1) ts key m
-  has_entry-drop n t ts key m =
-      (elim (is_eq (entry_cmp (key_of end keys t) n key m)) as (λ b. is_eq (entry_cmp (key_of end keys t) n key m) ≡ b → cond b false (b || has_entry end keys (n + 1) ts key m) ≡ has_entry end keys (n + 1) ts key m) [
-        | true ↦ λ e. sym (has_entry-low (n + 1) ts key m (number_at (slice_cmp int_cmp (key_of end keys t) key) n m e))
-        | false ↦ λ e. refl
-      ]) refl
-
-  pub IsIndexOf-push : (n m : ℕ) (ts us : List Tuple) (t : Tuple) (s r : BTreeSet (Vec ℤ × ℕ)) (k : Vec ℤ) → k.items ≡ key_of end keys t → m ≡ n + length ts → m + 1 < 2 ^ 64 → us ≡ ts ++ t ∷ [] →
-      IsIndexOf end keys n ts s → ((q : Vec ℤ × ℕ) → contains index_cmp r q ≡ cond (is_eq (index_cmp (k, m) q)) true (contains index_cmp s q)) →
+  pub IsIndexOf-push : (n m : ℕ) (ts us : List Tuple) (t : Tuple) (s r : BTreeSet (List ℤ × ℕ)) (k : List ℤ) → k ≡ key_of end keys t → m ≡ n + length ts → m + 1 < 2 ^ 64 → us ≡ ts ++ t ∷ [] →
+      IsIndexOf end keys n ts s → ((q : List ℤ × ℕ) → contains index_cmp r q ≡ cond (is_eq (index_cmp (k, m) q)) true (contains index_cmp s q)) →
       IsIndexOf end keys n us r
   IsIndexOf-push n m ts us t s r k is last fits more i u = rw more (record {
-    has = λ q. u q ∙ rw last (push_is n ts t k is q (contains index_cmp s q) (i.has q));
+    has = λ q low. u q ∙ rw last (push_is n ts t k is q (contains index_cmp s q) (i.has q low));
     fits = omega (arith, length-append ts (t ∷ []));
   })
 
-  pub IsIndexOf-drop : (n : ℕ) (ts : List Tuple) (t : Tuple) (s r : BTreeSet (Vec ℤ × ℕ)) (k : Vec ℤ) → k.items ≡ key_of end keys t →
-      IsIndexOf end keys n (t ∷ ts) s → ((q : Vec ℤ × ℕ) → contains index_cmp r q ≡ cond (is_eq (index_cmp (k, n) q)) false (contains index_cmp s q)) →
-      IsIndexOf end keys (n + 1) ts r
-  IsIndexOf-drop n ts t s r k is i u = record {
-    has = λ q. u q ∙ rw (i.has q, is) (has_entry-drop n t ts q.0.items q.1);
+  -- the first tuple went, and its entry stays
+  pub IsIndexOf-drop : (n : ℕ) (ts us : List Tuple) (s : BTreeSet (List ℤ × ℕ)) → 0 < length ts → us ≡ drop 1 ts → IsIndexOf end keys n ts s → IsIndexOf end keys (n + 1) us s
+  IsIndexOf-drop n [] us s some rest i = absurd (omega (arith, some))
+  IsIndexOf-drop n (t ∷ ts) us s some rest i = rw rest (record {
+    has = λ q low. i.has q (omega (arith, low)) ∙ rw (is_eq-past (slice_cmp int_cmp (key_of end keys t) q.0) n q.1 (omega (arith, low))) refl;
     fits = omega (arith, i.fits);
-  }
+  })
 
-  -- for a list that is not empty
-  pub IsIndexOf-drop_first : (n : ℕ) (ts us : List Tuple) (t : Tuple) (s r : BTreeSet (Vec ℤ × ℕ)) (k : Vec ℤ) → k.items ≡ key_of end keys t → 0 < length ts → t ≡ get_or ts 0 t → us ≡ drop 1 ts →
-      IsIndexOf end keys n ts s → ((q : Vec ℤ × ℕ) → contains index_cmp r q ≡ cond (is_eq (index_cmp (k, n) q)) false (contains index_cmp s q)) →
-      IsIndexOf end keys (n + 1) us r
-  IsIndexOf-drop_first n [] us t s r k is some first rest i u = absurd (omega (arith, some))
-  IsIndexOf-drop_first n (x ∷ ts) us t s r k is some first rest i u = rw rest (IsIndexOf-drop n ts x s r k (is ∙ ap (key_of end keys) first) i u)
+  -- entries with a number below n went
+  any-kept : (n : ℕ) (q : List ℤ × ℕ) → n ≤ q.1 → (es : List (List ℤ × ℕ)) → list_any (λ e. is_eq (index_cmp q e)) (filter (λ e. nat_le n e.1) es) ≡ list_any (λ e. is_eq (index_cmp q e)) es
+  any-kept n q low [] = refl
+  any-kept n q low (e ∷ es) =
+      (elim (nat_le n e.1) as (λ b. nat_le n e.1 ≡ b →
+      list_any (λ x. is_eq (index_cmp q x)) (cond b (e ∷ filter (λ x. nat_le n x.1) es) (filter (λ x. nat_le n x.1) es)) ≡ (is_eq (index_cmp q e) || list_any (λ x. is_eq (index_cmp q x)) es)) [
+        | true ↦ λ h. ap (λ b. is_eq (index_cmp q e) || b) (any-kept n q low es)
+        | false ↦ λ h.
+            let under : e.1 < n = grind (arith, common_steps) in
+            rw (is_eq-apart (slice_cmp int_cmp q.0 e.0) q.1 e.1 (omega (arith, low, under))) (any-kept n q low es)
+      ]) refl
+
+  pub IsIndexOf-sweep : (n : ℕ) (ts : List Tuple) (s r : BTreeSet (List ℤ × ℕ)) → r.keys ≡ filter (λ e. nat_le n e.1) s.keys → IsIndexOf end keys n ts s → IsIndexOf end keys n ts r
+  IsIndexOf-sweep n ts s r kept i = record {
+    has = λ q low. ap (λ (es : List (List ℤ × ℕ)). list_any (λ e. is_eq (index_cmp q e)) es) kept ∙ any-kept n q low s.keys ∙ i.has q low;
+    fits = i.fits;
+  }

@@ -1,5 +1,5 @@
 -- The tuples that a side keeps, and those that it lets go.
-use Rattle.std.proofs.Common.{◌≡◌, ℕ, ◌+◌, true, false, List, [], ◌∷◌, refl, ap, arith, nat_le}
+use Rattle.std.proofs.Common.{◌≡◌, ℕ, ◌+◌, true, false, List, [], ◌∷◌, drop, refl, ap, arith, nat_le}
 use Rattle.std.proofs.lemmas.Grind.{common_steps}
 use Rattle.dpc_model.specs.Streams.{NoneBelow, InOrder, time_of}
 use Rattle.dpc_model.specs.declared.tuples.Tuple.{Tuple}
@@ -18,3 +18,12 @@ kept-ordered w b [] o h = refl
 kept-ordered w b (t ∷ ts) o h =
     let here : nat_le b (t.stime + w) ≡ true = grind (arith, common_steps) in
     rw here (ap (λ (us : List Tuple). t ∷ us) (kept-all w b t.stime ts here o.0))
+
+-- a first tuple that is not kept
+pub kept-dropped : (w b : ℕ) (ts : List Tuple) → is_over w b ts ≡ true → kept_from w b (drop 1 ts) ≡ kept_from w b ts
+kept-dropped w b [] h = refl
+kept-dropped w b (t ∷ ts) h = let here : nat_le b (t.stime + w) ≡ false = grind (arith, common_steps) in rw here refl
+
+pub order-dropped : (ts : List Tuple) → InOrder ts → InOrder (drop 1 ts)
+order-dropped [] o = tt
+order-dropped (t ∷ ts) o = o.1

@@ -4,3 +4,4 @@ pub mod Sharing
 pub mod Places
 pub mod Steps
 pub mod Joining
+mod Range

@@ -34,7 +34,7 @@ pub or_true : (b : Bool) → (b || false) ≡ b
 or_true true = refl
 or_true false = refl
 
-and_true : (b : Bool) → (b && true) ≡ b
+pub and_true : (b : Bool) → (b && true) ≡ b
 and_true true = refl
 and_true false = refl
 

@@ -7,7 +7,7 @@ use Rattle.ops_join.specs.declared.ends.End.{End}
 use Rattle.ops_join.specs.declared.side.Side.{Side}
 use Rattle.ops_join.specs.Sides.{IsIndexOf}
 
--- its index has exactly its tuples
+-- its index has its tuples
 abbrev pub IsIndexed : List (ℕ × ℕ) → Side → Type 0
 IsIndexed keys s = IsIndexOf s.end keys s.first s.tuples.items s.index
 

@@ -1,12 +1,11 @@
 -- One side of a join: its tuples, and the index that finds them by their key.
-use Rattle.std.specs.Prelude.{◌≡◌, ℕ, ◌+◌, ◌^◌, ◌<◌, ℤ, Bool, false, not, ◌||◌, nat_le, if◌then◌else◌, List, [], ◌∷◌, ◌++◌, map, length, flat_map, slice_get}
+use Rattle.std.specs.Prelude.{◌≡◌, ℕ, ◌+◌, ◌^◌, ◌<◌, ◌≤◌, ℤ, Bool, false, not, ◌||◌, nat_le, if◌then◌else◌, List, [], ◌∷◌, ◌++◌, map, length, flat_map, slice_get}
 use Rattle.std.specs.List.{list_any}
 use Rattle.std.specs.Option.{option_to_list}
 use Rattle.std.specs.Ordering.{nat_cmp, int_cmp, ordering_then, is_eq}
 use Rattle.std.specs.Cmp.Lexicographic.{slice_cmp}
 use Rattle.std.specs.BTreeSet.{BTreeSet, contains}
 use Rattle.std.specs.declared.cmp.Ordering.{Ordering}
-use Rattle.std.specs.Global.{Vec}
 use Rattle.dpc_model.specs.Lists.{sort_by}
 use Rattle.dpc_model.specs.Values.{column}
 use Rattle.dpc_model.specs.Operators.{keys_agree, are_partners, pairs_with}
@@ -59,17 +58,17 @@ at_places xs ps = flat_map (λ p. option_to_list (slice_get xs p)) ps
 abbrev pub entry_cmp : List ℤ → ℕ → List ℤ → ℕ → Ordering
 entry_cmp key n other m = ordering_then (slice_cmp int_cmp key other) (nat_cmp n m)
 
-abbrev pub index_cmp : Vec ℤ × ℕ → Vec ℤ × ℕ → Ordering
-index_cmp x y = ordering_then (slice_cmp int_cmp x.0.items y.0.items) (nat_cmp x.1 y.1)
+abbrev pub index_cmp : List ℤ × ℕ → List ℤ × ℕ → Ordering
+index_cmp x y = ordering_then (slice_cmp int_cmp x.0 y.0) (nat_cmp x.1 y.1)
 
 -- whether one of the tuples, which are numbered from n on, has this key and this number
 abbrev pub has_entry : End → List (ℕ × ℕ) → ℕ → List Tuple → List ℤ → ℕ → Bool
 has_entry end keys n [] key m = false
 has_entry end keys n (t ∷ ts) key m = is_eq (entry_cmp (key_of end keys t) n key m) || has_entry end keys (n + 1) ts key m
 
--- the index has exactly the entries of these tuples, which are numbered from n on
-pub record IsIndexOf (end : End) (keys : List (ℕ × ℕ)) (n : ℕ) (ts : List Tuple) (index : BTreeSet (Vec ℤ × ℕ)) : Type 0 where
-  pub has : (q : Vec ℤ × ℕ) → contains index_cmp index q ≡ has_entry end keys n ts q.0.items q.1
+-- of the entries with numbers from n on, the index has exactly those of these tuples, which are numbered from n on
+pub record IsIndexOf (end : End) (keys : List (ℕ × ℕ)) (n : ℕ) (ts : List Tuple) (index : BTreeSet (List ℤ × ℕ)) : Type 0 where
+  pub has : (q : List ℤ × ℕ) → n ≤ q.1 → contains index_cmp index q ≡ has_entry end keys n ts q.0 q.1
   pub fits : n + length ts < 2 ^ 64
 
 -- the rows that the tuples of a bucket add to those of the tuples before it, which a join keeps

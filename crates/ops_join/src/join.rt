@@ -137,8 +137,8 @@ fn advanced(
     ensures right_indexed { OnOk result (IsIndexed keys.now right.new) }
 {
     let rows = added_rows(alloc, within, keys, left, right, inputs)?;
-    left.forget(alloc, keys, within, end)?;
-    right.forget(alloc, keys, within, end)?;
+    left.forget(within, end);
+    right.forget(within, end);
     Ok(rows)
 }
 

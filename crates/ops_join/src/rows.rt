@@ -11,8 +11,8 @@ ghost use Rattle.ops_join.specs.Keeping.{IsIndexed};
 ghost use Rattle.ops_join.specs.declared.ends.End.TheVariants.{Left, Right};
 
 use crate::side::Side;
+use dpc_model::exact::Exact;
 use dpc_model::faults::NoMemory;
-use dpc_model::lists::Listed;
 use dpc_model::tuples::Tuple;
 use std::alloc::{AllocError, Global};
 use std::collections::BTreeSet;
@@ -21,11 +21,11 @@ use std::collections::BTreeSet;
 fn row(alloc: Global, left: &Tuple, right: &Tuple) -> Result<Tuple, AllocError>
     ensures { IfOk result (λ t. t ≡ paired left.now right.now) }
 {
-    let mut vals = Vec::from_slice(alloc, left.vals.as_slice())?;
+    let mut vals = left.vals.copy(alloc)?;
     vals.extend_from_slice(right.vals.as_slice())?;
     Ok(Tuple {
         stime: left.stime.max(right.stime),
-        vals: Listed::from_vec(vals),
+        vals,
     })
 }
 
@@ -45,7 +45,7 @@ pub fn add_rows(
     ensures { OnOk result (rows.new.items ≡ rows.old.items ++ pairs_with within keys.now (drop from right.now.tuples.items) left.now) }
 {
     let places = right.partners(alloc, within, keys, left, from)?;
-    for place in &places {
+    for place in places.as_slice() {
         rows.push(row(alloc, left, &right.tuples[*place])?)?;
     }
     Ok(())
@@ -65,7 +65,7 @@ fn add_partners(
         ≡ (contains nat_cmp places.old p || has_place p (places_from (is_partner left.now.end within keys.now right.now) 0 left.now.tuples.items))) }
 {
     let partners = left.partners(alloc, within, keys, right, 0)?;
-    for place in &partners {
+    for place in partners.as_slice() {
         places.insert(*place)?;
     }
     Ok(())

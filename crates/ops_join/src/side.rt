@@ -1,5 +1,5 @@
 //! One side of a join.
-ghost use Rattle.std.specs.Prelude.{◌≡◌, ◌+◌, ◌*◌, ◌<◌, ◌≤◌, ◌↔◌, ℕ, List, [], ◌∷◌, ◌++◌, filter, length, drop, nat_le, IfOk, OnOk, IsTrue, true, All};
+ghost use Rattle.std.specs.Prelude.{◌≡◌, ◌+◌, ◌*◌, ◌^◌, ◌<◌, ◌≤◌, ◌↔◌, ℕ, List, [], ◌∷◌, ◌++◌, filter, length, drop, nat_le, IfOk, OnOk, IsTrue, true, All};
 ghost use Rattle.dpc_model.specs.Streams.{InOrder};
 ghost use Rattle.dpc_model.specs.Operators.{is_within};
 ghost use Rattle.dpc_model.specs.Fragments.{at_port};
@@ -10,10 +10,17 @@ ghost use Rattle.ops_join.specs.Keeping.{IsIndexed};
 use crate::ends::End;
 use dpc_model::exact::Exact;
 use dpc_model::faults::NoMemory;
+use dpc_model::inlined::Inlined;
 use dpc_model::tuples::{Tagged, Tuple};
 use std::alloc::{AllocError, Global};
 use std::collections::{BTreeSet, VecDeque};
 use std::ops::Bound;
+
+/// The values of a tuple's key columns.
+pub type Key = Inlined<i64, 2>;
+
+/// Places of tuples on one side.
+pub type Places = Inlined<usize, 4>;
 
 /// The tuples of one side, in order of place, and where those of a key stand.
 #[derive(Drop)]
@@ -22,20 +29,15 @@ pub struct Side {
     pub tuples: VecDeque<Tuple>,
     /// The number of the first tuple. Numbers count from the first tuple that was ever taken.
     pub first: u64,
-    /// The key and the number of each tuple.
-    pub index: BTreeSet<(Vec<i64>, u64)>,
+    /// The key and the number of each tuple, and of some that went: at most about as many.
+    pub index: BTreeSet<(Key, u64)>,
 }
 
 /// The values of the tuple's key columns.
-fn key_of(
-    alloc: Global,
-    keys: &[(u64, u64)],
-    end: End,
-    tuple: &Tuple,
-) -> Result<Vec<i64>, AllocError>
-    ensures { IfOk result (λ key. key.items ≡ key_at end keys.now tuple.now) }
+fn key_of(alloc: Global, keys: &[(u64, u64)], end: End, tuple: &Tuple) -> Result<Key, AllocError>
+    ensures { IfOk result (λ key. key ≡ key_at end keys.now tuple.now) }
 {
-    let mut key = Vec::with_capacity(alloc, keys.len())?;
+    let mut key = Key::new(alloc);
     for pair in keys {
         key.push(tuple.column(end.column(pair)))?;
     }
@@ -122,40 +124,44 @@ impl Side {
         }
     }
 
-    /// Lets the first tuple go. After an error the side is to be cleared.
-    fn drop_first(&mut self, alloc: Global, keys: &[(u64, u64)]) -> Result<(), NoMemory>
-        requires indexed { IsIndexed keys.now self.old }
+    /// Lets the first tuple go. Its entry stays.
+    fn drop_first(&mut self)
         requires some { 0 < length self.old.tuples.items }
+        requires fits { self.old.first + length self.old.tuples.items < 2 ^ 64 }
         ensures end { self.new.end ≡ self.old.end }
-        ensures tuples { OnOk result (self.new.tuples.items ≡ drop 1 self.old.tuples.items) }
-        ensures indexed { OnOk result (IsIndexed keys.now self.new) }
+        ensures tuples { self.new.tuples.items ≡ drop 1 self.old.tuples.items }
+        ensures fits { self.new.first + length self.new.tuples.items ≡ self.old.first + length self.old.tuples.items }
+        ensures indexed { (keys : List (ℕ × ℕ)) → IsIndexed keys self.old → IsIndexed keys self.new }
     {
-        let key = key_of(alloc, keys, self.end, &self.tuples[0])?;
-        self.index.remove(&(key, self.first));
         self.tuples.pop_front();
         self.first += 1;
-        Ok(())
     }
 
-    /// Lets the tuples go that can meet no partner from this time on. After an error the side is to be
-    /// cleared.
-    pub fn forget(
-        &mut self,
-        alloc: Global,
-        keys: &[(u64, u64)],
-        within: u64,
-        begin: u64,
-    ) -> Result<(), NoMemory>
-        requires indexed { IsIndexed keys.now self.old }
+    /// Lets the entries go of tuples that went, once they outnumber those of tuples: one walk over the
+    /// index in place of a search for each.
+    fn sweep(&mut self)
+        ensures end { self.new.end ≡ self.old.end }
+        ensures tuples { self.new.tuples.items ≡ self.old.tuples.items }
+        ensures indexed { (keys : List (ℕ × ℕ)) → IsIndexed keys self.old → IsIndexed keys self.new }
+    {
+        if self.index.len() / 2 > self.tuples.len() {
+            let first = self.first;
+            self.index.retain(|(_, number)| first <= *number);
+        }
+    }
+
+    /// Lets the tuples go that can meet no partner from this time on. It takes no memory.
+    pub fn forget(&mut self, within: u64, begin: u64)
+        requires fits { self.old.first + length self.old.tuples.items < 2 ^ 64 }
         requires order { InOrder self.old.tuples.items }
         ensures end { self.new.end ≡ self.old.end }
-        ensures tuples { OnOk result (self.new.tuples.items ≡ kept_from within begin self.old.tuples.items) }
-        ensures indexed { OnOk result (IsIndexed keys.now self.new) }
+        ensures tuples { self.new.tuples.items ≡ kept_from within begin self.old.tuples.items }
+        ensures indexed { (keys : List (ℕ × ℕ)) → IsIndexed keys self.old → IsIndexed keys self.new }
     {
         while self.is_over(within, begin) {
-            self.drop_first(alloc, keys)?;
+            self.drop_first();
         }
-        Ok(())
+        self.sweep();
     }
 
     /// The places of the tuples from place `from` on that share their key with one of the other side,
@@ -166,21 +172,25 @@ impl Side {
         keys: &[(u64, u64)],
         of: &Tuple,
         from: usize,
-    ) -> Result<Vec<usize>, NoMemory>
+    ) -> Result<Places, NoMemory>
         requires indexed { IsIndexed keys.now self.now }
         requires from { from ≤ length self.now.tuples.items }
-        ensures places { IfOk result (λ places. places.items
+        ensures places { IfOk result (λ places. places
             ≡ filter (λ p. nat_le from p) (places_from (shares_key self.now.end keys.now of.now) 0 self.now.tuples.items)) }
-        ensures inside { IfOk result (λ places. All (λ p. p < length self.now.tuples.items) places.items) }
+        ensures inside { IfOk result (λ places. All (λ p. p < length self.now.tuples.items) places) }
     {
-        let low = key_of(alloc, keys, self.end.other(), of)?;
-        let high = key_of(alloc, keys, self.end.other(), of)?;
-        let bounds = (
-            Bound::Included((low, self.first + from as u64)),
-            Bound::Included((high, u64::MAX)),
+        let start = (
+            key_of(alloc, keys, self.end.other(), of)?,
+            self.first + from as u64,
         );
-        let mut places = Vec::new(alloc);
-        for (_, number) in self.index.range(bounds) {
+        let mut places = Places::new(alloc);
+        for (key, number) in self
+            .index
+            .range((Bound::Included(&start), Bound::Unbounded))
+        {
+            if *key != start.0 {
+                return Ok(places);
+            }
             places.push(number.saturating_sub(self.first) as usize)?;
         }
         Ok(places)
@@ -195,16 +205,16 @@ impl Side {
         keys: &[(u64, u64)],
         of: &Tuple,
         from: usize,
-    ) -> Result<Vec<usize>, NoMemory>
+    ) -> Result<Places, NoMemory>
         requires indexed { IsIndexed keys.now self.now }
         requires from { from ≤ length self.now.tuples.items }
-        ensures places { IfOk result (λ places. places.items
+        ensures places { IfOk result (λ places. places
             ≡ filter (λ p. nat_le from p) (places_from (is_partner self.now.end within keys.now of.now) 0 self.now.tuples.items)) }
-        ensures inside { IfOk result (λ places. All (λ p. p < length self.now.tuples.items) places.items) }
+        ensures inside { IfOk result (λ places. All (λ p. p < length self.now.tuples.items) places) }
     {
-        let mut places = Vec::new(alloc);
+        let mut places = Places::new(alloc);
         let sharing = self.sharing(alloc, keys, of, from)?;
-        for place in &sharing {
+        for place in sharing.as_slice() {
             if are_near(within, self.tuples[*place].stime, of.stime) {
                 places.push(*place)?;
             }

@@ -5,14 +5,14 @@ ghost use Rattle.dpc_model.specs.Engines.{FitsBucket};
 use crate::join::Join;
 use dpc_model::engines::Engine;
 use dpc_model::lists::Listed;
-use dpc_model::tuples::{Tagged, Tuple, Tuples};
+use dpc_model::tuples::{Tagged, Tuple, Tuples, Vals};
 use std::alloc::{AllocError, Global};
 use std::test::Fail;
 
 fn tagged(alloc: Global, port: u64, stime: u64, value: i64) -> Result<Tagged, AllocError>
     ensures { IfOk result (λ x. (x.port ≡ port) × (x.tuple.stime ≡ stime)) }
 {
-    let vals = Listed::from_vec(vec![in alloc; value]?);
+    let vals = Vals::from_slice(alloc, &[value])?;
     Ok(Tagged {
         port,
         tuple: Tuple { stime, vals },

@@ -53,7 +53,7 @@ impl Filter {
 fn passing(alloc: Global, expr: &Expr, inputs: &[Tagged]) -> Result<Tuples, AllocError>
     ensures { IfOk result (λ out. out ≡ filtered expr.now (at_port 0 inputs.now)) }
 {
-    let mut out = Vec::new(alloc);
+    let mut out = Vec::with_capacity(alloc, inputs.len())?;
     for x in inputs {
         if x.port == 0 && eval(expr, &x.tuple) != 0 {
             out.push(x.tuple.copy(alloc)?)?;

@@ -10,7 +10,7 @@ use dpc_model::exact::Exact;
 use dpc_model::expressions::Expr;
 use dpc_model::faults::StepFault;
 use dpc_model::lists::Listed;
-use dpc_model::tuples::{Tagged, Tuple, Tuples};
+use dpc_model::tuples::{Tagged, Tuple, Tuples, Vals};
 use std::alloc::{AllocError, Global};
 use std::marker::Model;
 
@@ -52,13 +52,13 @@ impl MapOp {
 fn mapped_one(alloc: Global, exprs: &[Expr], tuple: &Tuple) -> Result<Tuple, AllocError>
     ensures { IfOk result (λ out. out ≡ mapped_tuple exprs.now tuple.now) }
 {
-    let mut vals = Vec::with_capacity(alloc, exprs.len())?;
+    let mut vals = Vals::with_capacity(alloc, exprs.len())?;
     for expr in exprs {
         vals.push(eval(expr, tuple))?;
     }
     Ok(Tuple {
         stime: tuple.stime,
-        vals: Listed::from_vec(vals),
+        vals,
     })
 }
 
@@ -66,7 +66,7 @@ fn mapped_one(alloc: Global, exprs: &[Expr], tuple: &Tuple) -> Result<Tuple, All
 fn mapped_all(alloc: Global, exprs: &[Expr], inputs: &[Tagged]) -> Result<Tuples, AllocError>
     ensures { IfOk result (λ out. out ≡ mapped exprs.now (at_port 0 inputs.now)) }
 {
-    let mut out = Vec::new(alloc);
+    let mut out = Vec::with_capacity(alloc, inputs.len())?;
     for x in inputs {
         if x.port == 0 {
             out.push(mapped_one(alloc, exprs, &x.tuple)?)?;

@@ -6,7 +6,7 @@ use crate::union::Union;
 use dpc_model::engines::{Engine, fits_bucket};
 use dpc_model::expressions::{BinOp, Expr, ExprNode};
 use dpc_model::lists::Listed;
-use dpc_model::tuples::{Tagged, Tuple};
+use dpc_model::tuples::{Tagged, Tuple, Vals};
 use std::alloc::{AllocError, Global};
 use std::test::Fail;
 
@@ -52,7 +52,7 @@ fn longest(alloc: Global) -> Result<Expr, AllocError> {
 }
 
 fn tuple(alloc: Global, stime: u64, value: i64) -> Result<Tuple, AllocError> {
-    let vals = Listed::from_vec(vec![in alloc; value]?);
+    let vals = Vals::from_slice(alloc, &[value])?;
     Ok(Tuple { stime, vals })
 }
 

@@ -17,9 +17,9 @@ use Rattle.dpc_model.specs.declared.tuples.Tuple.{Tuple}
 use Rattle.dpc_model.specs.declared.operators.Agg.{Agg}
 use Rattle.dpc_model.proofs.WindowCausality.{window_before, window_after}
 use Rattle.ops_window.specs.Windows.{Cell, group_of, in_group}
-use Rattle.ops_window.specs.Feeding.{cell_cmp, totals_at, take_cell}
+use Rattle.ops_window.specs.Feeding.{cell_cmp, totals_at, take_cell, grown}
 use Rattle.ops_window.proofs.ExactTotals.{firsts_exact, nexts_exact}
-use Rattle.ops_window.proofs.Lookups.{is_key-parts, grown, totals_at-take_cell, take_cell-sorted}
+use Rattle.ops_window.proofs.Lookups.{is_key-parts, totals_at-take_cell, take_cell-sorted}
 use Rattle.ops_window.proofs.WindowCells.{totals_over, begins_one, seen}
 
 -- ---- numbers of windows

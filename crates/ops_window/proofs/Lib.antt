@@ -7,3 +7,4 @@ pub mod Feeds
 pub mod Held
 pub mod Ends
 pub mod Step
+mod Kept

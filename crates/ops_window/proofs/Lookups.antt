@@ -1,20 +1,19 @@
 -- What the cells hold at a key after one of them changes.
-use Rattle.std.proofs.Common.{◌≡◌, ℕ, ◌==◌, ◌&&◌, Bool, true, false, cond, List, [], ◌∷◌, map, refl, ◌∙◌, ap, arith, ℤ, int_eq, Option, Some, None, is_some, nat_lt}
+use Rattle.std.proofs.Common.{◌≡◌, ℕ, ◌==◌, ◌&&◌, Bool, true, false, cond, List, [], ◌∷◌, refl, ◌∙◌, ap, arith, ℤ, int_eq, Some, nat_lt}
 use Rattle.std.proofs.lemmas.Grind.{common_steps}
 use Rattle.std.proofs.lemmas.Cmp.{eq_by_cmp_equiv, tied_itself}
-use Rattle.std.proofs.lemmas.Map.{lookup-set_value, keys-set_value}
 use Rattle.std.proofs.lemmas.Map.Lookups.{CmpEqualImpliesEq, exact_pairs, exact_unsigned, exact_signed}
 use Rattle.std.specs.declared.cmp.Ordering.{Ordering}
 use Rattle.std.specs.declared.cmp.Ordering.TheVariants.{Less, Equal, Greater}
 use Rattle.std.specs.Ordering.{nat_cmp, int_cmp, ordering_then, is_eq, ordering_reverse, match_ordering}
 use Rattle.std.specs.List.{AllByRecursion}
 use Rattle.std.specs.List.Sorted.{IsStrictlySortedBy}
-use Rattle.std.specs.Map.{keys_of, set_value}
+use Rattle.std.specs.Map.{keys_of}
 use Rattle.std.specs.BTreeMap.{insert_entry, is_at}
 use Rattle.dpc_model.specs.declared.tuples.Tuple.{Tuple}
 use Rattle.dpc_model.specs.declared.operators.Agg.{Agg}
 use Rattle.ops_window.specs.Windows.{Cell}
-use Rattle.ops_window.specs.Feeding.{cell_cmp, totals_at, take_cell, first_total, next_totals}
+use Rattle.ops_window.specs.Feeding.{cell_cmp, totals_at, take_cell, grown}
 use Rattle.ops_window.proofs.Steps.{cell_cmp_total}
 
 -- ---- keys
@@ -50,11 +49,6 @@ is_key-parts s begin q z =
 
 -- ---- one cell
 
--- a cell's totals with one tuple more
-abbrev pub grown : List Agg → Tuple → Option (List ℤ) → List ℤ
-grown aggs t None = map (first_total t) aggs
-grown aggs t (Some totals) = next_totals t aggs totals
-
 lookup-insert_entry : (q k : ℕ × ℤ) (v : List ℤ) (es : List Cell) →
     totals_at q (insert_entry cell_cmp es k v) ≡ cond (is_key q k) (Some v) (totals_at q es)
 lookup-insert_entry q k v [] = refl
@@ -75,22 +69,9 @@ lookup-insert_entry q k v (e ∷ es) = by (cell_cmp k e.0) refl (lookup-insert_e
           | false ↦ λ i. h
         ]) refl
 
-module _ (aggs : List Agg) (t : Tuple) where
-  abbrev taken_as : List Cell → ℕ × ℤ → Option (List ℤ) → List Cell
-  taken_as cells key found = elim found [
-    | None ↦ insert_entry cell_cmp cells key (map (first_total t) aggs)
-    | Some totals ↦ set_value (is_at (cell_cmp key)) cells (next_totals t aggs totals)
-  ]
-
-  pub totals_at-take_cell : (q key : ℕ × ℤ) (cells : List Cell) →
-      totals_at q (take_cell aggs t cells key) ≡ cond (is_key q key) (Some (grown aggs t (totals_at key cells))) (totals_at q cells)
-  totals_at-take_cell q key cells =
-      (elim (totals_at key cells) as (λ o. totals_at key cells ≡ o → totals_at q (taken_as cells key o) ≡ cond (is_key q key) (Some (grown aggs t o)) (totals_at q cells)) [
-        | None ↦ λ e. lookup-insert_entry q key (map (first_total t) aggs) cells
-        | Some totals ↦ λ e.
-            lookup-set_value (eq_by_cmp_equiv cell_cmp_total) (is_at (cell_cmp key)) (λ x y h. (eq_by_cmp_equiv cell_cmp_total).congr key x y h) q (next_totals t aggs totals) cells (ap is_some e)
-            ∙ ap (λ (b : Bool). cond b (Some (next_totals t aggs totals)) (totals_at q cells)) (is_key-flip key q)
-      ]) refl
+pub totals_at-take_cell : (aggs : List Agg) (t : Tuple) (q key : ℕ × ℤ) (cells : List Cell) →
+    totals_at q (take_cell aggs t cells key) ≡ cond (is_key q key) (Some (grown aggs t (totals_at key cells))) (totals_at q cells)
+totals_at-take_cell aggs t q key cells = lookup-insert_entry q key (grown aggs t (totals_at key cells)) cells
 
 -- ---- order
 
@@ -120,8 +101,4 @@ insert-sorted k v (e ∷ es) s =
     ]) refl
 
 pub take_cell-sorted : (aggs : List Agg) (t : Tuple) (cells : List Cell) (key : ℕ × ℤ) → IsStrictlySortedBy cell_cmp (keys_of cells) → IsStrictlySortedBy cell_cmp (keys_of (take_cell aggs t cells key))
-take_cell-sorted aggs t cells key s =
-    elim (totals_at key cells) as (λ o. IsStrictlySortedBy cell_cmp (keys_of (taken_as aggs t cells key o))) [
-      | None ↦ insert-sorted key (map (first_total t) aggs) cells s
-      | Some totals ↦ rw (keys-set_value (is_at (cell_cmp key)) cells (next_totals t aggs totals)) s
-    ]
+take_cell-sorted aggs t cells key s = insert-sorted key (grown aggs t (totals_at key cells)) cells s

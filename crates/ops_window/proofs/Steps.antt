@@ -77,7 +77,7 @@ fold-range_more f b a n h =
 
 -- ---- maps, one entry after the other
 
-greater : {K : Type 0} {R : K → K → Ordering} (o : IsTotalOrder R) (x y : K) → R x y ≡ Less → R y x ≡ Greater
+pub greater : {K : Type 0} {R : K → K → Ordering} (o : IsTotalOrder R) (x y : K) → R x y ≡ Less → R y x ≡ Greater
 greater o x y e = o.antisymm y x ∙ ap ordering_reverse e
 
 module _ {K X : Type 0} {R : K → K → Ordering} (o : IsTotalOrder R) where

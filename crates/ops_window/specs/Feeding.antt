@@ -1,11 +1,11 @@
 -- The steps of an aggregate: a tuple is taken into the cells of its windows, and the cells of windows that ended become rows.
-use Rattle.std.specs.Prelude.{◌≡◌, ⊤, false, ℕ, ◌+◌, ◌-◌, ◌*◌, ◌/◌, nat_le, ℤ, pos, ◌+ℤ◌, Bool, List, [], ◌∷◌, ◌++◌, map, Option, Some, None, if◌then◌else◌}
+use Rattle.std.specs.Prelude.{ℕ, ◌+◌, ◌-◌, ◌*◌, ◌/◌, nat_le, ℤ, pos, ◌+ℤ◌, Bool, List, [], ◌∷◌, ◌++◌, map, filter, Option, Some, None, if◌then◌else◌}
 use Rattle.std.specs.Int.{int_min, int_max}
 use Rattle.std.specs.List.{fold, range_with_len}
-use Rattle.std.specs.Map.{lookup, set_value}
+use Rattle.std.specs.Map.{lookup}
 use Rattle.std.specs.BTreeMap.{insert_entry, is_at}
 use Rattle.std.specs.declared.cmp.Ordering.{Ordering}
-use Rattle.std.specs.Ordering.{nat_cmp, int_cmp, ordering_then}
+use Rattle.std.specs.Ordering.{nat_cmp, int_cmp, ordering_then, is_le}
 use Rattle.dpc_model.specs.Values.{column, clamp}
 use Rattle.dpc_model.specs.Operators.{tuple_of, window_count}
 use Rattle.dpc_model.specs.declared.tuples.Tuple.{Tuple}
@@ -48,12 +48,14 @@ cell_cmp x y = ordering_then (nat_cmp x.0 y.0) (int_cmp x.1 y.1)
 abbrev pub totals_at : ℕ × ℤ → List Cell → Option (List ℤ)
 totals_at key cells = lookup (is_at (cell_cmp key)) cells
 
+-- a cell's totals over one tuple more, where it had some
+abbrev pub grown : List Agg → Tuple → Option (List ℤ) → List ℤ
+grown aggs t None = map (first_total t) aggs
+grown aggs t (Some totals) = next_totals t aggs totals
+
 -- the cells with a tuple taken into one of them
 abbrev pub take_cell : List Agg → Tuple → List Cell → ℕ × ℤ → List Cell
-take_cell aggs t cells key = elim (totals_at key cells) [
-  | None ↦ insert_entry cell_cmp cells key (map (first_total t) aggs)
-  | Some totals ↦ set_value (is_at (cell_cmp key)) cells (next_totals t aggs totals)
-]
+take_cell aggs t cells key = insert_entry cell_cmp cells key (grown aggs t (totals_at key cells))
 
 -- the numbers of the windows in which a time lies
 abbrev pub window_numbers : ℕ → ℕ → ℕ → List ℕ
@@ -106,10 +108,14 @@ abbrev pub cell_row : ℕ → Option ℕ → List Agg → Cell → Tuple
 cell_row size group aggs cell =
     tuple_of (cell.0.0 + size - 1) (group_values group cell.0.1 ++ finished_totals aggs cell.1)
 
--- there is no first cell whose window ends at or below b
-abbrev pub StaysAt : ℕ → ℕ → List Cell → Type 0
-StaysAt size b [] = ⊤
-StaysAt size b (c ∷ cells) = has_ended size b c ≡ false
+abbrev pub first_key : List Cell → Option (ℕ × ℤ)
+first_key [] = None
+first_key (c ∷ cells) = Some c.0
+
+-- the cells from a key on, and none where there is no key
+abbrev pub cells_from : Option (ℕ × ℤ) → List Cell → List Cell
+cells_from None cells = []
+cells_from (Some key) cells = filter (λ c. is_le (cell_cmp key c.0)) cells
 
 -- ---- of a shape
 

@@ -1,17 +1,20 @@
 //! The cells of the open windows: the totals of each window and group in which a tuple was seen.
-ghost use Rattle.std.specs.Prelude.{◌≡◌, ◌↔◌, ◌+◌, ◌^◌, ◌<◌, ◌≤◌, true, ◌∷◌, IfOk, OnOk, IsTrue, map, MatchOption, All};
+ghost use Rattle.std.specs.Prelude.{◌≡◌, ◌↔◌, ◌+◌, ◌^◌, ◌<◌, ◌≤◌, IfOk, OnOk, IsTrue, map, All};
+ghost use Rattle.std.specs.List.Sorted.{IsStrictlySortedBy};
+ghost use Rattle.std.specs.Map.{keys_of};
 ghost use Rattle.dpc_model.specs.Operators.{window_count};
 ghost use Rattle.dpc_model.specs.declared.tuples.Tagged.{Tagged};
-ghost use Rattle.ops_window.specs.Feeding.{take_cell, take_tuple, fed_cells, row_of, ended_cells, kept_cells, has_ended, StaysAt};
+ghost use Rattle.ops_window.specs.Feeding.{take_cell, take_tuple, fed_cells, row_of, ended_cells, kept_cells, first_key, cells_from, cell_cmp};
 
 use crate::totals::{finished, first_totals, group_of, grow};
 use dpc_model::exact::Exact;
 use dpc_model::faults::NoMemory;
 use dpc_model::lists::Listed;
 use dpc_model::operators::Agg;
-use dpc_model::tuples::{Tagged, Tuple, Tuples};
+use dpc_model::tuples::{Tagged, Tuple, Tuples, Vals};
 use std::alloc::{AllocError, Global};
 use std::collections::BTreeMap;
+use std::collections::btree_map::Entry;
 
 /// For each open window's begin and each group seen in it, a total for each aggregate.
 pub type Cells = BTreeMap<(u64, i64), Listed<i128>>;
@@ -82,11 +85,23 @@ fn take_in(
 ) -> Result<(), NoMemory>
     ensures { OnOk result (cells.new.entries ≡ take_cell aggs.now tuple.now cells.old.entries key) }
 {
-    if let Some(totals) = cells.get_mut(&key) {
-        return grow(alloc, aggs, tuple, totals);
+    match cells.entry(key)? {
+        Entry::Vacant(cell) => {
+            cell.insert(first_totals(alloc, aggs, tuple)?);
+            Ok(())
+        }
+        Entry::Occupied(cell) => grow(alloc, aggs, tuple, cell.into_mut()),
     }
-    let totals = first_totals(alloc, aggs, tuple)?;
-    cells.insert(key, totals)?;
+}
+
+/// Lets the cells before this one go, and all where there is none.
+fn keep_from(cells: &mut Cells, first: Option<(u64, i64)>) -> Result<(), AllocError>
+    ensures { OnOk result (cells.new.entries ≡ cells_from first cells.old.entries) }
+{
+    match first {
+        Some(key) => *cells = cells.split_off(&key)?,
+        None => cells.clear(),
+    }
     Ok(())
 }
 
@@ -141,15 +156,11 @@ impl Shape {
         Ok(())
     }
 
-    /// Takes the first cell out, if its window ends at or below a time.
-    fn pop_ended(&self, cells: &mut Cells, end: u64) -> Option<((u64, i64), Listed<i128>)>
-        ensures { MatchOption result (StaysAt self.now.size end cells.old.entries × (cells.new.entries ≡ cells.old.entries)) (λ c. (cells.old.entries ≡ c ∷ cells.new.entries) × (has_ended self.now.size end c ≡ true)) }
+    /// Whether the window that begins at a time ends at or below another.
+    fn has_ended(&self, begin: u64, end: u64) -> bool
+        ensures { IsTrue result ↔ (begin + self.now.size ≤ end) }
     {
-        let (begin, _) = cells.first_key_value()?.0;
-        if *begin > end || end - *begin < self.size {
-            return None;
-        }
-        cells.pop_first()
+        begin <= end && self.size <= end - begin
     }
 
     /// A cell's row. The error says that a count or the like does not fit i64.
@@ -160,7 +171,7 @@ impl Shape {
     {
         let (begin, group) = key;
         let aggs = self.aggs.as_slice();
-        let mut vals = Vec::new(alloc);
+        let mut vals = Vals::with_capacity(alloc, aggs.len().saturating_add(1))?;
         if self.group.is_some() {
             vals.push(group)?;
         }
@@ -169,8 +180,30 @@ impl Shape {
         }
         Ok(Tuple {
             stime: begin + (self.size - 1),
-            vals: Listed::from_vec(vals),
+            vals,
         })
+    }
+
+    /// The rows of the cells whose windows end at or below a time, and the first cell behind those.
+    fn ended_rows(
+        &self,
+        alloc: Global,
+        cells: &Cells,
+        end: u64,
+    ) -> Result<(Vec<Tuple>, Option<(u64, i64)>), NoMemory>
+        requires { 0 < self.now.size }
+        ensures rows { IfOk result (λ r. r.0.items ≡ map (row_of self.now) (ended_cells self.now.size end cells.now.entries)) }
+        ensures first { IfOk result (λ r. r.1 ≡ first_key (kept_cells self.now.size end cells.now.entries)) }
+        ensures sorted { IfOk result (λ r. IsStrictlySortedBy cell_cmp (keys_of cells.now.entries)) }
+    {
+        let mut rows = Vec::new(alloc);
+        for (key, totals) in cells.iter() {
+            if !self.has_ended(key.0, end) {
+                return Ok((rows, Some(*key)));
+            }
+            rows.push(self.row(alloc, *key, totals.as_slice())?)?;
+        }
+        Ok((rows, None))
     }
 
     /// Takes the cells out whose windows end at or below a time, and gives their rows.
@@ -179,9 +212,9 @@ impl Shape {
         ensures rows { IfOk result (λ rows. rows ≡ map (row_of self.now) (ended_cells self.now.size end cells.old.entries)) }
         ensures cells { OnOk result (cells.new.entries ≡ kept_cells self.now.size end cells.old.entries) }
     {
-        let mut rows = Vec::new(alloc);
-        while let Some((key, totals)) = self.pop_ended(cells, end) {
-            rows.push(self.row(alloc, key, totals.as_slice())?)?;
+        let (rows, first_open) = self.ended_rows(alloc, cells, end)?;
+        if !rows.is_empty() {
+            keep_from(cells, first_open)?;
         }
         Ok(Listed::from_vec(rows))
     }

@@ -6,7 +6,7 @@ use crate::aggregate::Aggregate;
 use dpc_model::engines::Engine;
 use dpc_model::lists::Listed;
 use dpc_model::operators::Agg;
-use dpc_model::tuples::{Tagged, Tuple, Tuples};
+use dpc_model::tuples::{Tagged, Tuple, Tuples, Vals};
 use std::alloc::{AllocError, Global};
 use std::test::Fail;
 
@@ -18,7 +18,7 @@ fn bucket(alloc: Global, k: u64, tuple: Option<(u64, i64)>) -> Result<Vec<Tagged
     let mut inputs = Vec::new(alloc);
     if let Some((time, value)) = tuple {
         if k * 10 <= time && time < (k + 1) * 10 {
-            let vals = Listed::from_vec(vec![in alloc; value]?);
+            let vals = Vals::from_slice(alloc, &[value])?;
             let tuple = Tuple { stime: time, vals };
             inputs.push(Tagged { port: 0, tuple })?;
         }

@@ -1,12 +1,12 @@
 //! What no clause says: the text as the format's description shows it.
 use crate::text::{Summary, put_client};
 use dpc_model::lists::Listed;
-use dpc_model::tuples::{Item, Tuple};
+use dpc_model::tuples::{Item, Tuple, Vals};
 use std::alloc::{AllocError, Global};
 use std::test::Fail;
 
 fn tuple(alloc: Global, stime: u64, first: i64, second: i64) -> Result<Tuple, AllocError> {
-    let vals = Listed::from_vec(vec![in alloc; first, second]?);
+    let vals = Vals::from_slice(alloc, &[first, second])?;
     Ok(Tuple { stime, vals })
 }
 

@@ -23,4 +23,4 @@ pub loop-preserved : goal.loop-preserved
 loop-preserved c =
     let z = c.in_ok-value.field-0 in
     let fits : FitsSigned w64 z = search rules in
-    rw (c.in_ok-push.ensures.items, to_z-of_z w64 z fits) (value_more c.loop.vals.items c.args.columns c.loop.counter (words_left c.loop.words) (words_left c.value.new.self) z _ c.loop-test.true c.in_ok-value.ensures c.loop.invariant)
+    rw (c.in_ok-push.ensures, to_z-of_z w64 z fits) (value_more c.loop.vals c.args.columns c.loop.counter (words_left c.loop.words) (words_left c.value.new.self) z _ c.loop-test.true c.in_ok-value.ensures c.loop.invariant)

@@ -6,4 +6,4 @@ use Rattle.diagram_reader.proofs.reader.values.Given as goal
 
 -- the values so far, and those to come, are those of the line
 abbrev pub invariant-loop : goal.invariant-loop
-invariant-loop l = after l.vals.items (values_at (l.columns - l.counter) (words_left l.words)) ≡ values_at l.columns (words_left l.fn.words)
+invariant-loop l = after l.vals (values_at (l.columns - l.counter) (words_left l.words)) ≡ values_at l.columns (words_left l.fn.words)

@@ -3,4 +3,4 @@ use Rattle.dpc_model.specs.Operators.{total_of}
 use Rattle.ideal_eval.proofs.windows.push_totals.Given as goal
 
 abbrev pub invariant-loop-agg : goal.invariant-loop-agg
-invariant-loop-agg l = l.vals.items ≡ l.initial.vals.items ++ map (total_of l.tuples) (take l.agg-index l.aggs)
+invariant-loop-agg l = l.vals ≡ l.initial.vals ++ map (total_of l.tuples) (take l.agg-index l.aggs)

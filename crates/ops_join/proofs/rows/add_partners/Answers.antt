@@ -8,11 +8,11 @@ use Rattle.ops_join.proofs.rows.add_partners.Goals as goal
 
 pub loop-place-preserved : goal.loop-place-preserved
 loop-place-preserved c = λ p.
-    has_place-push _ _ _ p c.deref-place-items.result.now c.loop-place.place-index (search rules) (c.loop-place.invariant p) (c.in_ok-insert.ensures.updates.0 p)
+    has_place-push _ _ _ p c.as_slice-place-items.result.now c.loop-place.place-index (search rules) (c.loop-place.invariant p) (c.in_ok-insert.ensures.updates.0 p)
 
 pub returns : goal.returns
 returns c = λ p.
     c.loop-place.invariant p
     ∙ ap (λ (ps : List ℕ). contains nat_cmp c.args.places.now p || has_place p ps)
-    (take-all c.deref-place-items.result.now c.loop-place.place-index c.loop-place-test.false ∙ c.deref-place-items.ensures.value ∙ c.in_ok-partners.ensures.places
+    (take-all c.as_slice-place-items.result.now c.loop-place.place-index c.loop-place-test.false ∙ c.as_slice-place-items.ensures ∙ c.in_ok-partners.ensures.places
     ∙ filter-whole (places_from (is_partner c.args.left.now.end c.args.within c.args.keys.now c.args.right.now) 0 c.args.left.now.tuples.items))

@@ -12,7 +12,7 @@ pub loop-place-preserved : goal.loop-place-preserved
 loop-place-preserved c =
     c.in_ok-push.ensures.items
     ∙ rows-push (paired c.args.left.now) c.loop-place.rows.items c.args.rows.now.items _ _ c.index.result.now c.in_ok-row.field-0 c.loop-place.invariant c.in_ok-row.ensures
-    (at-push c.args.right.now.tuples.items c.deref-place-items.result.now c.loop-place.place-index c.index.result.now (search rules) (search rules) (search rules))
+    (at-push c.args.right.now.tuples.items c.as_slice-place-items.result.now c.loop-place.place-index c.index.result.now (search rules) (search rules) (search rules))
 
 pub returns : goal.returns
 returns c =
@@ -20,6 +20,6 @@ returns c =
     let init = c.args.rows.now.items in
     c.loop-place.invariant
     ∙ ap (λ (ps : List ℕ). init ++ map (paired c.args.left.now) (at_places rs ps))
-    (take-all c.deref-place-items.result.now c.loop-place.place-index c.loop-place-test.false ∙ c.deref-place-items.ensures.value ∙ c.in_ok-places.ensures.places)
+    (take-all c.as_slice-place-items.result.now c.loop-place.place-index c.loop-place-test.false ∙ c.as_slice-place-items.ensures ∙ c.in_ok-places.ensures.places)
     ∙ ap (λ (ts : List Tuple). init ++ map (paired c.args.left.now) ts) (at_places-is (is_partner c.args.right.now.end c.args.within c.args.keys.now c.args.left.now) c.args.from rs)
     ∙ ap (λ (e : End). init ++ map (paired c.args.left.now) (filter (is_partner e c.args.within c.args.keys.now c.args.left.now) (drop c.args.from rs))) c.requires.end

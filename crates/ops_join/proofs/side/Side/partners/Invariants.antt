@@ -7,4 +7,4 @@ use Rattle.ops_join.proofs.side.Side.partners.Given as goal
 
 abbrev pub invariant-loop-place : goal.invariant-loop-place
 invariant-loop-place l =
-    l.places.items ≡ filter (passes (λ (t : Tuple). is_within l.within t.stime l.of.stime) l.self.tuples.items) (take l.place-index l.place-items)
+    l.places ≡ filter (passes (λ (t : Tuple). is_within l.within t.stime l.of.stime) l.self.tuples.items) (take l.place-index l.place-items)

@@ -1,26 +1,57 @@
-use Rattle.std.proofs.Common.{ℕ, ℤ, ◌+◌, ◌-◌, List, map, ap, ◌∙◌, rules, arith}
-use Rattle.std.proofs.lemmas.Map.Iter.{rest_all}
-use Rattle.std.specs.Global.{Vec}
+use Rattle.std.proofs.Common.{ℕ, ◌+◌, ◌-◌, List, map, ap, sym, ◌∙◌, rules}
+use Rattle.std.proofs.lemmas.Map.Iter.{rest_more, rest_all}
 use Rattle.std.specs.Map.Iter.{deref}
-use Rattle.ops_join.proofs.Sharing.{bounds-forward, found-is, drained}
+use Rattle.ops_join.proofs.Sharing.{sharing-is}
+use Rattle.ops_join.proofs.Range.{left-first, left-next, numbers-behind, behind-range, loop-next, loop-stop, loop-all, same-key, not-true, not-false}
 use Rattle.ops_join.proofs.Places.{places-inside}
 use Rattle.ops_join.specs.Sides.{shares_key}
 use Rattle.ops_join.proofs.side.Side.sharing.Goals as goal
 
-pub range-number-items-requires : goal.range-number-items-requires
-range-number-items-requires c = bounds-forward c.in_ok-low.low.items c.in_ok-high.high.items (c.args.self.now.first + c.args.from) 18446744073709551615 (search rules) (omega (arith, c.requires.indexed.fits))
+pub loop-key-init : goal.loop-key-init
+loop-key-init c =
+    let key = c.in_ok-key_of.field-0 in
+    let lo = c.args.self.now.first + c.args.from in
+    let entries = c.args.self.now.index.keys in
+    let begun = c.into_iter-key-iterator.ensures.into_iter_gives ∙ c.range-key-items.ensures.between tt ∙ behind-range key lo entries in
+    record {
+      can = tt;
+      finite = tt;
+      left = rw begun (left-first key lo entries c.range-key-items.ensures.ordered);
+      places = rw (c.new-places.ensures, begun) (ap (λ (ns : List ℕ). map (λ p. p - c.args.self.now.first) ns) (numbers-behind key lo entries));
+    }
+
+pub loop-key-preserved : goal.loop-key-preserved
+loop-key-preserved c =
+    let key = c.in_ok-key_of.field-0 in
+    let lo = c.args.self.now.first + c.args.from in
+    let more = rest_more deref _ _ _ c.in-Some.field-0 c.in-Some.is c.next.ensures.steps in
+    record {
+      can = tt;
+      finite = tt;
+      left = left-next key lo c.in-Some.field-0.now c.next.new.self (rw more at c.loop-key.invariant.left);
+      places = loop-next key lo c.args.self.now.first c.saturating_sub.result c.loop-key.places c.push.new.self _ c.in-Some.field-0.now c.loop-key.key-iterator c.next.new.self more (search rules) c.in_ok-push.ensures
+          (sym (same-key c.in-Some.field-0.now.0 key) ∙ not-false _ (sym c.ne.ensures ∙ c.if-ne.false))
+          c.loop-key.invariant.left c.loop-key.invariant.places;
+    }
+
+pub returns-then-ne-clause-places : goal.returns-then-ne-clause-places
+returns-then-ne-clause-places c =
+    let self = c.args.self.now in
+    let key = c.in_ok-key_of.field-0 in
+    let more = rest_more deref _ _ _ c.in-Some.field-0 c.in-Some.is c.next.ensures.steps in
+    loop-stop key (self.first + c.args.from) self.first c.loop-key.places _ c.in-Some.field-0.now c.loop-key.key-iterator c.next.new.self more (sym (same-key c.in-Some.field-0.now.0 key) ∙ not-true _ (sym c.ne.ensures ∙ c.if-ne.true))
+    c.loop-key.invariant.left c.loop-key.invariant.places
+    ∙ sharing-is self.end c.args.keys.now self.first c.args.from self.tuples.items c.args.of.now self.index key (search rules) c.range-key-items.ensures.ordered c.requires.indexed
+
+pub returns-then-ne-clause-inside : goal.returns-then-ne-clause-inside
+returns-then-ne-clause-inside c = places-inside (shares_key c.args.self.now.end c.args.keys.now c.args.of.now) c.args.from c.args.self.now.tuples.items c.loop-key.places (returns-then-ne-clause-places c)
 
 pub returns-clause-places : goal.returns-clause-places
 returns-clause-places c =
-    let done = rest_all deref _ _ _ c.in-None.is c.next.ensures.steps in
-    let begun = c.into_iter-number-iterator.ensures.into_iter_gives in
-    let range = c.range-number-items.ensures.between tt in
     let self = c.args.self.now in
-    let shift = λ (p : ℕ). p - self.first in
-    drained shift c.loop-number.places.items _ c.loop-number.number-iterator c.loop-number.invariant.places done
-    ∙ ap (λ (es : List (Vec ℤ × ℕ)). map shift (map (λ (e : Vec ℤ × ℕ). e.1) es)) (begun ∙ range)
-    ∙ found-is self.end c.args.keys.now self.first c.args.from 18446744073709551615 self.tuples.items c.args.of.now self.index c.in_ok-low.low c.in_ok-high.high
-    (search rules) (search rules) (omega (arith, c.requires.indexed.fits)) c.range-number-items.ensures.ordered c.requires.indexed
+    let key = c.in_ok-key_of.field-0 in
+    loop-all key (self.first + c.args.from) self.first c.loop-key.places _ c.loop-key.key-iterator (rest_all deref _ _ _ c.in-None.is c.next.ensures.steps) c.loop-key.invariant.places
+    ∙ sharing-is self.end c.args.keys.now self.first c.args.from self.tuples.items c.args.of.now self.index key (search rules) c.range-key-items.ensures.ordered c.requires.indexed
 
 pub returns-clause-inside : goal.returns-clause-inside
-returns-clause-inside c = places-inside (shares_key c.args.self.now.end c.args.keys.now c.args.of.now) c.args.from c.args.self.now.tuples.items c.loop-number.places.items (returns-clause-places c)
+returns-clause-inside c = places-inside (shares_key c.args.self.now.end c.args.keys.now c.args.of.now) c.args.from c.args.self.now.tuples.items c.loop-key.places (returns-clause-places c)

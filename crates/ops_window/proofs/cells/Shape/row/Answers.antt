@@ -10,8 +10,8 @@ loop-i-preserved c =
     let fits : FitsSigned w128 (get_or c.args.totals.now c.loop-i.i (pos 0)) = search rules in
     let value-fits : FitsSigned w64 c.in_ok-finished.field-0 = search rules in
     let value = simp to_z-of_z at (c.in_ok-finished.ensures) in
-    let items = simp to_z-of_z at (c.in_ok-push-2.ensures.items) in
-    row-more _ c.loop-i.vals.items c.push-in-loop-i.new.self.items c.loop-i.i c.as_slice-aggs.result.now c.args.totals.now Count (pos 0) c.in_ok-finished.field-0
+    let items = simp to_z-of_z at (c.in_ok-push-2.ensures) in
+    row-more _ c.loop-i.vals c.push-in-loop-i.new.self c.loop-i.i c.as_slice-aggs.result.now c.args.totals.now Count (pos 0) c.in_ok-finished.field-0
     (omega arith) (omega arith) items value c.loop-i.invariant
 
 pub returns : goal.returns
@@ -20,6 +20,5 @@ returns c =
     let fits : FitsSigned w64 c.args.key.1 = search rules in
     let whole = simp to_z-of_z at (c.loop-i.invariant) in
     let all = finished_totals-end c.loop-i.i c.as_slice-aggs.result.now c.args.totals.now (omega arith) in
-    let vals = c.from_vec.ensures in
     let aggs = c.as_slice-aggs.ensures in
-    rw (time, vals, whole, all, aggs) refl
+    rw (time, whole, all, aggs) refl
