@@ -19,7 +19,3 @@ most_items = 4000000
 -- the most bytes of a script: 64 MiB
 abbrev pub most_input : ℕ
 most_input = 67108864
-
--- the most bytes of a name
-abbrev pub most_name : ℕ
-most_name = 16
