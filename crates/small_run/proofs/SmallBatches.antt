@@ -140,11 +140,6 @@ pub count_below-length : (ts : List Tuple) (b : ℕ) → count_below ts b ≤ le
 count_below-length [] b = omega arith
 count_below-length (t ∷ ts) b = grind (arith, common_steps, count_below-length ts b)
 
--- nothing lies below 0
-pub count_below-zero : (ts : List Tuple) → count_below ts 0 ≡ 0
-count_below-zero [] = refl
-count_below-zero (t ∷ ts) = grind (arith, common_steps, count_below-zero ts)
-
 -- below a later time lie no fewer
 pub count_below-later : (ts : List Tuple) (b e : ℕ) → b ≤ e → count_below ts b ≤ count_below ts e
 count_below-later [] b e h = omega arith

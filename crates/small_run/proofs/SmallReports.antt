@@ -23,7 +23,7 @@ use Rattle.small_run.specs.SmallWorlds.{Sent, SmallWorld, opening, may_release, 
 use Rattle.small_run.specs.SmallSchedules.{phase_events, phases_events, journal, client_name, report_of, run_report}
 use Rattle.small_run.specs.SmallSides.{IsSourceOf, IsNodeOf, IsClientOf}
 use Rattle.small_run.specs.SmallRuns.{IsRunOf}
-use Rattle.small_run.proofs.SmallBatches.{count_below-zero}
+use Rattle.world_safety.proofs.Happening.{none-below}
 use Rattle.small_run.proofs.SmallFrames.{run_from-append, released-SameNode, milled-SameSource, tick-SameSource, node_takes-same, client_takes-same}
 
 -- ---- the opening
@@ -31,7 +31,7 @@ use Rattle.small_run.proofs.SmallFrames.{run_from-append, released-SameNode, mil
 -- a source that sent nothing
 pub opening-IsSourceOf : (s : SmallSource) (plan : Plan) → s.log.now ≡ log_of plan 0 → s.emitted ≡ 0 → s.released ≡ 0 → IsSourceOf s (opening plan)
 opening-IsSourceOf s plan logged emitted released =
-    record { logged = logged; emitted = emitted; released = released; below = sym (count_below-zero (log_of plan 0)) }
+    record { logged = logged; emitted = emitted; released = released; below = sym (none-below (log_of plan 0)) }
 
 -- a node that took nothing
 pub record IsNew (n : SmallNode) : Type 0 where

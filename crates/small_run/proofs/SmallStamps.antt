@@ -11,6 +11,7 @@ use Rattle.std.proofs.lemmas.Map.Keys.{IsDistinct-push, IsDistinct-head, IsDisti
 use Rattle.dpc_model.specs.Lists.{last_below}
 use Rattle.dpc_model.specs.Due.{Stamps, stamp_of, with_stamp, with_stamps, waited_long}
 use Rattle.dpc_model.specs.declared.tuples.Tuple.{Tuple}
+use Rattle.world_safety.proofs.Dues.{all_fail-none}
 
 -- ---- stamps
 
@@ -59,11 +60,6 @@ last_below-same p q (suc n) h =
     let more = last_below-same p q n (λ k less. h k (omega (arith, less))) in
     rw (here, more) refl
 
--- where a test fails below a number, no number below it is the last
-last_below-none : (p : ℕ → Bool) (n : ℕ) → ((k : ℕ) → k < n → p k ≡ false) → last_below p n ≡ None
-last_below-none p zero h = refl
-last_below-none p (suc n) h = rw (h n (omega arith)) (last_below-none p n (λ k less. h k (omega (arith, less))))
-
 -- the number behind the last one, or else the given one
 abbrev pub behind : Option ℕ → ℕ → ℕ
 behind None end = end
@@ -82,7 +78,7 @@ behind-later p q j end (suc n) low passes none same =
           ]) (same n less)
       | inr most ↦
           let here : n ≡ j = omega (arith, low, most) in
-          rw here (rw (passes, none j (omega arith), last_below-none p j (λ k less. none k (omega (arith, less)))) refl)
+          rw here (rw (passes, none j (omega arith), all_fail-none p j (λ k less. none k (omega (arith, less)))) refl)
     ]
 
 -- the bucket behind one with a stamp, where it waited and lies between these numbers
@@ -125,7 +121,7 @@ passed_by delay now buckets end s stamps k e none less =
 -- going over the stamps finds the last bucket that waited, since each bucket has one stamp
 pub ends-last : (delay now buckets end : ℕ) (stamps : Stamps) → IsDistinct nat_eq (keys_of stamps) →
     ends delay now buckets end stamps ≡ behind (last_below (waits delay now end stamps) buckets) end
-ends-last delay now buckets end [] d = rw (last_below-none (waits delay now end []) buckets (λ k less. grind (arith, common_steps))) refl
+ends-last delay now buckets end [] d = rw (all_fail-none (waits delay now end []) buckets (λ k less. grind (arith, common_steps))) refl
 ends-last delay now buckets end (s ∷ stamps) d =
     let others = IsDistinct-tail nat_eq s.0 (keys_of stamps) d in
     let none = none-absent stamps s.0 (IsDistinct-head nat_eq s.0 (keys_of stamps) d) in

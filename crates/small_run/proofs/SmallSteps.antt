@@ -1,5 +1,5 @@
 -- What each event of a small world keeps.
-use Rattle.std.proofs.Common.{◌≡◌, ℕ, zero, suc, ◌+◌, ◌-◌, ◌*◌, ◌/◌, ◌≤◌, ◌<◌, Bool, true, false, cond, List, [], ◌∷◌, ◌++◌, length, take, drop, refl, ◌∙◌, sym, ap, arith, nat_lt, nat_le, ◌&&◌, max, min, Option, Some, None, slice_get}
+use Rattle.std.proofs.Common.{◌≡◌, ℕ, zero, suc, ◌+◌, ◌-◌, ◌*◌, ◌/◌, ◌≤◌, ◌<◌, Bool, true, false, cond, List, [], ◌∷◌, ◌++◌, length, take, drop, refl, ◌∙◌, sym, ap, arith, nat_lt, nat_le, ◌&&◌, max, min, Some, None, slice_get}
 use Rattle.std.specs.List.{filter}
 use Rattle.std.proofs.lemmas.Grind.{common_steps}
 use Rattle.std.proofs.lemmas.Bool.{ltb-true}
@@ -7,7 +7,7 @@ use Rattle.std.proofs.Math.Nat.{le-div_iff_mul-le}
 use Rattle.dpc_model.specs.Lists.{is_nil, last_below}
 use Rattle.dpc_model.specs.Streams.{count_below}
 use Rattle.dpc_model.specs.Fragments.{serial, fragment_value, ideal_upto}
-use Rattle.dpc_model.specs.Reading.{Reader, empty_reader, NoReading, Skipped, Taken, reading, Folded, fold_items, taken_first}
+use Rattle.dpc_model.specs.Reading.{empty_reader, fold_items}
 use Rattle.dpc_model.specs.Sessions.{given_items, boundary_item}
 use Rattle.dpc_model.specs.Due.{waited_long, stamp_of}
 use Rattle.dpc_model.specs.declared.tuples.Tuple.{Tuple}
@@ -19,13 +19,14 @@ use Rattle.dpc_model.specs.declared.plans.StreamRef.TheVariants.{Source, Frag}
 use Rattle.dpc_model.proofs.Folding.{fold_items-taken}
 use Rattle.world_model.specs.Safe.{AreTrueItems, HoldsOf}
 use Rattle.world_safety.proofs.Holding.{fold_items-holds}
-use Rattle.dpc_model.proofs.Elements.{get-drop}
+use Rattle.dpc_model.proofs.Elements.{get-drop, get-take}
 use Rattle.world_safety.proofs.Truth.{stable_items-true, given_items-true}
 use Rattle.world_safety.proofs.Outputs.{cut-held}
 use Rattle.world_safety.proofs.Milling.{upto-items-true}
 use Rattle.small_run.specs.SmallWorlds.{Sent, SmallWorld, log, operators, sends, emitted_below, release_given, released_at, may_release, output_below, ready, mill_given, milled, may_mill, overdue_end, ticked, may_tick, node_takes, client_takes, comes, happens}
 use Rattle.small_run.specs.SmallSafe.{stream_of, AreTrueBatches}
 use Rattle.small_run.proofs.SmallPlans.{IsSmallPlan}
+use Rattle.world_safety.proofs.Clienting.{fold-append}
 
 -- what every event keeps
 pub record IsKept (w : SmallWorld) : Type 0 where
@@ -64,13 +65,6 @@ sends-kept to_client items w k h =
     ]
 
 -- ---- a release
-
--- the elements of a part of a list, by number
-get-take : {X : Type 0} (m i : ℕ) (xs : List X) (x : X) → slice_get (take m xs) i ≡ Some x → slice_get xs i ≡ Some x
-get-take zero i xs x e = absurd (cc)
-get-take (suc m) i [] x e = e
-get-take (suc m) zero (y ∷ xs) x e = e
-get-take (suc m) (suc i) (y ∷ xs) x e = get-take m i xs x e
 
 -- how many logged tuples lie below a time
 count_below-ideal : (t : ℕ) (w : SmallWorld) → count_below (log w) t ≡ length (ideal_upto w.plan (Source 0) t)
@@ -152,27 +146,6 @@ ticked-kept now w k =
 
 -- ---- batches that come
 
--- what was taken first was taken
-first_taken : (i : Item) (o : Option Folded) (f : Folded) → taken_first i o ≡ Some f → (g : Folded) × (o ≡ Some g) × (f ≡ record g { taken = i ∷ g.taken })
-first_taken i None f e = absurd (cc)
-first_taken i (Some g) f e = (g, refl, cc)
-
--- items folded after others
-fold_items-append : (r : Reader) (xs ys : List Item) (f g : Folded) → fold_items r xs ≡ Some f → fold_items f.after ys ≡ Some g →
-    fold_items r (xs ++ ys) ≡ Some (record { after = g.after; taken = f.taken ++ g.taken })
-fold_items-append r [] ys f g e d = let h : f ≡ record { after = r; taken = [] } = cc in rw h (rw h at d)
-fold_items-append r (x ∷ xs) ys f g e d =
-    let whole : Folded = record { after = g.after; taken = f.taken ++ g.taken } in
-    (elim (reading r x) as (λ q. elim q [ NoReading ↦ None | Skipped ↦ fold_items r xs | Taken s ↦ taken_first x (fold_items s xs) ] ≡ Some f →
-    elim q [ NoReading ↦ None | Skipped ↦ fold_items r (xs ++ ys) | Taken s ↦ taken_first x (fold_items s (xs ++ ys)) ] ≡ Some whole) [
-      | NoReading ↦ λ h. absurd (cc)
-      | Skipped ↦ λ h. fold_items-append r xs ys f g h d
-      | Taken s ↦ λ h.
-          let p = first_taken x (fold_items s xs) f h in
-          let more = fold_items-append s xs ys p.0 g p.1 (rw p.2 at d) in
-          rw p.2 (rw more refl)
-    ]) e
-
 -- what the client takes keeps it
 client_takes-kept : (items : List Item) (w : SmallWorld) → IsKept w → AreTrueItems w.plan (Frag 0) items → IsKept (client_takes (fold_items w.client items) w)
 client_takes-kept items w k h =
@@ -184,7 +157,7 @@ client_takes-kept items w k h =
             sent = k.sent;
             node = k.node;
             client = fold_items-holds w.plan (Frag 0) w.client items f k.client h e;
-            folded = fold_items-append empty_reader w.taken f.taken (record { after = w.client; taken = w.taken }) f k.folded (fold_items-taken w.client items f e);
+            folded = fold-append empty_reader w.taken f.taken (record { after = w.client; taken = w.taken }) f k.folded (fold_items-taken w.client items f e);
           }
     ]) refl
 

@@ -1,0 +1,3 @@
+mod Leasts
+mod Numbered
+pub mod Standing

@@ -1,0 +1,6 @@
+//! The numbered stable output that a sender keeps, until every reader acknowledged it.
+#![tactic(auto)]
+
+pub mod buffer;
+#[cfg(test)]
+mod tests;
