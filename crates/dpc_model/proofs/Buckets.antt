@@ -1,19 +1,21 @@
 -- Bucket by bucket: what a bucket adds to the output of a causal engine is its output from the bucket's begin on.
-use Rattle.std.proofs.Common.{◌≡◌, ℕ, ◌+◌, ◌*◌, ◌<◌, ◌≤◌, true, false, cond, ◌==◌, List, [], ◌∷◌, ◌++◌, map, length, drop, get_or, refl, sym, ◌∙◌, ap, arith, nat_le, All}
+use Rattle.std.proofs.Common.{◌≡◌, ℕ, ◌+◌, ◌*◌, ◌<◌, ◌≤◌, true, false, cond, ◌==◌, List, [], ◌∷◌, ◌++◌, map, length, drop, get_or, refl, sym, ◌∙◌, ap, arith, nat_le, None, unwrap_or, All}
 use Rattle.std.proofs.lemmas.Grind.{common_steps}
 use Rattle.std.proofs.Math.Seq.{drop-append_seam}
 use Rattle.std.proofs.lemmas.List.{map-append, append-nil}
 use Rattle.std.proofs.lemmas.List.Elements.{filter-append, recursion_from_All, All-append, All-weaker}
 use Rattle.std.proofs.lemmas.List.Sorted.{IsNonDecreasingBy-from_all_adjacent}
 use Rattle.std.specs.List.{filter, AllByRecursion}
-use Rattle.dpc_model.specs.Lists.{range_with_len}
+use Rattle.dpc_model.specs.Lists.{range_with_len, push, last_or}
 use Rattle.dpc_model.specs.Streams.{NoneBelow, IsOrdered, time_of, InOrder, cut, is_below, cut_each}
-use Rattle.dpc_model.specs.Engines.{Value, IsBucket, LiesIn, LiesBelow, precedes, from_time, ports_of, operator_value, added_output}
-use Rattle.dpc_model.specs.Fragments.{at_port, cut_tagged, IsSoundKind}
+use Rattle.dpc_model.specs.Engines.{Value, IsBucket, LiesIn, LiesBelow, precedes, from_time, ports_of, engine_value, lone_operator, nameless, operator_value, added_output}
+use Rattle.dpc_model.specs.Fragments.{at_port, cut_tagged, read_wire, outputs_after, IsSoundKind}
 use Rattle.dpc_model.specs.Operators.{output_of}
 use Rattle.dpc_model.specs.declared.tuples.Tuple.{Tuple}
 use Rattle.dpc_model.specs.declared.tuples.Tagged.{Tagged}
 use Rattle.dpc_model.specs.declared.operators.OpKind.{OpKind}
+use Rattle.dpc_model.specs.declared.operators.OpSpec.{OpSpec}
+use Rattle.dpc_model.specs.declared.operators.Wire.TheVariants.{Port}
 use Rattle.dpc_model.proofs.Causality.{filter-filter, filter-map}
 use Rattle.dpc_model.proofs.Prefixes.{none_cut}
 use Rattle.dpc_model.proofs.IdealCausality.{at_port-cut, cut-output_of}
@@ -109,6 +111,27 @@ ports_of-from b n xs = ports-from b xs (range_with_len 0 n)
 ports-cut : (b : ℕ) (xs : List Tagged) (ps : List ℕ) → cut_each b (map (λ p. at_port p xs) ps) ≡ map (λ p. at_port p (cut_tagged b xs)) ps
 ports-cut b xs [] = refl
 ports-cut b xs (p ∷ ps) = rw (at_port-cut p b xs) (ap (λ (yss : List (List Tuple)). at_port p (cut_tagged b xs) ∷ yss) (ports-cut b xs ps))
+
+-- the ports that one operator reads
+ports-read : (xs : List Tagged) (ps : List ℕ) → map (read_wire xs []) (map Port ps) ≡ map (λ p. at_port p xs) ps
+ports-read xs [] = refl
+ports-read xs (p ∷ ps) = ap (λ (yss : List (List Tuple)). at_port p xs ∷ yss) (ports-read xs ps)
+
+-- an engine of one operator makes what the operator does
+pub lone-value : (kind : OpKind) (n : ℕ) (xs : List Tagged) (b : ℕ) → engine_value (lone_operator kind n) xs b ≡ operator_value kind n xs b
+lone-value kind n xs b = ap (λ (yss : List (List Tuple)). output_of kind yss b) (ports-read xs (range_with_len 0 n))
+
+pub lone-added : (kind : OpKind) (n w : ℕ) (before bucket : List Tagged) (k : ℕ) →
+    added_output (engine_value (lone_operator kind n)) w before bucket k ≡ added_output (operator_value kind n) w before bucket k
+lone-added kind n w before bucket k = rw (lone-value kind n before (k * w), lone-value kind n (before ++ bucket) ((k + 1) * w)) refl
+
+nameless-outputs : (outs : List (List Tuple)) (ops : List OpSpec) (xs : List Tagged) (b : ℕ) → outputs_after outs (nameless ops) xs b ≡ outputs_after outs ops xs b
+nameless-outputs outs [] xs b = refl
+nameless-outputs outs (op ∷ ops) xs b = nameless-outputs (push outs (output_of op.kind (map (read_wire xs outs) op.reads) b)) ops xs b
+
+-- names do not count
+pub nameless-value : (ops : List OpSpec) (xs : List Tagged) (b : ℕ) → engine_value (nameless ops) xs b ≡ engine_value ops xs b
+nameless-value ops xs b = ap (λ (yss : List (List Tuple)). unwrap_or (last_or None yss) []) (nameless-outputs [] ops xs b)
 
 pub ports_of-cut : (b n : ℕ) (xs : List Tagged) → cut_each b (ports_of n xs) ≡ ports_of n (cut_tagged b xs)
 ports_of-cut b n xs = ports-cut b xs (range_with_len 0 n)

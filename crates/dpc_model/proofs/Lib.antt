@@ -11,3 +11,5 @@ pub mod Sorting
 pub mod Buckets
 pub mod Serial
 pub mod Elements
+pub mod Numbers
+pub mod StableItems

@@ -1,5 +1,4 @@
 -- Every output is in order of time.
-use Rattle.std.specs.Prelude.{⊤}
 use Rattle.std.proofs.Common.{◌≡◌, ℕ, zero, suc, ◌+◌, ◌-◌, ◌*◌, ◌≤◌, Bool, true, false, cond, ◌==◌, List, [], ◌∷◌, ◌++◌, map, refl, arith, Option, Some, None, unwrap_or}
 use Rattle.std.specs.List.{filter, flat_map, last_or}
 use Rattle.dpc_model.specs.Lists.{nth, push, range_with_len, is_nil}

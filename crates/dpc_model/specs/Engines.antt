@@ -1,12 +1,14 @@
 -- Engines that take one bucket after another: what they take, and what they answer.
-use Rattle.std.specs.Prelude.{◌≡◌, ℕ, ◌+◌, ◌*◌, ◌^◌, ◌<◌, ◌≤◌, Bool, IsTrue, ◌&&◌, ◌||◌, ◌==◌, nat_lt, nat_le, List, ◌++◌, map, filter, length, drop, All, ◌↔◌}
+use Rattle.std.specs.Prelude.{⊤, ℕ, ◌+◌, ◌*◌, ◌^◌, ◌<◌, ◌≤◌, Bool, IsTrue, ◌&&◌, ◌||◌, ◌==◌, nat_lt, nat_le, Option, Some, None, List, [], ◌∷◌, ◌++◌, map, filter, length, drop, All}
 use Rattle.std.specs.List.{AllAdjacentBelow}
 use Rattle.dpc_model.specs.Lists.{range_with_len}
-use Rattle.dpc_model.specs.Fragments.{at_port}
+use Rattle.dpc_model.specs.Fragments.{at_port, fragment_value}
 use Rattle.dpc_model.specs.Operators.{output_of}
 use Rattle.dpc_model.specs.declared.tuples.Tuple.{Tuple}
 use Rattle.dpc_model.specs.declared.tuples.Tagged.{Tagged}
 use Rattle.dpc_model.specs.declared.operators.OpKind.{OpKind}
+use Rattle.dpc_model.specs.declared.operators.OpSpec.{OpSpec}
+use Rattle.dpc_model.specs.declared.operators.Wire.TheVariants.{Port}
 
 -- what an engine makes of its whole inputs, known up to a time
 abbrev pub Value : Type 0
@@ -30,6 +32,11 @@ pub record FitsBucket (width k : ℕ) (xs : List Tagged) : Type 0 where
   pub bucket : IsBucket width k xs
   pub end : (k + 1) * width < 2 ^ 64
 
+-- what an engine takes as bucket k: inputs of the bucket, where its buckets have a width, else any
+abbrev pub Accepts : Option ℕ → ℕ → List Tagged → Type 0
+Accepts None k xs = ⊤
+Accepts (Some width) k xs = FitsBucket width k xs
+
 -- a tagged tuple lies below a time
 abbrev pub LiesBelow : ℕ → Tagged → Type 0
 LiesBelow b x = x.tuple.stime < b
@@ -42,6 +49,18 @@ from_time b ts = filter (λ t. nat_le b t.stime) ts
 abbrev pub ports_of : ℕ → List Tagged → List (List Tuple)
 ports_of n xs = map (λ p. at_port p xs) (range_with_len 0 n)
 
+-- an engine of these operators makes what a fragment of them does
+abbrev pub engine_value : List OpSpec → Value
+engine_value ops = fragment_value ops
+
+-- one operator of n inputs, which it reads by ports 0 to n - 1
+abbrev pub lone_operator : OpKind → ℕ → List OpSpec
+lone_operator kind n = record { name = []; kind = kind; reads = map Port (range_with_len 0 n) } ∷ []
+
+-- the operators without their names
+abbrev pub nameless : List OpSpec → List OpSpec
+nameless ops = map (λ (op : OpSpec). record { name = []; kind = op.kind; reads = op.reads }) ops
+
 -- what an operator makes of n inputs
 abbrev pub operator_value : OpKind → ℕ → Value
 operator_value kind n xs b = output_of kind (ports_of n xs) b
@@ -49,13 +68,3 @@ operator_value kind n xs b = output_of kind (ports_of n xs) b
 -- the output that bucket k adds, where the inputs before it are known
 abbrev pub added_output : Value → ℕ → List Tagged → List Tagged → ℕ → List Tuple
 added_output value width before bucket k = drop (length (value before (k * width))) (value (before ++ bucket) ((k + 1) * width))
-
--- a value that an engine has is the same as another's
-abbrev pub SameValue : Value → Value → Type 0
-SameValue v w = (xs : List Tagged) (b : ℕ) → v xs b ≡ w xs b
-
--- two engines have one width, one value, and accept the same
-pub record SameMake (w w' : ℕ) (v v' : Value) (a a' : ℕ → List Tagged → Type 0) : Type 0 where
-  pub width : w ≡ w'
-  pub value : SameValue v v'
-  pub accepts : (k : ℕ) (xs : List Tagged) → a k xs ↔ a' k xs

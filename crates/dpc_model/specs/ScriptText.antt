@@ -3,7 +3,9 @@ use Rattle.std.specs.Prelude.{ℕ, Bool, ◌==◌, if◌then◌else◌, List, []
 use Rattle.std.specs.Fmt.{signed_decimal}
 use Rattle.dpc_model.specs.Lists.{nth}
 use Rattle.dpc_model.specs.Words.{Word, text_of}
-use Rattle.dpc_model.specs.Actors.{Role, IsSource, IsNode, IsClient, Nobody, role_of}
+use Rattle.dpc_model.specs.Actors.{role_of}
+use Rattle.dpc_model.specs.declared.actors.Role.{Role}
+use Rattle.dpc_model.specs.declared.actors.Role.TheVariants.{Source as IsSource, Node as IsNode, Client as IsClient, Nobody}
 use Rattle.dpc_model.specs.Formula.{Formula, Col, Num, Time, Neg, Not, Bin, If}
 use Rattle.dpc_model.specs.declared.tuples.Tuple.{Tuple}
 use Rattle.dpc_model.specs.declared.expressions.BinOp.{BinOp}
@@ -174,3 +176,7 @@ script_lines s = plan_lines s.plan ++ (codes "begin" ∷ []) ∷ flat_map (phase
 -- the canonical text of a script
 unfoldable pub script_text : Script → List ℕ
 script_text s = text_of (script_lines s)
+
+-- the script of version 3 that says the same: a line of its own tells whether tuples pass
+abbrev pub upgraded : Script → Script
+upgraded s = record s { plan = record s.plan { version = 3 } }

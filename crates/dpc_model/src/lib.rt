@@ -1,6 +1,7 @@
 //! The types of a replicated stream engine, and the definitions that the contracts of its crates cite.
 #![tactic(auto)]
 
+pub mod actors;
 pub mod batches;
 pub mod engines;
 pub mod exact;

@@ -1,6 +1,7 @@
 //! A list that contracts see as a list of its elements.
-ghost use Rattle.std.specs.Prelude.{◌≡◌, ◌↔◌, List, [], length, IsTrue};
+ghost use Rattle.std.specs.Prelude.{◌≡◌, ◌↔◌, ◌∷◌, ◌++◌, List, [], length, IsTrue, OnOk, OnErr};
 
+use crate::faults::NoMemory;
 use std::marker::Model;
 
 /// The elements in order. It is made of a `Vec`, and gives it back, without memory.
@@ -55,5 +56,16 @@ impl<T> Listed<T> {
         ensures { IsTrue result ↔ (self.now ≡ []) }
     {
         self.elements.is_empty()
+    }
+}
+
+impl<T: Drop> Listed<T> {
+    /// One more element, at the end. Where memory is wanted, the list stays.
+    pub fn push(&mut self, element: T) -> Result<(), NoMemory>
+        ensures ok { OnOk result (self.new ≡ self.old ++ element ∷ []) }
+        ensures err { OnErr result (self.new ≡ self.old) }
+    {
+        self.elements.push(element)?;
+        Ok(())
     }
 }

@@ -32,8 +32,8 @@ tagged_from-push p (us ∷ ins) ts =
     let rest : tagged_from (p + 1) (ins ++ ts ∷ []) ≡ tagged_from (p + 1) ins ++ map (tag (p + suc (length ins))) ts = rw (← one) (tagged_from-push (p + 1) ins ts) in
     rw rest (sym (append_assoc (map (tag p) us) (tagged_from (p + 1) ins) (map (tag (p + suc (length ins))) ts)))
 
--- one wire more
-pub gathered-more : (f : Wire → List Tuple) (ws : List Wire) (i : ℕ) (d : Wire) → i < length ws →
+-- one wire or stream more
+pub gathered-more : {X : Type 0} (f : X → List Tuple) (ws : List X) (i : ℕ) (d : X) → i < length ws →
     tagged_from 0 (map f (take i ws)) ++ map (tag i) (f (get_or ws i d)) ≡ tagged_from 0 (map f (take (i + 1) ws))
 gathered-more f ws i d h =
     let number : 0 + length (map f (take i ws)) ≡ i = omega (arith, length-map (take i ws) f, length-take-le i ws (omega (arith, h))) in

@@ -1,12 +1,10 @@
--- What the operators of a fragment give: cut at a time, in order of time, and one operator more.
-use Rattle.std.specs.Prelude.{⊤}
-use Rattle.std.proofs.Common.{◌≡◌, ℕ, zero, suc, ◌≤◌, Bool, ◌==◌, List, [], ◌∷◌, ◌++◌, map, refl, ◌∙◌, ap, Option, Some, None, unwrap_or, option_map}
-use Rattle.std.proofs.lemmas.List.{map-append}
+-- What the operators of a fragment give: what a test keeps of it, its order, and one operator more.
+use Rattle.std.proofs.Common.{◌≡◌, ℕ, zero, suc, Bool, ◌==◌, List, [], ◌∷◌, ◌++◌, map, refl, ◌∙◌, ap, Option, Some, None, unwrap_or, option_map}
 use Rattle.std.specs.List.{filter, last_or}
 use Rattle.dpc_model.specs.Lists.{nth, push}
-use Rattle.dpc_model.specs.Streams.{IsOrdered, InOrder, cut, is_below, cut_each}
+use Rattle.dpc_model.specs.Streams.{IsOrdered, InOrder}
 use Rattle.dpc_model.specs.Operators.{output_of}
-use Rattle.dpc_model.specs.Fragments.{serial, at_port, cut_tagged, read_wire, outputs_after, fragment_value}
+use Rattle.dpc_model.specs.Fragments.{serial, at_port, read_wire, outputs_after, fragment_value}
 use Rattle.dpc_model.specs.declared.tuples.Tuple.{Tuple}
 use Rattle.dpc_model.specs.declared.tuples.Tagged.{Tagged}
 use Rattle.dpc_model.specs.declared.operators.Wire.{Wire}
@@ -16,8 +14,6 @@ use Rattle.dpc_model.proofs.Buckets.{tagged_time}
 use Rattle.dpc_model.proofs.Causality.{filter-filter, filter-map}
 use Rattle.dpc_model.proofs.Order.{outputs-InOrder, value-InOrder}
 use Rattle.fragment_mill.specs.Mills.{inputs_of}
-use Rattle.fragment_mill.specs.Milling.{IsCausalKind}
-use Rattle.fragment_mill.specs.declared.mill.Stage.{Stage}
 use Rattle.fragment_mill.proofs.Serial.{serial-kept}
 
 -- ---- what a test of the tuples keeps
@@ -49,26 +45,8 @@ module _ (test : Tuple → Bool) where
   reads-kept xs outs (w ∷ ws) =
       rw (read_wire-kept xs outs w) (ap (λ (yss : List (List Tuple)). read_wire (kept xs) (kept_each outs) w ∷ yss) (reads-kept xs outs ws))
 
-  pub inputs-kept : (xs : List Tagged) (outs : List (List Tuple)) (s : Stage) → kept (inputs_of xs outs s) ≡ inputs_of (kept xs) (kept_each outs) s
-  inputs-kept xs outs s = serial-kept test (map (read_wire xs outs) s.reads) ∙ ap (λ (yss : List (List Tuple)). serial yss) (reads-kept xs outs s.reads)
-
--- ---- causal operators
-
-abbrev pub AreCausal : List OpSpec → Type 0
-AreCausal [] = ⊤
-AreCausal (op ∷ ops) = IsCausalKind op.kind × AreCausal ops
-
-pub cut-outputs : (outs : List (List Tuple)) (ops : List OpSpec) (xs : List Tagged) (b b' : ℕ) → AreCausal ops → b ≤ b' →
-    cut_each b (outputs_after outs ops xs b') ≡ outputs_after (cut_each b outs) ops (cut_tagged b xs) b
-cut-outputs outs [] xs b b' c h = refl
-cut-outputs outs (op ∷ ops) xs b b' c h =
-    let ins = map (read_wire xs outs) op.reads in
-    let out = output_of op.kind ins b' in
-    cut-outputs (push outs out) ops xs b b' c.1 h
-    ∙ ap (λ (yss : List (List Tuple)). outputs_after yss ops (cut_tagged b xs) b)
-    (map-append (λ (ts : List Tuple). cut ts b) outs (out ∷ [])
-    ∙ ap (λ (ts : List Tuple). push (cut_each b outs) ts)
-    (c.0 ins b b' h ∙ ap (λ (yss : List (List Tuple)). output_of op.kind yss b) (reads-kept (is_below b) xs outs op.reads)))
+  pub inputs-kept : (xs : List Tagged) (outs : List (List Tuple)) (ws : List Wire) → kept (inputs_of xs outs ws) ≡ inputs_of (kept xs) (kept_each outs) ws
+  inputs-kept xs outs ws = serial-kept test (map (read_wire xs outs) ws) ∙ ap (λ (yss : List (List Tuple)). serial yss) (reads-kept xs outs ws)
 
 -- ---- the last output
 
@@ -83,11 +61,6 @@ module _ (f : List Tuple → List Tuple) (none : f [] ≡ []) where
 
   pub last-mapped : (outs : List (List Tuple)) → f (unwrap_or (last_or None outs) []) ≡ unwrap_or (last_or None (map f outs)) []
   last-mapped outs = unwrap-map (last_or None outs) ∙ ap (λ (o : Option (List Tuple)). unwrap_or o []) (last-map None outs)
-
-pub cut-value : (ops : List OpSpec) (xs : List Tagged) (b b' : ℕ) → AreCausal ops → b ≤ b' → cut (fragment_value ops xs b') b ≡ fragment_value ops (cut_tagged b xs) b
-cut-value ops xs b b' c h =
-    last-mapped (λ (ts : List Tuple). cut ts b) refl (outputs_after [] ops xs b')
-    ∙ ap (λ (yss : List (List Tuple)). unwrap_or (last_or None yss) []) (cut-outputs [] ops xs b b' c h)
 
 -- ---- in order of time
 

@@ -7,28 +7,30 @@ use Rattle.std.proofs.lemmas.List.Elements.{All-from_recursion}
 use Rattle.std.proofs.Math.Seq.{drop-append_seam}
 use Rattle.std.specs.List.{AllByRecursion}
 use Rattle.dpc_model.specs.Streams.{NoneBelow, IsOrdered, cut, is_below, cut_each}
-use Rattle.dpc_model.specs.Engines.{IsBucket, LiesIn, LiesBelow, from_time, added_output}
+use Rattle.dpc_model.specs.Engines.{IsBucket, LiesIn, LiesBelow, from_time, engine_value}
 use Rattle.dpc_model.specs.Operators.{output_of}
-use Rattle.dpc_model.specs.Fragments.{tagged_from, cut_tagged, read_wire, outputs_after}
+use Rattle.dpc_model.specs.Fragments.{tagged_from, cut_tagged, read_wire, outputs_after, AreSoundOps}
 use Rattle.dpc_model.specs.declared.tuples.Tuple.{Tuple}
 use Rattle.dpc_model.specs.declared.tuples.Tagged.{Tagged}
 use Rattle.dpc_model.specs.declared.operators.OpSpec.{OpSpec}
 use Rattle.dpc_model.proofs.Buckets.{tagged_time, from_tagged, ordered-split, cut-below, cut-before, from-bucket, LiesBelow-next, inputs-ordered}
 use Rattle.dpc_model.proofs.Causality.{IsOrdered-sort}
+use Rattle.dpc_model.proofs.IdealCausality.{cut-output_of, cut-outputs_after}
 use Rattle.dpc_model.proofs.Order.{reads-InOrder, outputs-InOrder, output_of-InOrder}
-use Rattle.fragment_mill.specs.Mills.{kind_of, inputs_of}
-use Rattle.fragment_mill.specs.Milling.{own_value, IsFit}
+use Rattle.fragment_mill.specs.Mills.{kind_of, operators_of, inputs_of}
+use Rattle.fragment_mill.specs.Milling.{added_of, IsFit}
 use Rattle.fragment_mill.specs.declared.mill.Stage.{Stage}
 use Rattle.fragment_mill.proofs.Serial.{serial-adjacent}
-use Rattle.fragment_mill.proofs.Outputs.{AreCausal, cut-outputs, reads-kept, inputs-kept}
+use Rattle.fragment_mill.proofs.Operators.{added-fit}
+use Rattle.fragment_mill.proofs.Outputs.{reads-kept, inputs-kept}
 
 -- ---- tagged tuples below a time, and from it on
 
-tagged_none : (b n : ℕ) (ys : List Tagged) → b ≤ n → NoneBelow tagged_time n ys → cut_tagged b ys ≡ []
+pub tagged_none : (b n : ℕ) (ys : List Tagged) → b ≤ n → NoneBelow tagged_time n ys → cut_tagged b ys ≡ []
 tagged_none b n [] h s = refl
 tagged_none b n (y ∷ ys) h s = grind (arith, common_steps, s.0, tagged_none b n ys h s.1)
 
-tagged_all : (b n : ℕ) (ys : List Tagged) → b ≤ n → NoneBelow tagged_time n ys → from_tagged b ys ≡ ys
+pub tagged_all : (b n : ℕ) (ys : List Tagged) → b ≤ n → NoneBelow tagged_time n ys → from_tagged b ys ≡ ys
 tagged_all b n [] h s = refl
 tagged_all b n (y ∷ ys) h s = grind (arith, common_steps, s.0, tagged_all b n ys h s.1)
 
@@ -67,7 +69,7 @@ from-inside w k (y ∷ ys) h =
 -- ---- a stage behind these operators
 
 module _ (w k : ℕ) (before inputs : List Tagged) (ops : List OpSpec) (s : Stage) (below : All (LiesBelow (k * w)) before) (inorder : IsOrdered tagged_time before)
-    (bucket : IsBucket w k inputs) (causal : AreCausal ops) where
+    (bucket : IsBucket w k inputs) (sound : AreSoundOps ops) where
   -- what the operators gave up to the begin of the bucket, and up to its end
   abbrev stood : List (List Tuple)
   stood = outputs_after [] ops before (k * w)
@@ -84,40 +86,40 @@ module _ (w k : ℕ) (before inputs : List Tagged) (ops : List OpSpec) (s : Stag
 
   given-cut : cut_each (k * w) given ≡ stood
   given-cut =
-      cut-outputs [] ops (before ++ inputs) (k * w) ((k + 1) * w) causal later
+      cut-outputs_after [] ops (before ++ inputs) (k * w) ((k + 1) * w) sound later
       ∙ ap (λ (xs : List Tagged). outputs_after [] ops xs (k * w)) (cut-before w k before inputs below bucket.inside)
 
   -- what the stage reads before the bucket, and in it
-  reads-before : cut_tagged (k * w) (inputs_of (before ++ inputs) given s) ≡ inputs_of before stood s
-  reads-before = inputs-kept (is_below (k * w)) (before ++ inputs) given s ∙ rw (cut-before w k before inputs below bucket.inside, given-cut) refl
+  reads-before : cut_tagged (k * w) (inputs_of (before ++ inputs) given s.reads) ≡ inputs_of before stood s.reads
+  reads-before = inputs-kept (is_below (k * w)) (before ++ inputs) given s.reads ∙ rw (cut-before w k before inputs below bucket.inside, given-cut) refl
 
-  reads-added : from_tagged (k * w) (inputs_of (before ++ inputs) given s) ≡ inputs_of inputs added s
-  reads-added = inputs-kept (λ (t : Tuple). nat_le (k * w) t.stime) (before ++ inputs) given s ∙ rw (from-bucket w k before inputs below bucket.inside) refl
+  reads-added : from_tagged (k * w) (inputs_of (before ++ inputs) given s.reads) ≡ inputs_of inputs added s.reads
+  reads-added = inputs-kept (λ (t : Tuple). nat_le (k * w) t.stime) (before ++ inputs) given s.reads ∙ rw (from-bucket w k before inputs below bucket.inside) refl
 
-  pub inputs-split : inputs_of before stood s ++ inputs_of inputs added s ≡ inputs_of (before ++ inputs) given s
+  pub inputs-split : inputs_of before stood s.reads ++ inputs_of inputs added s.reads ≡ inputs_of (before ++ inputs) given s.reads
   inputs-split =
       rw (← reads-before, ← reads-added)
-      (sym (tagged-split (k * w) (inputs_of (before ++ inputs) given s) (IsOrdered-sort tagged_time (tagged_from 0 (map (read_wire (before ++ inputs) given) s.reads)))))
+      (sym (tagged-split (k * w) (inputs_of (before ++ inputs) given s.reads) (IsOrdered-sort tagged_time (tagged_from 0 (map (read_wire (before ++ inputs) given) s.reads)))))
 
   -- all that it reads lies below the end of the bucket
-  reads-end : cut_tagged ((k + 1) * w) (inputs_of (before ++ inputs) given s) ≡ inputs_of (before ++ inputs) given s
+  reads-end : cut_tagged ((k + 1) * w) (inputs_of (before ++ inputs) given s.reads) ≡ inputs_of (before ++ inputs) given s.reads
   reads-end =
       let end = (k + 1) * w in
       let whole = cut-below end (before ++ inputs) (LiesBelow-next w k before inputs below bucket.inside) in
-      let same : cut_each end given ≡ given = cut-outputs [] ops (before ++ inputs) end end causal (omega arith) ∙ ap (λ (xs : List Tagged). outputs_after [] ops xs end) whole in
-      inputs-kept (is_below end) (before ++ inputs) given s ∙ rw (whole, same) refl
+      let same : cut_each end given ≡ given = cut-outputs_after [] ops (before ++ inputs) end end sound (omega arith) ∙ ap (λ (xs : List Tagged). outputs_after [] ops xs end) whole in
+      inputs-kept (is_below end) (before ++ inputs) given s.reads ∙ rw (whole, same) refl
 
-  pub added-bucket : IsBucket w k (inputs_of inputs added s)
+  pub added-bucket : IsBucket w k (inputs_of inputs added s.reads)
   added-bucket = record {
     inside =
-        let all = subst (λ (ys : List Tagged). AllByRecursion (LiesBelow ((k + 1) * w)) ys) reads-end (cut_below ((k + 1) * w) (inputs_of (before ++ inputs) given s)) in
-        All-from_recursion (LiesIn w k) (inputs_of inputs added s)
-        (subst (λ (ys : List Tagged). AllByRecursion (LiesIn w k) ys) reads-added (from-inside w k (inputs_of (before ++ inputs) given s) all));
+        let all = subst (λ (ys : List Tagged). AllByRecursion (LiesBelow ((k + 1) * w)) ys) reads-end (cut_below ((k + 1) * w) (inputs_of (before ++ inputs) given s.reads)) in
+        All-from_recursion (LiesIn w k) (inputs_of inputs added s.reads)
+        (subst (λ (ys : List Tagged). AllByRecursion (LiesIn w k) ys) reads-added (from-inside w k (inputs_of (before ++ inputs) given s.reads) all));
     ordered = serial-adjacent (map (read_wire inputs added) s.reads);
   }
 
   -- what the stage adds is what its whole output has from the begin of the bucket on
-  pub added-output : IsFit w s → added_output (own_value s.operator) w (inputs_of before stood s) (inputs_of inputs added s) k
+  pub added-output : IsFit w s → added_of s.operator (inputs_of before stood s.reads) (inputs_of inputs added s.reads) k
       ≡ from_time (k * w) (output_of (kind_of s.operator) (map (read_wire (before ++ inputs) given) s.reads) ((k + 1) * w))
   added-output fit =
       let kind = kind_of s.operator in
@@ -129,11 +131,12 @@ module _ (w k : ℕ) (before inputs : List Tagged) (ops : List OpSpec) (s : Stag
       let whole = output_of kind ins ((k + 1) * w) in
       let cut-ins : cut_each (k * w) ins ≡ ins' =
       reads-kept (is_below (k * w)) (before ++ inputs) given s.reads ∙ rw (cut-before w k before inputs below bucket.inside, given-cut) refl in
-      let old : own_value s.operator (inputs_of before stood s) (k * w) ≡ cut whole (k * w) =
+      let old : engine_value (operators_of s.operator) (inputs_of before stood s.reads) (k * w) ≡ cut whole (k * w) =
       fit.makes ins' (k * w) (length-map s.reads (read_wire before stood)) ordered-ins'
-      ∙ ap (λ (yss : List (List Tuple)). output_of kind yss (k * w)) (sym cut-ins) ∙ sym (fit.causal ins (k * w) ((k + 1) * w) later) in
-      let new : own_value s.operator (inputs_of before stood s ++ inputs_of inputs added s) ((k + 1) * w) ≡ whole =
-      ap (λ (ys : List Tagged). own_value s.operator ys ((k + 1) * w)) inputs-split ∙ fit.makes ins ((k + 1) * w) (length-map s.reads (read_wire (before ++ inputs) given)) ordered-ins in
-      rw (old, new)
+      ∙ ap (λ (yss : List (List Tuple)). output_of kind yss (k * w)) (sym cut-ins) ∙ sym (cut-output_of kind ins (k * w) ((k + 1) * w) fit.sound later) in
+      let new : engine_value (operators_of s.operator) (inputs_of before stood s.reads ++ inputs_of inputs added s.reads) ((k + 1) * w) ≡ whole =
+      ap (λ (ys : List Tagged). engine_value (operators_of s.operator) ys ((k + 1) * w)) inputs-split ∙ fit.makes ins ((k + 1) * w) (length-map s.reads (read_wire (before ++ inputs) given)) ordered-ins in
+      added-fit w k s.operator (inputs_of before stood s.reads) (inputs_of inputs added s.reads) fit.width
+      ∙ rw (old, new)
       (ap (λ (ts : List Tuple). drop (length (cut whole (k * w))) ts) (ordered-split (k * w) whole (output_of-InOrder kind ins ((k + 1) * w) ordered-ins))
       ∙ drop-append_seam (cut whole (k * w)) (from_time (k * w) whole))

@@ -1,10 +1,11 @@
 -- The operators of a fragment as one engine over buckets.
-use Rattle.std.specs.Prelude.{◌≡◌, ℕ, ◌*◌, ◌<◌, Bool, false, List, [], map, length, take, All, slice_index_or}
+use Rattle.std.specs.Prelude.{◌≡◌, ℕ, ◌*◌, ◌<◌, Bool, false, Option, Some, None, List, [], map, length, take, All, slice_index_or}
 use Rattle.dpc_model.specs.Streams.{IsOrdered}
-use Rattle.dpc_model.specs.Engines.{Value, LiesBelow}
-use Rattle.dpc_model.specs.Fragments.{serial, read_wire, outputs_after, fragment_value}
+use Rattle.dpc_model.specs.Engines.{LiesBelow, lone_operator}
+use Rattle.dpc_model.specs.Fragments.{serial, read_wire, outputs_after}
 use Rattle.dpc_model.specs.declared.tuples.Tuple.{Tuple}
 use Rattle.dpc_model.specs.declared.tuples.Tagged.{Tagged}
+use Rattle.dpc_model.specs.declared.operators.Wire.{Wire}
 use Rattle.dpc_model.specs.declared.operators.OpSpec.{OpSpec}
 use Rattle.dpc_model.specs.declared.operators.OpKind.{OpKind}
 use Rattle.dpc_model.specs.declared.operators.OpKind.TheVariants as kind
@@ -26,6 +27,40 @@ kind_of (Map m) = kind.Map m.exprs
 kind_of (Union u) = kind.Union
 kind_of (Join j) = kind.Join j.within j.keys
 kind_of (Aggregate a) = kind.Aggregate a.size a.step a.group a.aggs
+
+-- how many ports it reads
+abbrev pub port_count : Operator → ℕ
+port_count (Filter f) = 1
+port_count (Map m) = 1
+port_count (Union u) = u.ports
+port_count (Join j) = 2
+port_count (Aggregate a) = 1
+
+-- itself as the operators of an engine
+abbrev pub operators_of : Operator → List OpSpec
+operators_of o = lone_operator (kind_of o) (port_count o)
+
+-- the width of its buckets. A filter and a map take any inputs
+abbrev pub width_of : Operator → Option ℕ
+width_of (Filter f) = None
+width_of (Map m) = None
+width_of (Union u) = Some u.width
+width_of (Join j) = Some j.width
+width_of (Aggregate a) = Some a.width
+
+abbrev pub next_of : Operator → ℕ
+next_of (Filter f) = f.next
+next_of (Map m) = m.next
+next_of (Union u) = u.next
+next_of (Join j) = j.next
+next_of (Aggregate a) = a.next
+
+abbrev pub spent_of : Operator → Bool
+spent_of (Filter f) = f.spent
+spent_of (Map m) = m.spent
+spent_of (Union u) = u.spent
+spent_of (Join j) = j.spent
+spent_of (Aggregate a) = a.spent
 
 -- an operator of so many inputs before bucket 0
 abbrev pub new_operator : ℕ → ℕ → OpKind → Operator
@@ -60,10 +95,6 @@ spec_of s = record { name = []; kind = kind_of s.operator; reads = s.reads }
 abbrev pub specs_of : List Stage → List OpSpec
 specs_of stages = map spec_of stages
 
--- a mill gives the value of its operators
-abbrev pub mill_value : MillState → Value
-mill_value m xs b = fragment_value (specs_of m.stages) xs b
-
 -- an operator of a plan as a stage, before bucket 0
 abbrev pub new_stage : ℕ → OpSpec → Stage
 new_stage width op = record { reads = op.reads; operator = new_operator width (length op.reads) op.kind }
@@ -72,15 +103,15 @@ new_stage width op = record { reads = op.reads; operator = new_operator width (l
 abbrev pub new_mill : ℕ → List OpSpec → MillState
 new_mill width ops = record { width = width; stages = map (new_stage width) ops; next = 0; spent = false }
 
--- the inputs that a stage read, in serial order, where the operators before it gave these outputs
-abbrev pub inputs_of : List Tagged → List (List Tuple) → Stage → List Tagged
-inputs_of xs outputs s = serial (map (read_wire xs outputs) s.reads)
+-- what these wires read, in serial order, where the operators before gave these outputs
+abbrev pub inputs_of : List Tagged → List (List Tuple) → List Wire → List Tagged
+inputs_of xs outputs reads = serial (map (read_wire xs outputs) reads)
 
 -- each stage took what the ports and the operators before it gave up to bucket k
 abbrev pub StagesAfter : ℕ → List Stage → List Tagged → ℕ → Type 0
 StagesAfter width stages xs k =
     (i : ℕ) (d : Stage) → i < length stages →
-    OperatorAfter (slice_index_or stages i d).operator (inputs_of xs (outputs_after [] (specs_of (take i stages)) xs (k * width)) (slice_index_or stages i d)) k
+    OperatorAfter (slice_index_or stages i d).operator (inputs_of xs (outputs_after [] (take i (specs_of stages)) xs (k * width)) (slice_index_or stages i d).reads) k
 
 -- it took these inputs, those below bucket k, in order of time
 pub record MillAfter (m : MillState) (xs : List Tagged) (k : ℕ) : Type 0 where

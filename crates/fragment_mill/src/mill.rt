@@ -1,13 +1,11 @@
 //! The mill of a fragment.
-ghost use Rattle.std.specs.Prelude.{◌≡◌, ◌+◌, ◌^◌, ◌<◌, ◌++◌, ◌↔◌, List, [], map, length, slice_get, unwrap_or, true, false, Some, None, IfOk, OnOk, OnErr, IsTrue, is_err, All, refl};
-ghost use Rattle.std.specs.List.{AllZip};
+ghost use Rattle.std.specs.Prelude.{◌≡◌, ◌<◌, ◌↔◌, ℕ, [], map, length, slice_get, unwrap_or, false, Some, None, IfOk, IsTrue, All};
 ghost use Rattle.dpc_model.specs.Lists.{last_or};
-ghost use Rattle.dpc_model.specs.Engines.{FitsBucket, SameValue, added_output};
-ghost use Rattle.dpc_model.specs.Fragments.{fragment_value, AreSoundFrags, AreSoundOps};
+ghost use Rattle.dpc_model.specs.Engines.{nameless};
+ghost use Rattle.dpc_model.specs.Fragments.{AreSoundFrags, AreSoundOps};
 ghost use Rattle.dpc_model.specs.declared.plans.FragSpec.{FragSpec};
-ghost use Rattle.dpc_model.specs.declared.tuples.Tagged.{Tagged};
-ghost use Rattle.fragment_mill.specs.Mills.{OperatorAfter, MillAfter, mill_value, new_mill, new_stage};
-ghost use Rattle.fragment_mill.specs.Milling.{Alike};
+ghost use Rattle.fragment_mill.specs.Mills.{OperatorAfter, MillAfter, specs_of, new_mill, new_stage};
+ghost use Rattle.fragment_mill.specs.Milling.{IsFit};
 
 use crate::operator::Operator;
 use dpc_model::engines::Engine;
@@ -92,11 +90,12 @@ fn are_same(stages: &[Stage], others: &[Stage]) -> bool
 
 /// Brings each stage to its state before bucket 0.
 fn reset_all(stages: &mut [Stage])
-    ensures made { AllZip Alike stages.old stages.new }
+    ensures specs { specs_of stages.new ≡ specs_of stages.old }
+    ensures fits { (width : ℕ) → All (IsFit width) stages.old → All (IsFit width) stages.new }
     ensures after { All (λ s. OperatorAfter s.operator [] 0) stages.new }
 {
     for stage in stages.iter_mut() {
-        stage.operator.reset();
+        stage.reset();
     }
 }
 
@@ -116,7 +115,7 @@ impl FragMill {
         requires known { frag < length plan.now.frags }
         requires sound { AreSoundFrags plan.now.frags }
         ensures made { IfOk result (λ m. (f : FragSpec) → slice_get plan.now.frags frag ≡ Some f → m ≡ new_mill plan.now.width f.ops) }
-        ensures value { IfOk result (λ m. (f : FragSpec) → slice_get plan.now.frags frag ≡ Some f → SameValue (mill_value m) (fragment_value f.ops)) }
+        ensures operators { IfOk result (λ m. (f : FragSpec) → slice_get plan.now.frags frag ≡ Some f → specs_of m.stages ≡ nameless f.ops) }
         ensures width { IfOk result (λ m. m.width ≡ plan.now.width) }
         ensures fresh { IfOk result (λ m. m.spent ≡ false) }
         ensures after { IfOk result (λ m. MillAfter m [] 0) }
@@ -130,47 +129,12 @@ impl FragMill {
             spent: false,
         })
     }
-
-    /// Lets each stage in turn take bucket k, and answers their outputs. Until all are done the mill
-    /// counts as spent.
-    fn outputs(
-        &mut self,
-        alloc: Global,
-        inputs: &[Tagged],
-        k: u64,
-    ) -> Result<Vec<Tuples>, StepFault>
-        requires ready { self.old.spent ≡ false }
-        requires next { k ≡ self.old.next }
-        requires range { k + 1 < 2 ^ 64 }
-        requires accepts { FitsBucket self.old.width k inputs.now }
-        ensures answer { IfOk result (λ outs. (before : List Tagged) → MillAfter self.old before k
-            → unwrap_or (last_or None outs.items) [] ≡ added_output (mill_value self.old) self.old.width before inputs.now k) }
-        ensures after { OnOk result ((before : List Tagged) → MillAfter self.old before k
-            → MillAfter self.new (before ++ inputs.now) (k + 1)) }
-        ensures next { OnOk result (self.new.next ≡ k + 1) }
-        ensures kept { OnErr result (self.new.next ≡ self.old.next) }
-        ensures stays { IsTrue self.new.spent ↔ IsTrue (is_err result) }
-        ensures width { self.new.width ≡ self.old.width }
-        ensures made { SameValue (mill_value self.old) (mill_value self.new) }
-    {
-        self.spent = true;
-        let mut outputs = Vec::new(alloc);
-        for i in 0..self.stages.len() {
-            let output = self.stages[i].bucket(alloc, inputs, outputs.as_slice(), k)?;
-            outputs.push(output)?;
-        }
-        self.next = k + 1;
-        self.spent = false;
-        Ok(outputs)
-    }
 }
 
 impl Engine for FragMill {
-    ghost width = { λ m. m.width };
+    ghost width = { λ m. Some m.width };
 
-    ghost value = { λ m. mill_value m };
-
-    ghost accepts = { λ m k xs. FitsBucket m.width k xs };
+    ghost operators = { λ m. specs_of m.stages };
 
     ghost next = { λ m. m.next };
 
@@ -178,26 +142,21 @@ impl Engine for FragMill {
 
     ghost after = { λ m xs k. MillAfter m xs k };
 
-    ghost alike = { λ m n. m ≡ n };
-
-    ghost alike_make = { λ x y e. Prim.rw e (record {
-      width = refl;
-      value = λ xs b. refl;
-      accepts = λ k xs. (λ h. h, λ h. h);
-    }) };
-
-    ghost alike_after = { λ x y xs k e h. Prim.rw (← e) h };
-
-    ghost alike_next = { λ x y e. Prim.rw e refl };
-
+    /// Each stage in turn takes the bucket. Until all are done the mill counts as spent.
     fn bucket(&mut self, alloc: Global, inputs: &[Tagged], k: u64) -> Result<Tuples, StepFault> {
         if self.spent {
             return Err(StepFault::Spent);
         }
-        match self.outputs(alloc, inputs, k) {
-            Ok(outputs) => Ok(last_output(alloc, outputs)),
-            Err(_) => Err(StepFault::NoMemory),
+        self.spent = true;
+        let mut outputs = Vec::new(alloc);
+        for i in 0..self.stages.len() {
+            let Ok(()) = self.stages[i].bucket(alloc, inputs, &mut outputs, k) else {
+                return Err(StepFault::NoMemory);
+            };
         }
+        self.next = k + 1;
+        self.spent = false;
+        Ok(last_output(alloc, outputs))
     }
 
     fn copy(&self, alloc: Global) -> Result<Self, StepFault> {

@@ -1,10 +1,7 @@
 //! Any operator as a part of a mill.
-ghost use Rattle.std.specs.Prelude.{◌≡◌, ◌+◌, ◌^◌, ◌<◌, ◌++◌, ◌↔◌, ℕ, List, [], true, false, IfOk, OnOk, IsTrue, is_err};
-ghost use Rattle.dpc_model.specs.Engines.{added_output};
+ghost use Rattle.std.specs.Prelude.{◌≡◌, IfOk};
 ghost use Rattle.dpc_model.specs.Fragments.{IsSoundKind};
-ghost use Rattle.dpc_model.specs.declared.tuples.Tagged.{Tagged};
-ghost use Rattle.fragment_mill.specs.Mills.{new_operator, OperatorAfter};
-ghost use Rattle.fragment_mill.specs.Milling.{own_value, next_of, is_spent, HasWidth, CanTake, MadeAlike};
+ghost use Rattle.fragment_mill.specs.Mills.{new_operator, operators_of, width_of, next_of, spent_of, OperatorAfter};
 
 use dpc_model::engines::Engine;
 use dpc_model::exact::Exact;
@@ -47,21 +44,20 @@ impl Operator {
             }
         })
     }
+}
 
-    /// Takes the inputs of bucket k, which is the next one, and answers the output that they add.
-    pub fn bucket(&mut self, alloc: Global, inputs: &[Tagged], k: u64) -> Result<Tuples, StepFault>
-        requires next { k ≡ next_of self.old }
-        requires range { k + 1 < 2 ^ 64 }
-        requires accepts { CanTake self.old k inputs.now }
-        ensures answer { IfOk result (λ out. (width : ℕ) (before : List Tagged) → HasWidth width self.old
-            → OperatorAfter self.old before k → out ≡ added_output (own_value self.old) width before inputs.now k) }
-        ensures after { OnOk result ((before : List Tagged) → OperatorAfter self.old before k
-            → OperatorAfter self.new (before ++ inputs.now) (k + 1)) }
-        ensures next { OnOk result (next_of self.new ≡ k + 1) }
-        ensures spent { result ≡ Err StepFault.Spent ↔ is_spent self.old ≡ true }
-        ensures stays { IsTrue (is_spent self.new) ↔ IsTrue (is_err result) }
-        ensures made { MadeAlike self.old self.new }
-    {
+impl Engine for Operator {
+    ghost width = { λ o. width_of o };
+
+    ghost operators = { λ o. operators_of o };
+
+    ghost next = { λ o. next_of o };
+
+    ghost is_spent = { λ o. spent_of o };
+
+    ghost after = { λ o xs k. OperatorAfter o xs k };
+
+    fn bucket(&mut self, alloc: Global, inputs: &[Tagged], k: u64) -> Result<Tuples, StepFault> {
         match self {
             Operator::Filter(filter) => filter.bucket(alloc, inputs, k),
             Operator::Map(map) => map.bucket(alloc, inputs, k),
@@ -71,11 +67,7 @@ impl Operator {
         }
     }
 
-    /// The same operator in the same state.
-    pub fn copy(&self, alloc: Global) -> Result<Operator, StepFault>
-        ensures same { IfOk result (λ other. other ≡ self.now) }
-        ensures spent { result ≡ Err StepFault.Spent ↔ is_spent self.now ≡ true }
-    {
+    fn copy(&self, alloc: Global) -> Result<Operator, StepFault> {
         Ok(match self {
             Operator::Filter(filter) => Operator::Filter(filter.copy(alloc)?),
             Operator::Map(map) => Operator::Map(map.copy(alloc)?),
@@ -85,10 +77,7 @@ impl Operator {
         })
     }
 
-    /// Whether the two are the same operator in the same state.
-    pub fn same(&self, other: &Operator) -> bool
-        ensures { IsTrue result ↔ (self.now ≡ other.now) }
-    {
+    fn same(&self, other: &Operator) -> bool {
         match (self, other) {
             (Operator::Filter(filter), Operator::Filter(wanted)) => filter.same(wanted),
             (Operator::Map(map), Operator::Map(wanted)) => map.same(wanted),
@@ -99,12 +88,7 @@ impl Operator {
         }
     }
 
-    /// The state before bucket 0.
-    pub fn reset(&mut self)
-        ensures after { OperatorAfter self.new [] 0 }
-        ensures spent { is_spent self.new ≡ false }
-        ensures made { MadeAlike self.old self.new }
-    {
+    fn reset(&mut self) {
         match self {
             Operator::Filter(filter) => filter.reset(),
             Operator::Map(map) => map.reset(),

@@ -1,13 +1,15 @@
 //! A stage of a mill: an operator with what it reads.
-ghost use Rattle.std.specs.Prelude.{◌≡◌, ◌+◌, ◌^◌, ◌<◌, ◌++◌, ◌↔◌, ℕ, List, map, IfOk, OnOk, IsTrue};
-ghost use Rattle.dpc_model.specs.Engines.{added_output};
+ghost use Rattle.std.specs.Prelude.{◌≡◌, ◌+◌, ◌^◌, ◌<◌, ◌++◌, ◌↔◌, ℕ, List, [], map, IfOk, OnOk, IsTrue};
+ghost use Rattle.dpc_model.specs.Lists.{push};
+ghost use Rattle.dpc_model.specs.Engines.{Accepts};
 ghost use Rattle.dpc_model.specs.Fragments.{serial, tag, read_wire, at_port, IsSoundKind};
 ghost use Rattle.dpc_model.specs.declared.tuples.Tagged.{Tagged};
-ghost use Rattle.fragment_mill.specs.Mills.{OperatorAfter, inputs_of, new_stage};
-ghost use Rattle.fragment_mill.specs.Milling.{own_value, next_of, HasWidth, CanTake, MadeAlike};
+ghost use Rattle.fragment_mill.specs.Mills.{OperatorAfter, next_of, width_of, inputs_of, spec_of, new_stage};
+ghost use Rattle.fragment_mill.specs.Milling.{IsFit, added_of};
 
 use crate::mill::Stage;
 use crate::operator::Operator;
+use dpc_model::engines::Engine;
 use dpc_model::exact::Exact;
 use dpc_model::faults::{NoMemory, StepFault};
 use dpc_model::operators::{OpSpec, Wire};
@@ -98,27 +100,38 @@ impl Stage {
     }
 
     /// Takes what it reads of bucket k, which is its operator's next one, where the operators before
-    /// it gave these outputs in this bucket. Answers the output that this adds.
+    /// it gave these outputs in this bucket. Appends the output that this adds.
     pub(crate) fn bucket(
         &mut self,
         alloc: Global,
         inputs: &[Tagged],
-        outputs: &[Tuples],
+        outputs: &mut Vec<Tuples>,
         k: u64,
-    ) -> Result<Tuples, StepFault>
+    ) -> Result<(), NoMemory>
         requires next { k ≡ next_of self.old.operator }
         requires range { k + 1 < 2 ^ 64 }
-        requires accepts { CanTake self.old.operator k (inputs_of inputs.now outputs.now self.old) }
-        ensures answer { IfOk result (λ out. (width : ℕ) (before : List Tagged) → HasWidth width self.old.operator
-            → OperatorAfter self.old.operator before k
-            → out ≡ added_output (own_value self.old.operator) width before (inputs_of inputs.now outputs.now self.old) k) }
+        requires accepts { Accepts (width_of self.old.operator) k (inputs_of inputs.now outputs.old.items self.old.reads) }
+        ensures added { OnOk result ((before : List Tagged) → OperatorAfter self.old.operator before k
+            → outputs.new.items ≡ push outputs.old.items (added_of self.old.operator before (inputs_of inputs.now outputs.old.items self.old.reads) k)) }
         ensures after { OnOk result ((before : List Tagged) → OperatorAfter self.old.operator before k
-            → OperatorAfter self.new.operator (before ++ inputs_of inputs.now outputs.now self.old) (k + 1)) }
-        ensures reads { self.new.reads ≡ self.old.reads }
-        ensures made { MadeAlike self.old.operator self.new.operator }
+            → OperatorAfter self.new.operator (before ++ inputs_of inputs.now outputs.old.items self.old.reads) (k + 1)) }
+        ensures spec { spec_of self.new ≡ spec_of self.old }
+        ensures fits { (width : ℕ) → IsFit width self.old → IsFit width self.new }
     {
-        let gathered = gather(alloc, self.reads.as_slice(), inputs, outputs)?;
-        self.operator.bucket(alloc, gathered.as_slice(), k)
+        let gathered = gather(alloc, self.reads.as_slice(), inputs, outputs.as_slice())?;
+        match self.operator.bucket(alloc, gathered.as_slice(), k) {
+            Ok(output) => Ok(outputs.push(output)?),
+            Err(_) => Err(NoMemory),
+        }
+    }
+
+    /// Its operator's state before bucket 0.
+    pub(crate) fn reset(&mut self)
+        ensures after { OperatorAfter self.new.operator [] 0 }
+        ensures spec { spec_of self.new ≡ spec_of self.old }
+        ensures fits { (width : ℕ) → IsFit width self.old → IsFit width self.new }
+    {
+        self.operator.reset();
     }
 
     /// The same stage in the same state.

@@ -3,7 +3,8 @@ use Rattle.std.proofs.Common.{◌≡◌, ℕ, zero, suc, true, false, cond, ◌=
 use Rattle.std.specs.Prelude.{replicate}
 use Rattle.dpc_model.specs.Lists.{nth, changed}
 use Rattle.dpc_model.specs.Granting.{Key}
-use Rattle.dpc_model.specs.Actors.{IsSource, IsNode, IsClient, role_of, replicas_of}
+use Rattle.dpc_model.specs.Actors.{role_of, replicas_of}
+use Rattle.dpc_model.specs.declared.actors.Role.TheVariants.{Source as IsSource, Node as IsNode, Client as IsClient}
 use Rattle.dpc_model.specs.declared.messages.Event.{Event}
 use Rattle.dpc_model.specs.declared.messages.Message.TheVariants as message
 use Rattle.dpc_model.specs.declared.plans.Plan.{Plan}

@@ -7,7 +7,8 @@ use Rattle.dpc_model.specs.Inlets.{take_batch, same_sess}
 use Rattle.dpc_model.specs.Due.{is_complete}
 use Rattle.dpc_model.specs.Replicas.{is_silent}
 use Rattle.dpc_model.specs.Granting.{Key, key_le, greater_key, Grants, own_key, grants, with_promise, promise_to, over_by, known_over, later_key, after_peer_beat, promise_after, promise_kept, may_enter_by, with_ask, with_ask_over}
-use Rattle.dpc_model.specs.Actors.{IsNode, role_of, are_peers, replicas_of}
+use Rattle.dpc_model.specs.Actors.{role_of, are_peers, replicas_of}
+use Rattle.dpc_model.specs.declared.actors.Role.TheVariants.{Node as IsNode}
 use Rattle.dpc_model.specs.Ports.{Port, no_port, held_at, sender_at, on_beat, on_truncated, all_truncated, without_ended_marks, port_after_tick, port_after_choice}
 use Rattle.dpc_model.specs.declared.batches.Taken.{Taken}
 use Rattle.dpc_model.specs.declared.batches.Taken.TheVariants.{Used, Old, Broken}

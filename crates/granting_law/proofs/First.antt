@@ -3,7 +3,9 @@ use Rattle.std.proofs.Common.{◌≡◌, ℕ, zero, suc, ◌+◌, ◌<◌, Bool,
 use Rattle.std.proofs.lemmas.List.{length-map}
 use Rattle.dpc_model.specs.Lists.{nth, range_with_len, list_any, IsPrefixOf}
 use Rattle.dpc_model.specs.Inlets.{same_sess, sess_of}
-use Rattle.dpc_model.specs.Actors.{Role, IsSource, IsNode, IsClient, Nobody, role_of, nodes_of, inputs_of, reads_from, sends_stream, same_stream}
+use Rattle.dpc_model.specs.Actors.{role_of, nodes_of, inputs_of, reads_from, sends_stream, same_stream}
+use Rattle.dpc_model.specs.declared.actors.Role.{Role}
+use Rattle.dpc_model.specs.declared.actors.Role.TheVariants.{Source as IsSource, Node as IsNode, Client as IsClient, Nobody}
 use Rattle.dpc_model.specs.Sessions.{Sub, no_session, opening_session}
 use Rattle.dpc_model.specs.declared.messages.Event.{Event}
 use Rattle.dpc_model.specs.declared.messages.Message.TheVariants as message

@@ -3,7 +3,9 @@ use Rattle.std.proofs.Common.{◌≡◌, ℕ, zero, suc, ◌+◌, ◌<◌, Bool,
 use Rattle.std.specs.List.{filter, enumerate_from}
 use Rattle.dpc_model.specs.Lists.{nth, range_with_len, list_any, IsPrefixOf}
 use Rattle.dpc_model.specs.Inlets.{same_sess, sess_of}
-use Rattle.dpc_model.specs.Actors.{Role, IsNode, Nobody, role_of, roles_of, inputs_of, readers_of, same_stream}
+use Rattle.dpc_model.specs.Actors.{role_of, roles_of, inputs_of, readers_of, same_stream}
+use Rattle.dpc_model.specs.declared.actors.Role.{Role}
+use Rattle.dpc_model.specs.declared.actors.Role.TheVariants.{Node as IsNode, Nobody}
 use Rattle.dpc_model.specs.Sessions.{Sub, no_session, opening_session}
 use Rattle.dpc_model.specs.declared.messages.Event.{Event}
 use Rattle.dpc_model.specs.declared.messages.Sess.{Sess}

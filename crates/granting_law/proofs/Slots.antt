@@ -3,7 +3,8 @@ use Rattle.std.proofs.Common.{◌≡◌, ℕ, zero, suc, ◌+◌, ◌<◌, ◌�
 use Rattle.std.specs.Prelude.{IfSome}
 use Rattle.dpc_model.specs.Lists.{nth, changed}
 use Rattle.dpc_model.specs.Granting.{Key}
-use Rattle.dpc_model.specs.Actors.{IsNode, role_of, nodes_of, replicas_of}
+use Rattle.dpc_model.specs.Actors.{role_of, nodes_of, replicas_of}
+use Rattle.dpc_model.specs.declared.actors.Role.TheVariants.{Node as IsNode}
 use Rattle.dpc_model.specs.declared.plans.Plan.{Plan}
 use Rattle.node_model.specs.Mails.{Mail}
 use Rattle.node_model.specs.Nodes.{Home, PlainNode, restarted_node}

@@ -2,7 +2,8 @@
 use Rattle.std.specs.Prelude.{◌≡◌, ℕ, ◌+◌, ◌<◌, ◌≤◌, ◌⊎◌, Bool, true, false, not, ◌&&◌, ◌||◌, Some, None, IfSome, slice_get}
 use Rattle.dpc_model.specs.Lists.{nth}
 use Rattle.dpc_model.specs.Granting.{Key, known_over}
-use Rattle.dpc_model.specs.Actors.{IsNode, role_of}
+use Rattle.dpc_model.specs.Actors.{role_of}
+use Rattle.dpc_model.specs.declared.actors.Role.TheVariants.{Node as IsNode}
 use Rattle.dpc_model.specs.declared.messages.Message.TheVariants as message
 use Rattle.node_model.specs.Mails.{Packet, Plain, SnapFor}
 use Rattle.dpc_model.specs.NodeStates.{is_stabilization}

@@ -5,7 +5,8 @@ use Rattle.dpc_model.specs.Reading.{Reader, is_settled}
 use Rattle.dpc_model.specs.Inlets.{new_inlet, AfterBatch, take_batch}
 use Rattle.dpc_model.specs.declared.batches.Taken.{Taken}
 use Rattle.dpc_model.specs.declared.batches.Taken.TheVariants.{Used, Old, Broken}
-use Rattle.dpc_model.specs.Actors.{IsClient, inputs_of}
+use Rattle.dpc_model.specs.Actors.{inputs_of}
+use Rattle.dpc_model.specs.declared.actors.Role.TheVariants.{Client as IsClient}
 use Rattle.dpc_model.specs.Ports.{Port, port_at, sender_at, without_ended_marks, on_beat, on_truncated, port_after_tick, port_after_choice, subscriptions, acks_to}
 use Rattle.dpc_model.specs.declared.tuples.Item.{Item}
 use Rattle.dpc_model.specs.declared.messages.Message.{Message}

@@ -1,5 +1,5 @@
 -- The index of a side after a tuple came or went.
-use Rattle.std.proofs.Common.{◌≡◌, ℕ, ◌+◌, ◌^◌, ◌<◌, ◌≤◌, nat_le, ℤ, Bool, true, false, cond, ◌||◌, ◌&&◌, List, [], ◌∷◌, ◌++◌, length, length-append, drop, refl, sym, ◌∙◌, ap, arith}
+use Rattle.std.proofs.Common.{◌≡◌, ℕ, ◌+◌, ◌<◌, ◌≤◌, nat_le, ℤ, Bool, true, false, cond, ◌||◌, ◌&&◌, List, [], ◌∷◌, ◌++◌, length, drop, refl, sym, ◌∙◌, ap, arith}
 use Rattle.std.proofs.lemmas.Grind.{common_steps}
 use Rattle.std.specs.List.{filter, list_any}
 use Rattle.std.specs.Ordering.{nat_cmp, int_cmp, ordering_then, is_eq}
@@ -42,20 +42,16 @@ module _ (end : End) (keys : List (ℕ × ℕ)) where
   push_is n ts t k is q had h =
       cond_or (is_eq (index_cmp (k, n + length ts) q)) had ∙ rw (is, h) (sym (has_entry-push n ts t q.0 q.1))
 
-  pub IsIndexOf-push : (n m : ℕ) (ts us : List Tuple) (t : Tuple) (s r : BTreeSet (List ℤ × ℕ)) (k : List ℤ) → k ≡ key_of end keys t → m ≡ n + length ts → m + 1 < 2 ^ 64 → us ≡ ts ++ t ∷ [] →
+  pub IsIndexOf-push : (n m : ℕ) (ts us : List Tuple) (t : Tuple) (s r : BTreeSet (List ℤ × ℕ)) (k : List ℤ) → k ≡ key_of end keys t → m ≡ n + length ts → us ≡ ts ++ t ∷ [] →
       IsIndexOf end keys n ts s → ((q : List ℤ × ℕ) → contains index_cmp r q ≡ cond (is_eq (index_cmp (k, m) q)) true (contains index_cmp s q)) →
       IsIndexOf end keys n us r
-  IsIndexOf-push n m ts us t s r k is last fits more i u = rw more (record {
-    has = λ q low. u q ∙ rw last (push_is n ts t k is q (contains index_cmp s q) (i.has q low));
-    fits = omega (arith, length-append ts (t ∷ []));
-  })
+  IsIndexOf-push n m ts us t s r k is last more i u = rw more (record { has = λ q low. u q ∙ rw last (push_is n ts t k is q (contains index_cmp s q) (i.has q low)) })
 
   -- the first tuple went, and its entry stays
   pub IsIndexOf-drop : (n : ℕ) (ts us : List Tuple) (s : BTreeSet (List ℤ × ℕ)) → 0 < length ts → us ≡ drop 1 ts → IsIndexOf end keys n ts s → IsIndexOf end keys (n + 1) us s
   IsIndexOf-drop n [] us s some rest i = absurd (omega (arith, some))
   IsIndexOf-drop n (t ∷ ts) us s some rest i = rw rest (record {
     has = λ q low. i.has q (omega (arith, low)) ∙ rw (is_eq-past (slice_cmp int_cmp (key_of end keys t) q.0) n q.1 (omega (arith, low))) refl;
-    fits = omega (arith, i.fits);
   })
 
   -- entries with a number below n went
@@ -73,5 +69,4 @@ module _ (end : End) (keys : List (ℕ × ℕ)) where
   pub IsIndexOf-sweep : (n : ℕ) (ts : List Tuple) (s r : BTreeSet (List ℤ × ℕ)) → r.keys ≡ filter (λ e. nat_le n e.1) s.keys → IsIndexOf end keys n ts s → IsIndexOf end keys n ts r
   IsIndexOf-sweep n ts s r kept i = record {
     has = λ q low. ap (λ (es : List (List ℤ × ℕ)). list_any (λ e. is_eq (index_cmp q e)) es) kept ∙ any-kept n q low s.keys ∙ i.has q low;
-    fits = i.fits;
   }

@@ -1,32 +1,24 @@
 -- The rows that a bucket adds to a join's output, by what the join keeps.
-use Rattle.std.proofs.Common.{◌≡◌, ℕ, ◌+◌, ◌*◌, ◌<◌, ◌≤◌, max, Bool, true, false, cond, ◌&&◌, ◌==◌, List, [], ◌∷◌, ◌++◌, map, length, drop, All, refl, sym, ◌∙◌, ap, arith, nat_le}
+use Rattle.std.proofs.Common.{◌≡◌, ℕ, ◌+◌, ◌*◌, ◌<◌, ◌≤◌, max, Bool, true, false, cond, ◌&&◌, ◌==◌, List, [], ◌∷◌, ◌++◌, map, All, refl, sym, ◌∙◌, ap, arith, nat_le}
 use Rattle.std.proofs.lemmas.Grind.{common_steps, flat_map-append}
 use Rattle.std.proofs.lemmas.List.{map-append}
 use Rattle.std.proofs.lemmas.List.Elements.{filter-append, recursion_from_All, All-weaker}
-use Rattle.std.proofs.Math.Seq.{drop-append_seam}
 use Rattle.std.specs.List.{filter, flat_map, AllByRecursion}
 use Rattle.dpc_model.specs.Lists.{sort_by}
 use Rattle.dpc_model.specs.Streams.{NoneBelow, IsOrdered, InOrder, time_of}
 use Rattle.dpc_model.specs.Operators.{joined, are_partners, pairs_with, paired}
 use Rattle.dpc_model.specs.Fragments.{at_port}
-use Rattle.dpc_model.specs.Engines.{from_time, added_output, LiesBelow, LiesIn, IsBucket}
+use Rattle.dpc_model.specs.Engines.{from_time, engine_value, lone_operator, added_output, LiesBelow, LiesIn, IsBucket}
 use Rattle.dpc_model.specs.declared.tuples.Tuple.{Tuple}
 use Rattle.dpc_model.specs.declared.tuples.Tagged.{Tagged}
+use Rattle.dpc_model.specs.declared.operators.OpKind.TheVariants.{Join}
 use Rattle.dpc_model.proofs.Causality.{filter-sort, IsOrdered-sort, NoneBelow-filter}
 use Rattle.dpc_model.proofs.JoinCausality.{filter-flat_map, cut-joined}
 use Rattle.dpc_model.proofs.IdealCausality.{at_port-cut}
 use Rattle.dpc_model.proofs.Buckets.{IsCausal, added-is, at_port-append, bucket-ordered, ordered-append, tagged_time}
 use Rattle.ops_join.specs.Joins.{join_value, kept_from}
-use Rattle.ops_join.specs.Sides.{bucket_rows, IsIndexOf}
+use Rattle.ops_join.specs.Sides.{bucket_rows}
 use Rattle.ops_join.specs.Keeping.{IsKept}
-use Rattle.ops_join.specs.declared.ends.End.{End}
-use Rattle.ops_join.specs.declared.side.Side.{Side}
-
--- what the loops gave
-pub rows-are : (w : ℕ) (keys : List (ℕ × ℕ)) (ls rs left right all_left all_right rows more out : List Tuple) (n m : ℕ) → n ≡ length rs → m ≡ length ls → all_right ≡ rs ++ right → all_left ≡ ls ++ left →
-    rows ≡ flat_map (pairs_with w keys (drop n all_right)) ls → more ≡ rows ++ flat_map (pairs_with w keys all_right) (drop m all_left) → out ≡ sort_by time_of more → out ≡ bucket_rows w keys ls rs left right
-rows-are w keys ls rs left right all_left all_right rows more out n m en em er el e1 e2 e3 =
-    rw (e3, e2, e1, er, el, en, em, drop-append_seam rs right, drop-append_seam ls left) refl
 
 and_false : (a b : Bool) → ((a && false) && b) ≡ false
 and_false true b = refl
@@ -130,6 +122,10 @@ module _ (w : ℕ) (keys : List (ℕ × ℕ)) (b : ℕ) where
       ∙ flat_map-append late ls left
       ∙ ap (λ (ts : List Tuple). ts ++ flat_map late left) (old-left rs right ls hr nr hl ∙ kept-left right ls nr)
       ∙ ap (λ (ts : List Tuple). flat_map (pairs_with w keys right) (kept_from w b ls) ++ ts) (new-left rs right left nl))
+
+-- an engine of a join makes what the join makes
+pub join-value : (w : ℕ) (keys : List (ℕ × ℕ)) (xs : List Tagged) (b : ℕ) → engine_value (lone_operator (Join w keys) 2) xs b ≡ join_value w keys xs b
+join-value w keys xs b = refl
 
 pub join-causal : (w : ℕ) (keys : List (ℕ × ℕ)) → IsCausal (join_value w keys)
 join-causal w keys xs b b' h =
@@ -243,26 +239,13 @@ filter-ordered p (t ∷ ts) o =
     ]
 
 -- a side after a bucket
-pub IsKept-next : (end : End) (keys : List (ℕ × ℕ)) (w width k p : ℕ) (s r : Side) (bucket : List Tagged) → IsKept end keys (k * width) s → IsBucket width k bucket → r.end ≡ end →
-    IsIndexOf r.end keys r.first r.tuples.items r.index → r.tuples.items ≡ kept_from w ((k + 1) * width) (s.tuples.items ++ at_port p bucket) → IsKept end keys ((k + 1) * width) r
-IsKept-next end keys w width k p s r bucket kept inside side indexed e =
+pub IsKept-next : (w width k p : ℕ) (ts us : List Tuple) (bucket : List Tagged) → IsKept (k * width) ts → IsBucket width k bucket → us ≡ kept_from w ((k + 1) * width) (ts ++ at_port p bucket) → IsKept ((k + 1) * width) us
+IsKept-next w width k p ts us bucket kept inside e =
     let later : k * width ≤ (k + 1) * width = grind (arith, common_steps) in
     let keep = λ (t : Tuple). nat_le ((k + 1) * width) (t.stime + w) in
-    record {
-      side = side;
-      indexed = indexed;
-      order = rw e (filter-ordered keep (s.tuples.items ++ at_port p bucket) (taken-ordered width k p s.tuples.items bucket kept.order kept.below inside));
+    rw e (record {
+      order = filter-ordered keep (ts ++ at_port p bucket) (taken-ordered width k p ts bucket kept.order kept.below inside);
       below =
-          rw e
-          (all-filter (λ (t : Tuple). t.stime < (k + 1) * width) keep (s.tuples.items ++ at_port p bucket)
-          (all-append (λ (t : Tuple). t.stime < (k + 1) * width) s.tuples.items (at_port p bucket) (all-below (k * width) ((k + 1) * width) s.tuples.items later kept.below) (bucket-below width k p bucket inside)));
-    }
-
--- a side with no tuple
-pub IsKept-none : (end : End) (keys : List (ℕ × ℕ)) (b : ℕ) (s : Side) → s.end ≡ end → s.tuples.items ≡ [] → IsIndexOf s.end keys s.first s.tuples.items s.index → IsKept end keys b s
-IsKept-none end keys b s side none indexed = record {
-  side = side;
-  indexed = indexed;
-  order = rw none tt;
-  below = rw none tt;
-}
+          all-filter (λ (t : Tuple). t.stime < (k + 1) * width) keep (ts ++ at_port p bucket)
+          (all-append (λ (t : Tuple). t.stime < (k + 1) * width) ts (at_port p bucket) (all-below (k * width) ((k + 1) * width) ts later kept.below) (bucket-below width k p bucket inside));
+    })

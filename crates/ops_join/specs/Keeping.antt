@@ -1,5 +1,5 @@
 -- What a join's sides are between buckets.
-use Rattle.std.specs.Prelude.{◌≡◌, ℕ, ◌<◌, List}
+use Rattle.std.specs.Prelude.{ℕ, ◌<◌, List}
 use Rattle.std.specs.List.{AllByRecursion}
 use Rattle.dpc_model.specs.Streams.{InOrder}
 use Rattle.dpc_model.specs.declared.tuples.Tuple.{Tuple}
@@ -7,13 +7,15 @@ use Rattle.ops_join.specs.declared.ends.End.{End}
 use Rattle.ops_join.specs.declared.side.Side.{Side}
 use Rattle.ops_join.specs.Sides.{IsIndexOf}
 
--- its index has its tuples
-abbrev pub IsIndexed : List (ℕ × ℕ) → Side → Type 0
-IsIndexed keys s = IsIndexOf s.end keys s.first s.tuples.items s.index
+-- the index of a side has its tuples
+abbrev pub IsIndexed : End → List (ℕ × ℕ) → Side → Type 0
+IsIndexed end keys s = IsIndexOf end keys s.first s.tuples.items s.index
 
--- its tuples are in order, below a time, and indexed
-pub record IsKept (end : End) (keys : List (ℕ × ℕ)) (b : ℕ) (s : Side) : Type 0 where
-  pub side : s.end ≡ end
-  pub indexed : IsIndexed keys s
-  pub order : InOrder s.tuples.items
-  pub below : AllByRecursion (λ (t : Tuple). t.stime < b) s.tuples.items
+-- whatever the end and the key columns are, an index that had its tuples has them still
+abbrev pub StaysIndexed : Side → Side → Type 0
+StaysIndexed old new = (end : End) (keys : List (ℕ × ℕ)) → IsIndexed end keys old → IsIndexed end keys new
+
+-- the tuples of a side are in order, and below a time
+pub record IsKept (b : ℕ) (ts : List Tuple) : Type 0 where
+  pub order : InOrder ts
+  pub below : AllByRecursion (λ (t : Tuple). t.stime < b) ts

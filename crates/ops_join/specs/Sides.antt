@@ -1,5 +1,5 @@
--- One side of a join: its tuples, and the index that finds them by their key.
-use Rattle.std.specs.Prelude.{◌≡◌, ℕ, ◌+◌, ◌^◌, ◌<◌, ◌≤◌, ℤ, Bool, false, not, ◌||◌, nat_le, if◌then◌else◌, List, [], ◌∷◌, ◌++◌, map, length, flat_map, slice_get}
+-- The sides of a join: their tuples, and the index that finds them by their key.
+use Rattle.std.specs.Prelude.{◌≡◌, ℕ, ◌+◌, ◌≤◌, ℤ, Bool, false, not, ◌||◌, nat_le, if◌then◌else◌, List, [], ◌∷◌, ◌++◌, map, flat_map, slice_get}
 use Rattle.std.specs.List.{list_any}
 use Rattle.std.specs.Option.{option_to_list}
 use Rattle.std.specs.Ordering.{nat_cmp, int_cmp, ordering_then, is_eq}
@@ -69,7 +69,25 @@ has_entry end keys n (t ∷ ts) key m = is_eq (entry_cmp (key_of end keys t) n k
 -- of the entries with numbers from n on, the index has exactly those of these tuples, which are numbered from n on
 pub record IsIndexOf (end : End) (keys : List (ℕ × ℕ)) (n : ℕ) (ts : List Tuple) (index : BTreeSet (List ℤ × ℕ)) : Type 0 where
   pub has : (q : List ℤ × ℕ) → n ≤ q.1 → contains index_cmp index q ≡ has_entry end keys n ts q.0 q.1
-  pub fits : n + length ts < 2 ^ 64
+
+-- what contracts see of the sides: the key columns of left and right, and the tuples of each side
+pub record SidesState : Type 0 where
+  pub keys : List (ℕ × ℕ)
+  pub left : List Tuple
+  pub right : List Tuple
+
+-- sides with no tuple
+abbrev pub new_sides : List (ℕ × ℕ) → SidesState
+new_sides keys = record { keys = keys; left = []; right = [] }
+
+abbrev pub tuples_of : End → SidesState → List Tuple
+tuples_of Left s = s.left
+tuples_of Right s = s.right
+
+-- the sides with more tuples on one of them
+abbrev pub taken : End → List Tuple → SidesState → SidesState
+taken Left ts s = record s { left = s.left ++ ts }
+taken Right ts s = record s { right = s.right ++ ts }
 
 -- the rows that the tuples of a bucket add to those of the tuples before it, which a join keeps
 abbrev pub bucket_rows : ℕ → List (ℕ × ℕ) → List Tuple → List Tuple → List Tuple → List Tuple → List Tuple

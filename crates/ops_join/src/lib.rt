@@ -5,5 +5,6 @@ mod ends;
 pub mod join;
 mod rows;
 mod side;
+mod sides;
 #[cfg(test)]
 mod tests;

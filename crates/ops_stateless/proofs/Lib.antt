@@ -1,1 +1,2 @@
 pub mod UnionBuckets
+pub mod Values

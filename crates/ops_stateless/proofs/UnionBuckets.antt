@@ -4,14 +4,14 @@ use Rattle.std.proofs.lemmas.Grind.{common_steps}
 use Rattle.std.specs.List.{filter, AllByRecursion}
 use Rattle.dpc_model.specs.Lists.{sort_by, insert_by, range_with_len}
 use Rattle.dpc_model.specs.Streams.{NoneBelow, time_of}
-use Rattle.dpc_model.specs.Engines.{IsBucket, LiesBelow, precedes, from_time, ports_of, added_output}
+use Rattle.dpc_model.specs.Engines.{IsBucket, LiesBelow, precedes, from_time, ports_of, engine_value, lone_operator, added_output}
 use Rattle.dpc_model.specs.Fragments.{at_port}
 use Rattle.dpc_model.specs.Operators.{united, all_of}
 use Rattle.dpc_model.specs.declared.tuples.Tuple.{Tuple}
 use Rattle.dpc_model.specs.declared.tuples.Tagged.{Tagged}
 use Rattle.dpc_model.specs.declared.operators.OpKind.TheVariants.{Union}
 use Rattle.dpc_model.proofs.Causality.{filter-sort, filter-all_of, IsOrdered-sort, insert_by-first}
-use Rattle.dpc_model.proofs.Buckets.{added-is, operator-causal, from-bucket, ports_of-from}
+use Rattle.dpc_model.proofs.Buckets.{added-is, operator-causal, lone-added, from-bucket, ports_of-from}
 use Rattle.ops_stateless.specs.Unions.{union_value}
 
 -- the tuples of the first n ports, as they stand
@@ -162,10 +162,11 @@ united-from b inputs =
     ∙ ap (λ (ts : List Tuple). sort_by time_of ts) (filter-all_of (λ (t : Tuple). nat_le b t.stime) inputs)
 
 pub union-added : (n w k : ℕ) (before bucket : List Tagged) → All (LiesBelow (k * w)) before → IsBucket w k bucket →
-    standing n bucket ≡ added_output (union_value n) w before bucket k
+    standing n bucket ≡ added_output (engine_value (lone_operator Union n)) w before bucket k
 union-added n w k before bucket h b =
     let whole = united (ports_of n (before ++ bucket)) in
     sym
     (added-is (union_value n) w k before bucket (operator-causal Union n tt) (IsOrdered-sort time_of (all_of (ports_of n (before ++ bucket)))) h b.inside
     ∙ united-from (k * w) (ports_of n (before ++ bucket)) ∙ ap united (ports_of-from (k * w) n (before ++ bucket))
     ∙ ap (λ (xs : List Tagged). united (ports_of n xs)) (from-bucket w k before bucket h b.inside) ∙ united-serial n bucket (serial-from bucket b.ordered))
+    ∙ sym (lone-added Union n w before bucket k)

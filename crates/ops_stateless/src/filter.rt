@@ -1,10 +1,10 @@
 //! The filter.
-ghost use Rattle.std.specs.Prelude.{◌≡◌, ◌+◌, ◌^◌, ◌<◌, ◌↔◌, true, List, ⊤, IfOk, OnOk, OnErr, IsTrue, is_err, refl};
+ghost use Rattle.std.specs.Prelude.{◌≡◌, ◌+◌, ◌^◌, ◌<◌, ◌↔◌, true, None, IfOk, OnOk, OnErr};
 ghost use Rattle.dpc_model.specs.Operators.{filtered};
 ghost use Rattle.dpc_model.specs.Fragments.{at_port};
-ghost use Rattle.dpc_model.specs.Engines.{added_output, SameMake};
-ghost use Rattle.dpc_model.specs.declared.tuples.Tagged.{Tagged};
-ghost use Rattle.ops_stateless.specs.FilterOp.{filter_value, new_filter};
+ghost use Rattle.dpc_model.specs.Engines.{lone_operator};
+ghost use Rattle.dpc_model.specs.declared.operators.OpKind.TheVariants as kind;
+ghost use Rattle.ops_stateless.specs.FilterOp.{new_filter};
 
 use crate::eval;
 use dpc_model::engines::Engine;
@@ -47,6 +47,29 @@ impl Filter {
             spent: false,
         }
     }
+
+    /// Takes the inputs of a bucket, of which it keeps nothing, and answers the tuples that pass.
+    pub fn take(&mut self, alloc: Global, inputs: &[Tagged], k: u64) -> Result<Tuples, StepFault>
+        requires { k + 1 < 2 ^ 64 }
+        ensures passing { IfOk result (λ out. out ≡ filtered self.old.expr (at_port 0 inputs.now)) }
+        ensures ok { OnOk result (self.new ≡ record self.old { next = k + 1 }) }
+        ensures err { OnErr result (self.new ≡ record self.old { spent = true }) }
+        ensures spent { result ≡ Err StepFault.Spent ↔ self.old.spent ≡ true }
+    {
+        if self.spent {
+            return Err(StepFault::Spent);
+        }
+        match passing(alloc, &self.expr, inputs) {
+            Ok(out) => {
+                self.next = k + 1;
+                Ok(out)
+            }
+            Err(_) => {
+                self.spent = true;
+                Err(StepFault::NoMemory)
+            }
+        }
+    }
 }
 
 /// The tuples of port 0 that pass, in order.
@@ -63,11 +86,9 @@ fn passing(alloc: Global, expr: &Expr, inputs: &[Tagged]) -> Result<Tuples, Allo
 }
 
 impl Engine for Filter {
-    ghost width = { λ f. 0 };
+    ghost width = { λ f. None };
 
-    ghost value = { λ f. filter_value f.expr };
-
-    ghost accepts = { λ f k xs. ⊤ };
+    ghost operators = { λ f. lone_operator (kind.Filter f.expr) 1 };
 
     ghost next = { λ f. f.next };
 
@@ -75,49 +96,8 @@ impl Engine for Filter {
 
     ghost after = { λ f xs k. f.next ≡ k };
 
-    ghost alike = { λ f g. f ≡ g };
-
-    ghost alike_make = { λ x y e. Prim.rw e (record {
-      width = refl;
-      value = λ xs b. refl;
-      accepts = λ k xs. (λ h. h, λ h. h);
-    }) };
-
-    ghost alike_after = { λ x y xs k e h. Prim.rw (← e) h };
-
-    ghost alike_next = { λ x y e. Prim.rw e refl };
-
-    fn bucket(&mut self, alloc: Global, inputs: &[Tagged], k: u64) -> Result<Tuples, StepFault>
-        requires next { k ≡ self.old.next }
-        requires range { k + 1 < 2 ^ 64 }
-        ensures answer { IfOk result (λ out. (before : List Tagged) → self.old.next ≡ k
-            → out ≡ added_output (filter_value self.old.expr) 0 before inputs.now k) }
-        ensures after { OnOk result ((before : List Tagged) → self.old.next ≡ k → self.new.next ≡ k + 1) }
-        ensures next { OnOk result (self.new.next ≡ k + 1) }
-        ensures kept { OnErr result (self.new.next ≡ self.old.next) }
-        ensures spent { result ≡ Err StepFault.Spent ↔ self.old.spent ≡ true }
-        ensures stays { IsTrue self.new.spent ↔ IsTrue (is_err result) }
-        ensures made { SameMake 0 0 (filter_value self.old.expr) (filter_value self.new.expr)
-            (λ k xs. ⊤) (λ k xs. ⊤) }
-
-        // It keeps nothing of its inputs.
-        ensures passing { IfOk result (λ out. out ≡ filtered self.old.expr (at_port 0 inputs.now)) }
-        ensures ok { OnOk result (self.new ≡ record self.old { next = k + 1 }) }
-        ensures err { OnErr result (self.new ≡ record self.old { spent = true }) }
-    {
-        if self.spent {
-            return Err(StepFault::Spent);
-        }
-        match passing(alloc, &self.expr, inputs) {
-            Ok(out) => {
-                self.next = k + 1;
-                Ok(out)
-            }
-            Err(_) => {
-                self.spent = true;
-                Err(StepFault::NoMemory)
-            }
-        }
+    fn bucket(&mut self, alloc: Global, inputs: &[Tagged], k: u64) -> Result<Tuples, StepFault> {
+        self.take(alloc, inputs, k)
     }
 
     fn copy(&self, alloc: Global) -> Result<Self, StepFault> {

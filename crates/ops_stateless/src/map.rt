@@ -1,8 +1,10 @@
 //! The map.
-ghost use Rattle.std.specs.Prelude.{◌≡◌, ⊤, IfOk, refl, map};
+ghost use Rattle.std.specs.Prelude.{◌≡◌, None, IfOk, map};
 ghost use Rattle.dpc_model.specs.Operators.{mapped, mapped_tuple};
 ghost use Rattle.dpc_model.specs.Fragments.{at_port};
-ghost use Rattle.ops_stateless.specs.MapOps.{map_value, new_map};
+ghost use Rattle.dpc_model.specs.Engines.{lone_operator};
+ghost use Rattle.dpc_model.specs.declared.operators.OpKind.TheVariants as kind;
+ghost use Rattle.ops_stateless.specs.MapOps.{new_map};
 
 use crate::eval;
 use dpc_model::engines::Engine;
@@ -76,29 +78,15 @@ fn mapped_all(alloc: Global, exprs: &[Expr], inputs: &[Tagged]) -> Result<Tuples
 }
 
 impl Engine for MapOp {
-    ghost width = { λ m. 0 };
+    ghost width = { λ m. None };
 
-    ghost value = { λ m. map_value m.exprs };
-
-    ghost accepts = { λ m k xs. ⊤ };
+    ghost operators = { λ m. lone_operator (kind.Map m.exprs) 1 };
 
     ghost next = { λ m. m.next };
 
     ghost is_spent = { λ m. m.spent };
 
     ghost after = { λ m xs k. m.next ≡ k };
-
-    ghost alike = { λ m n. m ≡ n };
-
-    ghost alike_make = { λ x y e. Prim.rw e (record {
-      width = refl;
-      value = λ xs b. refl;
-      accepts = λ k xs. (λ h. h, λ h. h);
-    }) };
-
-    ghost alike_after = { λ x y xs k e h. Prim.rw (← e) h };
-
-    ghost alike_next = { λ x y e. Prim.rw e refl };
 
     fn bucket(&mut self, alloc: Global, inputs: &[Tagged], k: u64) -> Result<Tuples, StepFault> {
         if self.spent {

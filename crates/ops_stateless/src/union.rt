@@ -1,8 +1,9 @@
 //! The union.
-ghost use Rattle.std.specs.Prelude.{◌≡◌, nat_lt, filter, map, IfOk, refl};
-ghost use Rattle.dpc_model.specs.Engines.{FitsBucket};
+ghost use Rattle.std.specs.Prelude.{◌≡◌, nat_lt, filter, map, Some, IfOk};
+ghost use Rattle.dpc_model.specs.Engines.{lone_operator};
+ghost use Rattle.dpc_model.specs.declared.operators.OpKind.TheVariants as kind;
 ghost use Rattle.dpc_model.specs.declared.tuples.Tagged.{Tagged};
-ghost use Rattle.ops_stateless.specs.Unions.{union_value, new_union, UnionAfter};
+ghost use Rattle.ops_stateless.specs.Unions.{new_union, UnionAfter};
 
 use dpc_model::engines::Engine;
 use dpc_model::exact::Exact;
@@ -58,29 +59,15 @@ fn passing(alloc: Global, ports: u64, inputs: &[Tagged]) -> Result<Tuples, Alloc
 }
 
 impl Engine for Union {
-    ghost width = { λ u. u.width };
+    ghost width = { λ u. Some u.width };
 
-    ghost value = { λ u. union_value u.ports };
-
-    ghost accepts = { λ u k xs. FitsBucket u.width k xs };
+    ghost operators = { λ u. lone_operator kind.Union u.ports };
 
     ghost next = { λ u. u.next };
 
     ghost is_spent = { λ u. u.spent };
 
     ghost after = { λ u xs k. UnionAfter u xs k };
-
-    ghost alike = { λ u v. u ≡ v };
-
-    ghost alike_make = { λ x y e. Prim.rw e (record {
-      width = refl;
-      value = λ xs b. refl;
-      accepts = λ k xs. (λ h. h, λ h. h);
-    }) };
-
-    ghost alike_after = { λ x y xs k e h. Prim.rw (← e) h };
-
-    ghost alike_next = { λ x y e. Prim.rw e refl };
 
     fn bucket(&mut self, alloc: Global, inputs: &[Tagged], k: u64) -> Result<Tuples, StepFault> {
         if self.spent {

@@ -8,10 +8,11 @@ use Rattle.std.proofs.Math.Seq.{drop-append_seam}
 use Rattle.std.specs.List.{AllByRecursion, filter}
 use Rattle.dpc_model.specs.Operators.{aggregated, between, window_count, window_rows, group_rows}
 use Rattle.dpc_model.specs.Fragments.{at_port}
-use Rattle.dpc_model.specs.Engines.{LiesIn, LiesBelow, IsBucket, added_output}
+use Rattle.dpc_model.specs.Engines.{LiesIn, LiesBelow, IsBucket, engine_value, lone_operator, added_output}
 use Rattle.dpc_model.specs.declared.tuples.Tuple.{Tuple}
 use Rattle.dpc_model.specs.declared.tuples.Tagged.{Tagged}
 use Rattle.dpc_model.specs.declared.operators.Agg.{Agg}
+use Rattle.dpc_model.specs.declared.operators.OpKind.TheVariants.{Aggregate}
 use Rattle.dpc_model.proofs.WindowCausality.{window_before, window_after}
 use Rattle.dpc_model.proofs.Buckets.{at_port-append, LiesBelow-next}
 use Rattle.ops_window.specs.Windows.{Cell, window_cells, begun_count, open_cells, aggregate_value, AggregateState, AggregateAfter}
@@ -20,6 +21,11 @@ use Rattle.ops_window.proofs.WindowCells.{cells_of}
 use Rattle.ops_window.proofs.CellOrder.{cells_of-each}
 use Rattle.ops_window.proofs.Held.{window_count-mono, begun-below, begun-of, count-le-begun, held-first, held-all, held-more}
 use Rattle.ops_window.proofs.Ends.{ended_cells-split, kept_cells-split, cells_of-rows, flat_map-split, flat_map-same, flat_map-none, between-early, between-late}
+
+-- an engine of an aggregate makes what the aggregate makes
+pub aggregate-value : (size step : ℕ) (group : Option ℕ) (aggs : List Agg) (xs : List Tagged) (b : ℕ) →
+    engine_value (lone_operator (Aggregate size step group aggs) 1) xs b ≡ aggregate_value size step group aggs xs b
+aggregate-value size step group aggs xs b = refl
 
 -- what holds of all inputs holds of those of port 0
 port-each : (P : Tuple → Type 0) (xs : List Tagged) → AllByRecursion (λ (x : Tagged). P x.tuple) xs → AllByRecursion P (at_port 0 xs)

@@ -1,7 +1,8 @@
 //! The aggregate over windows.
-ghost use Rattle.std.specs.Prelude.{◌≡◌, ◌<◌, refl};
-ghost use Rattle.dpc_model.specs.Engines.{FitsBucket};
-ghost use Rattle.ops_window.specs.Windows.{aggregate_value, new_aggregate, AggregateAfter};
+ghost use Rattle.std.specs.Prelude.{◌≡◌, ◌<◌, Some};
+ghost use Rattle.dpc_model.specs.Engines.{lone_operator};
+ghost use Rattle.dpc_model.specs.declared.operators.OpKind.TheVariants as kind;
+ghost use Rattle.ops_window.specs.Windows.{new_aggregate, AggregateAfter};
 
 use crate::cells::{Cells, Shape, are_same, copied};
 use dpc_model::engines::Engine;
@@ -74,29 +75,15 @@ impl Aggregate {
 }
 
 impl Engine for Aggregate {
-    ghost width = { λ a. a.width };
+    ghost width = { λ a. Some a.width };
 
-    ghost value = { λ a. aggregate_value a.size a.step a.group a.aggs };
-
-    ghost accepts = { λ a k xs. FitsBucket a.width k xs };
+    ghost operators = { λ a. lone_operator (kind.Aggregate a.size a.step a.group a.aggs) 1 };
 
     ghost next = { λ a. a.next };
 
     ghost is_spent = { λ a. a.spent };
 
     ghost after = { λ a xs k. AggregateAfter a xs k };
-
-    ghost alike = { λ a b. a ≡ b };
-
-    ghost alike_make = { λ x y e. Prim.rw e (record {
-      width = refl;
-      value = λ xs b. refl;
-      accepts = λ k xs. (λ h. h, λ h. h);
-    }) };
-
-    ghost alike_after = { λ x y xs k e h. Prim.rw (← e) h };
-
-    ghost alike_next = { λ x y e. Prim.rw e refl };
 
     fn bucket(&mut self, alloc: Global, inputs: &[Tagged], k: u64) -> Result<Tuples, StepFault> {
         if self.spent {

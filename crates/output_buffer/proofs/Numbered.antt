@@ -3,20 +3,13 @@ use Rattle.std.proofs.Common.{◌≡◌, ℕ, zero, suc, ◌+◌, ◌-◌, ◌<�
 use Rattle.dpc_model.specs.Lists.{changed}
 use Rattle.dpc_model.specs.Sessions.{Acked, stable_items}
 use Rattle.dpc_model.specs.declared.tuples.Tuple.{Tuple}
-use Rattle.dpc_model.specs.declared.tuples.Item.{Item}
+use Rattle.dpc_model.proofs.StableItems.{stable_items-taken}
 use Rattle.dpc_model.specs.declared.tuples.Item.TheVariants.{Stable}
-
-taken-more : (n i : ℕ) (xs : List Tuple) (t : Tuple) → i < length xs → t ≡ slice_index_or xs i t → stable_items n (take (suc i) xs) ≡ stable_items n (take i xs) ++ Stable (n + i) t ∷ []
-taken-more n i [] t low e = absurd (omega (arith, low))
-taken-more n zero (x ∷ xs) t low e = let none : n + 0 ≡ n = omega arith in rw (none, e) refl
-taken-more n (suc i) (x ∷ xs) t low e =
-    let next : n + suc i ≡ n + 1 + i = omega arith in
-    rw next (ap (λ (items : List Item). Stable n x ∷ items) (taken-more (n + 1) i xs t (omega (arith, low)) e))
 
 pub items-more : (n p i : ℕ) (xs : List Tuple) (t : Tuple) → p ≤ i → i < length xs → t ≡ slice_index_or xs i t →
     stable_items n (take (i + 1 - p) (drop p xs)) ≡ stable_items n (take (i - p) (drop p xs)) ++ Stable (n + (i - p)) t ∷ []
 items-more n zero i xs t low inside e =
-    let all : i + 1 - 0 ≡ suc i = omega arith in let none : i - 0 ≡ i = omega arith in rw (all, none) (taken-more n i xs t inside e)
+    let all : i + 1 - 0 ≡ suc i = omega arith in let none : i - 0 ≡ i = omega arith in rw (all, none) (stable_items-taken n i xs t inside e)
 items-more n (suc p) i [] t low inside e = absurd (omega (arith, inside))
 items-more n (suc p) zero (x ∷ xs) t low inside e = absurd (omega (arith, low))
 items-more n (suc p) (suc i) (x ∷ xs) t low inside e =

@@ -2,7 +2,9 @@
 use Rattle.std.proofs.Common.{◌≡◌, ℕ, zero, suc, ◌≤◌, Bool, true, false, cond, ◌&&◌, nat_lt, nat_le, List, [], ◌∷◌, ◌++◌, map, length, refl, sym, ap, subst, ◌∙◌, arith, append_assoc, Option, Some, None, slice_get, unwrap_or, is_some}
 use Rattle.std.proofs.lemmas.List.{length-append}
 use Rattle.dpc_model.specs.Lists.{nth, changed, push}
-use Rattle.dpc_model.specs.Actors.{Role, IsSource, IsNode, IsClient, Nobody, role_of}
+use Rattle.dpc_model.specs.Actors.{role_of}
+use Rattle.dpc_model.specs.declared.actors.Role.{Role}
+use Rattle.dpc_model.specs.declared.actors.Role.TheVariants.{Source as IsSource, Node as IsNode, Client as IsClient, Nobody}
 use Rattle.dpc_model.specs.declared.messages.Event.{Event}
 use Rattle.dpc_model.specs.declared.messages.Event.TheVariants.{Phase, Emit, Release, Cut, Heal, Crash, Restart, Deliver, Tick, Mill}
 use Rattle.dpc_model.specs.declared.plans.Plan.{Plan}

@@ -3,7 +3,9 @@ use Rattle.std.proofs.Common.{◌≡◌, ℕ, zero, suc, ◌+◌, ◌-◌, ◌^�
 use Rattle.std.specs.Prelude.{fold}
 use Rattle.std.proofs.lemmas.Option.{slice_get_past}
 use Rattle.dpc_model.specs.Lists.{nth, is_nil, has}
-use Rattle.dpc_model.specs.Actors.{Role, IsSource, IsNode, IsClient, Nobody, role_of}
+use Rattle.dpc_model.specs.Actors.{role_of}
+use Rattle.dpc_model.specs.declared.actors.Role.{Role}
+use Rattle.dpc_model.specs.declared.actors.Role.TheVariants.{Source as IsSource, Node as IsNode, Client as IsClient, Nobody}
 use Rattle.dpc_model.specs.declared.messages.Event.{Event}
 use Rattle.dpc_model.specs.declared.messages.Event.TheVariants.{Phase, Emit, Release, Cut, Heal, Crash, Restart, Deliver, Tick, Mill}
 use Rattle.dpc_model.specs.declared.scripts.Phase.{Phase as PhaseSpec}

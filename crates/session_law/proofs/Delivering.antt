@@ -4,7 +4,8 @@ use Rattle.std.proofs.lemmas.List.{append-nil}
 use Rattle.dpc_model.specs.Lists.{nth, changed}
 use Rattle.dpc_model.specs.Inlets.{same_sess, take_batch}
 use Rattle.dpc_model.specs.Granting.{grants, with_promise, may_enter_by}
-use Rattle.dpc_model.specs.Actors.{IsNode, role_of, replicas_of}
+use Rattle.dpc_model.specs.Actors.{role_of, replicas_of}
+use Rattle.dpc_model.specs.declared.actors.Role.TheVariants.{Node as IsNode}
 use Rattle.dpc_model.specs.Ports.{Port, no_port, sender_at, on_truncated, all_truncated}
 use Rattle.dpc_model.specs.Sessions.{Sub, Shown, answer_to}
 use Rattle.dpc_model.specs.declared.batches.Taken.{Taken}

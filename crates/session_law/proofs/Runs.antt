@@ -3,7 +3,9 @@ use Rattle.std.proofs.Common.{◌≡◌, ℕ, ◌*◌, true, List, [], map, leng
 use Rattle.std.specs.Prelude.{IfSome}
 use Rattle.dpc_model.specs.Lists.{nth, range_with_len}
 use Rattle.dpc_model.specs.Fragments.{ideal, ideal_upto}
-use Rattle.dpc_model.specs.Actors.{Role, IsSource, IsNode, IsClient, Nobody, role_of, nodes_of}
+use Rattle.dpc_model.specs.Actors.{role_of, nodes_of}
+use Rattle.dpc_model.specs.declared.actors.Role.{Role}
+use Rattle.dpc_model.specs.declared.actors.Role.TheVariants.{Source as IsSource, Node as IsNode, Client as IsClient, Nobody}
 use Rattle.dpc_model.specs.Sessions.{Sub, Shown, link_of}
 use Rattle.dpc_model.specs.declared.messages.Event.{Event}
 use Rattle.dpc_model.specs.declared.messages.Sess.{Sess}

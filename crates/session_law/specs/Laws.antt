@@ -1,7 +1,9 @@
 -- The session law of a run, and that no tentative tuple is invented.
 use Rattle.std.specs.Prelude.{◌≡◌, ◌⊎◌, ⊤, ℕ, List, [], ◌∷◌, length, drop, All, Contains, Some, None, IfSome, slice_get}
 use Rattle.dpc_model.specs.Lists.{nth}
-use Rattle.dpc_model.specs.Actors.{Role, IsSource, IsNode, IsClient, Nobody, role_of}
+use Rattle.dpc_model.specs.Actors.{role_of}
+use Rattle.dpc_model.specs.declared.actors.Role.{Role}
+use Rattle.dpc_model.specs.declared.actors.Role.TheVariants.{Source as IsSource, Node as IsNode, Client as IsClient, Nobody}
 use Rattle.dpc_model.specs.Sessions.{Sub, Shown, link_of}
 use Rattle.dpc_model.specs.declared.tuples.Tuple.{Tuple}
 use Rattle.dpc_model.specs.declared.tuples.Item.{Item}

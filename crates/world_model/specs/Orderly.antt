@@ -7,7 +7,9 @@ use Rattle.dpc_model.specs.Columns.{stream_columns}
 use Rattle.dpc_model.specs.Engines.{precedes}
 use Rattle.dpc_model.specs.Reading.{Reader, is_sure}
 use Rattle.dpc_model.specs.Inlets.{InletState}
-use Rattle.dpc_model.specs.Actors.{Role, IsSource, IsNode, IsClient, Nobody, role_of, reads_from, are_peers, senders_of}
+use Rattle.dpc_model.specs.Actors.{role_of, reads_from, are_peers, senders_of}
+use Rattle.dpc_model.specs.declared.actors.Role.{Role}
+use Rattle.dpc_model.specs.declared.actors.Role.TheVariants.{Source as IsSource, Node as IsNode, Client as IsClient, Nobody}
 use Rattle.dpc_model.specs.Ports.{Port}
 use Rattle.dpc_model.specs.Sessions.{Sub, Acked}
 use Rattle.dpc_model.specs.declared.tuples.Tuple.{Tuple}

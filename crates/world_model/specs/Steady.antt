@@ -1,6 +1,8 @@
 -- Runs in which nobody is taken for silent, and settling.
 use Rattle.std.specs.Prelude.{◌≡◌, ◌≢◌, ⊤, ℕ, ◌+◌, ◌<◌, false, IsTrue, List, [], ◌∷◌, length, IfSome, IsSome, All, ◌++◌}
-use Rattle.dpc_model.specs.Actors.{Role, IsSource, IsNode, IsClient, Nobody, role_of}
+use Rattle.dpc_model.specs.Actors.{role_of}
+use Rattle.dpc_model.specs.declared.actors.Role.{Role}
+use Rattle.dpc_model.specs.declared.actors.Role.TheVariants.{Source as IsSource, Node as IsNode, Client as IsClient, Nobody}
 use Rattle.dpc_model.specs.Replicas.{Watch}
 use Rattle.dpc_model.specs.Ports.{Port}
 use Rattle.dpc_model.specs.declared.messages.Event.{Event}

@@ -4,7 +4,8 @@ use Rattle.std.specs.Prelude.{IsTrue}
 use Rattle.dpc_model.specs.Lists.{list_all, place_of}
 use Rattle.dpc_model.specs.Reading.{Reader, empty_reader, NoReading, Skipped, Taken, reading, is_sure, Folded, fold_items, taken_first}
 use Rattle.dpc_model.specs.Inlets.{InletState, AfterBatch, take_batch, is_old, after_missing_batch, after_next_batch, new_inlet}
-use Rattle.dpc_model.specs.Actors.{IsClient, role_of, senders_of, inputs_of, reads_from}
+use Rattle.dpc_model.specs.Actors.{role_of, senders_of, inputs_of, reads_from}
+use Rattle.dpc_model.specs.declared.actors.Role.TheVariants.{Client as IsClient}
 use Rattle.dpc_model.specs.Ports.{held_at, without_ended_marks, port_after_tick, port_after_choice, subscriptions, acks_to}
 use Rattle.dpc_model.specs.declared.batches.Taken.{Taken as Answer}
 use Rattle.dpc_model.specs.declared.batches.Taken.TheVariants.{Used, Old, Broken}

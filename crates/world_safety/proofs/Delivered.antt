@@ -6,7 +6,9 @@ use Rattle.dpc_model.specs.Reading.{Reader}
 use Rattle.dpc_model.specs.Inlets.{same_sess, after_link, take_batch}
 use Rattle.dpc_model.specs.Replicas.{with_mark, after_beat}
 use Rattle.dpc_model.specs.Granting.{grants, with_promise, after_peer_beat, later_key, may_enter_by}
-use Rattle.dpc_model.specs.Actors.{Role, IsSource, IsNode, IsClient, Nobody, role_of, are_peers, sends_stream, replicas_of}
+use Rattle.dpc_model.specs.Actors.{role_of, are_peers, sends_stream, replicas_of}
+use Rattle.dpc_model.specs.declared.actors.Role.{Role}
+use Rattle.dpc_model.specs.declared.actors.Role.TheVariants.{Source as IsSource, Node as IsNode, Client as IsClient, Nobody}
 use Rattle.dpc_model.specs.Ports.{Port, held_at, sender_at, on_beat, on_truncated, all_truncated}
 use Rattle.dpc_model.specs.Sessions.{after_ack}
 use Rattle.dpc_model.specs.declared.batches.Taken.TheVariants.{Old, Broken}

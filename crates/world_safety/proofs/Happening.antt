@@ -6,7 +6,9 @@ use Rattle.std.proofs.lemmas.Grind.{common_steps}
 use Rattle.dpc_model.specs.Lists.{nth, changed, list_all, is_nil, push}
 use Rattle.dpc_model.specs.Streams.{count_below}
 use Rattle.dpc_model.specs.Fragments.{log_of}
-use Rattle.dpc_model.specs.Actors.{Role, IsSource, IsNode, IsClient, Nobody, role_of, nodes_of}
+use Rattle.dpc_model.specs.Actors.{role_of, nodes_of}
+use Rattle.dpc_model.specs.declared.actors.Role.{Role}
+use Rattle.dpc_model.specs.declared.actors.Role.TheVariants.{Source as IsSource, Node as IsNode, Client as IsClient, Nobody}
 use Rattle.dpc_model.specs.declared.messages.Event.{Event}
 use Rattle.dpc_model.specs.declared.messages.Event.TheVariants.{Phase, Emit, Release, Cut, Heal, Crash, Restart, Deliver, Tick, Mill}
 use Rattle.dpc_model.specs.declared.tuples.Tuple.{Tuple}

@@ -4,7 +4,8 @@ use Rattle.std.proofs.lemmas.Grind.{common_steps}
 use Rattle.dpc_model.specs.Lists.{nth, list_all, place_of}
 use Rattle.dpc_model.specs.Streams.{cut, is_below, count_below}
 use Rattle.dpc_model.specs.Fragments.{log_of, ideal, ideal_upto}
-use Rattle.dpc_model.specs.Actors.{IsSource, role_of, reads_from, are_peers}
+use Rattle.dpc_model.specs.Actors.{role_of, reads_from, are_peers}
+use Rattle.dpc_model.specs.declared.actors.Role.TheVariants.{Source as IsSource}
 use Rattle.dpc_model.specs.Sessions.{no_session, link_of, answer_to, given_items, stable_items, boundary_item}
 use Rattle.dpc_model.specs.declared.tuples.Tuple.{Tuple}
 use Rattle.dpc_model.specs.declared.messages.Message.{Message}

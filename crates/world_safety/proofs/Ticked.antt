@@ -7,7 +7,9 @@ use Rattle.dpc_model.specs.Lists.{nth, list_all, least, place_of}
 use Rattle.dpc_model.specs.Inlets.{with_next_session, asked_by}
 use Rattle.dpc_model.specs.Replicas.{rank_of, rank_order, choose, is_silent}
 use Rattle.dpc_model.specs.Granting.{with_ask, own_key}
-use Rattle.dpc_model.specs.Actors.{Role, IsSource, IsNode, IsClient, Nobody, role_of, are_peers, reads_from, senders_of, replicas_of, is_replica_of}
+use Rattle.dpc_model.specs.Actors.{role_of, are_peers, reads_from, senders_of, replicas_of, is_replica_of}
+use Rattle.dpc_model.specs.declared.actors.Role.{Role}
+use Rattle.dpc_model.specs.declared.actors.Role.TheVariants.{Source as IsSource, Node as IsNode, Client as IsClient, Nobody}
 use Rattle.dpc_model.specs.Ports.{Port, held_at, choice_at, must_reopen, port_after_choice, subscriptions, acks_to}
 use Rattle.dpc_model.specs.Sessions.{Sub, link_of}
 use Rattle.dpc_model.specs.declared.messages.Rank.{Rank}

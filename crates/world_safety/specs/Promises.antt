@@ -4,7 +4,8 @@ use Rattle.dpc_model.specs.Lists.{IsPrefixOf}
 use Rattle.dpc_model.specs.Streams.{cut}
 use Rattle.dpc_model.specs.Fragments.{ideal, ideal_upto}
 use Rattle.dpc_model.specs.Reading.{Reader, empty_reader, Folded, fold_items}
-use Rattle.dpc_model.specs.Actors.{IsNode, role_of}
+use Rattle.dpc_model.specs.Actors.{role_of}
+use Rattle.dpc_model.specs.declared.actors.Role.TheVariants.{Node as IsNode}
 use Rattle.dpc_model.specs.declared.tuples.Item.{Item}
 use Rattle.dpc_model.specs.declared.tuples.Item.TheVariants.{RecDone}
 use Rattle.dpc_model.specs.declared.messages.Event.{Event}

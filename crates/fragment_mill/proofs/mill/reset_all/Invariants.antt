@@ -1,11 +1,12 @@
-use Rattle.std.proofs.Common.{ℕ, ◌<◌, [], get_or}
-use Rattle.fragment_mill.specs.Mills.{OperatorAfter}
+use Rattle.std.proofs.Common.{◌≡◌, ℕ, ◌<◌, [], get_or, All}
+use Rattle.fragment_mill.specs.Mills.{OperatorAfter, specs_of}
+use Rattle.fragment_mill.specs.Milling.{IsFit}
 use Rattle.fragment_mill.specs.declared.mill.Stage.{Stage}
-use Rattle.fragment_mill.proofs.Running.{Renewed}
 use Rattle.fragment_mill.proofs.mill.reset_all.Given as goal
 
 abbrev pub invariant-loop-stage : goal.invariant-loop-stage
 invariant-loop-stage l = record {
-  renewed : Renewed l.stage-index l.fn.stages l.stages;
+  specs : specs_of l.stages ≡ specs_of l.fn.stages;
+  fits : (width : ℕ) → All (IsFit width) l.fn.stages → All (IsFit width) l.stages;
   after : (j : ℕ) (d : Stage) → j < l.stage-index → OperatorAfter (get_or l.stages j d).operator [] 0;
 }

@@ -1,4 +1,4 @@
-use Rattle.std.proofs.Common.{◌∙◌, sym, ap, arith}
+use Rattle.std.proofs.Common.{◌∙◌, sym, ap}
 use Rattle.ops_join.specs.Joins.{kept_from}
 use Rattle.ops_join.proofs.Kept.{kept-ordered, kept-dropped, order-dropped}
 use Rattle.ops_join.proofs.side.Side.forget.Goals as goal
@@ -9,14 +9,12 @@ loop-self-preserved c =
     let within = c.args.within in
     let begin = c.args.begin in
     record {
-      end = c.drop_first.ensures.end ∙ c.loop-self.invariant.end;
-      fits = let same = c.drop_first.ensures.fits in omega (arith, same, c.loop-self.invariant.fits);
       tuples =
           ap (kept_from within begin) c.drop_first.ensures.tuples
           ∙ kept-dropped within begin old.tuples.items (sym c.is_over.ensures ∙ c.loop-self-test.true)
           ∙ c.loop-self.invariant.tuples;
       order = rw c.drop_first.ensures.tuples (order-dropped old.tuples.items c.loop-self.invariant.order);
-      indexed = λ keys i. c.drop_first.ensures.indexed keys (c.loop-self.invariant.indexed keys i);
+      indexed = λ end keys i. c.drop_first.ensures.indexed end keys (c.loop-self.invariant.indexed end keys i);
     }
 
 pub returns-clause-tuples : goal.returns-clause-tuples
@@ -26,4 +24,4 @@ returns-clause-tuples c =
     ∙ c.loop-self.invariant.tuples
 
 pub returns-clause-indexed : goal.returns-clause-indexed
-returns-clause-indexed c = λ keys i. c.sweep.ensures.indexed keys (c.loop-self.invariant.indexed keys i)
+returns-clause-indexed c = λ end keys i. c.sweep.ensures.indexed end keys (c.loop-self.invariant.indexed end keys i)

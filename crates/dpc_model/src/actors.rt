@@ -1,0 +1,49 @@
+//! The actors of a plan, by number: sources, then the replicas of the fragments, then clients.
+ghost use Rattle.std.specs.Prelude.{◌≡◌, ◌+◌, length, slice_get, Some, IfOk, IfErr};
+ghost use Rattle.dpc_model.specs.Actors.{nodes_from, role_of};
+
+use crate::plans::{FragSpec, Plan};
+
+/// What an actor is: a source, a replica of a fragment (fragment and replica), a client, or nobody.
+#[derive(Clone, Copy, PartialEq, Eq, Debug)]
+pub enum Role {
+    Source(u64),
+    Node(u64, u64),
+    Client(u64),
+    Nobody,
+}
+
+/// The fragment and replica of the node of that number, or by how much the number lies past the last one.
+fn node_at(frags: &[FragSpec], number: u64) -> Result<(u64, u64), u64>
+    ensures found { IfOk result (λ n. slice_get (nodes_from 0 frags.now) number ≡ Some n) }
+    ensures past { IfErr result (λ past. number ≡ length (nodes_from 0 frags.now) + past) }
+{
+    let mut left = number;
+    for (f, frag) in frags.iter().enumerate() {
+        if left < frag.replicas {
+            return Ok((f as u64, left));
+        }
+        left -= frag.replicas;
+    }
+    Err(left)
+}
+
+/// What the actor of that number is.
+pub fn role_of(plan: &Plan, actor: u64) -> Role
+    ensures { result ≡ role_of plan.now actor }
+{
+    let sources = plan.sources.len() as u64;
+    if actor < sources {
+        return Role::Source(actor);
+    }
+    match node_at(plan.frags.as_slice(), actor - sources) {
+        Ok((frag, replica)) => Role::Node(frag, replica),
+        Err(past) => {
+            if past < plan.clients.len() as u64 {
+                Role::Client(past)
+            } else {
+                Role::Nobody
+            }
+        }
+    }
+}

@@ -1,0 +1,214 @@
+//! The two sides of a join.
+ghost use Rattle.std.specs.Prelude.{◌≡◌, ◌≤◌, ◌<◌, ◌↔◌, [], ◌∷◌, filter, length, nat_le, IfOk, OnOk, OnErr, IsTrue, All};
+ghost use Rattle.dpc_model.specs.Streams.{InOrder};
+ghost use Rattle.dpc_model.specs.Operators.{is_within};
+ghost use Rattle.dpc_model.specs.Fragments.{at_port};
+ghost use Rattle.ops_join.specs.Joins.{kept_from};
+ghost use Rattle.ops_join.specs.Sides.{port_of, shares_key, is_partner, places_from, new_sides, tuples_of, taken};
+ghost use Rattle.ops_join.specs.Keeping.{IsIndexed};
+
+use crate::ends::End;
+use crate::side::{Side, key_of};
+use dpc_model::exact::Exact;
+use dpc_model::faults::NoMemory;
+use dpc_model::inlined::Inlined;
+use dpc_model::lists::Listed;
+use dpc_model::tuples::{Tagged, Tuple};
+use std::alloc::Global;
+use std::collections::VecDeque;
+use std::marker::Model;
+use std::ops::Bound;
+
+/// Places of tuples on one side.
+pub type Places = Inlined<usize, 4>;
+
+/// The tuples of both sides, by the key columns of a join. Contracts see a `SidesState`.
+#[derive(Drop)]
+pub struct Sides {
+    keys: Listed<(u64, u64)>,
+    left: Side,
+    right: Side,
+}
+
+impl Model for Sides {
+    ghost use Rattle.ops_join.specs.Sides.{SidesState};
+    ghost use Rattle.ops_join.specs.Keeping.{IsIndexed};
+    ghost use Rattle.ops_join.specs.declared.ends.End.TheVariants.{Left, Right};
+
+    ghost Value = { SidesState };
+
+    ghost view = { λ s. record { keys = s.keys; left = s.left.tuples.items; right = s.right.tuples.items } };
+
+    ghost invariant = { λ s. IsIndexed Left s.keys s.left × IsIndexed Right s.keys s.right };
+}
+
+/// Whether two times are at most so far apart.
+fn are_near(within: u64, time: u64, other: u64) -> bool
+    ensures { result ≡ is_within within time other }
+{
+    time.saturating_sub(other) <= within && other.saturating_sub(time) <= within
+}
+
+impl Sides {
+    /// Sides with no tuple. It takes no memory.
+    pub fn new(alloc: Global, keys: Listed<(u64, u64)>) -> Sides
+        ensures { result ≡ new_sides keys }
+    {
+        Sides {
+            keys,
+            left: Side::new(alloc),
+            right: Side::new(alloc),
+        }
+    }
+
+    /// Lets all tuples go.
+    pub fn clear(&mut self)
+        ensures { self.new ≡ new_sides self.old.keys }
+    {
+        self.left.clear();
+        self.right.clear();
+    }
+
+    /// The left tuples, in order of place.
+    pub fn left(&self) -> &VecDeque<Tuple>
+        ensures { result.now.items ≡ self.now.left }
+    {
+        &self.left.tuples
+    }
+
+    /// The right tuples, in order of place.
+    pub fn right(&self) -> &VecDeque<Tuple>
+        ensures { result.now.items ≡ self.now.right }
+    {
+        &self.right.tuples
+    }
+
+    /// The side of this end, whose index has its tuples.
+    fn side(&self, end: End) -> &Side
+        ensures tuples { result.now.tuples.items ≡ tuples_of end self.now }
+        ensures indexed { IsIndexed end self.now.keys result.now }
+    {
+        match end {
+            End::Left => &self.left,
+            End::Right => &self.right,
+        }
+    }
+
+    /// Takes a copy of a tuple on a side. After an error nothing changed.
+    fn push(&mut self, alloc: Global, end: End, tuple: &Tuple) -> Result<(), NoMemory>
+        ensures ok { OnOk result (self.new ≡ taken end (tuple.now ∷ []) self.old) }
+        ensures err { OnErr result (self.new ≡ self.old) }
+    {
+        let keys = self.keys.as_slice();
+        match end {
+            End::Left => self.left.push(alloc, end, keys, tuple),
+            End::Right => self.right.push(alloc, end, keys, tuple),
+        }
+    }
+
+    /// Takes the inputs of a side's port. After an error it took some of them.
+    pub fn take(&mut self, alloc: Global, end: End, inputs: &[Tagged]) -> Result<(), NoMemory>
+        ensures taken { OnOk result (self.new ≡ taken end (at_port (port_of end) inputs.now) self.old) }
+        ensures keys { self.new.keys ≡ self.old.keys }
+    {
+        for x in inputs {
+            if x.port == end.port() {
+                self.push(alloc, end, &x.tuple)?;
+            }
+        }
+        Ok(())
+    }
+
+    /// Lets the tuples go that can meet no partner from this time on. It takes no memory.
+    pub fn forget(&mut self, within: u64, begin: u64)
+        requires left { InOrder self.old.left }
+        requires right { InOrder self.old.right }
+        ensures { self.new ≡ record self.old { left = kept_from within begin self.old.left; right = kept_from within begin self.old.right } }
+    {
+        self.left.forget(within, begin);
+        self.right.forget(within, begin);
+    }
+
+    /// The places of a side's tuples from place `from` on that share their key with one of the other
+    /// side, in order.
+    fn sharing(&self, alloc: Global, end: End, of: &Tuple, from: usize) -> Result<Places, NoMemory>
+        requires { from ≤ length (tuples_of end self.now) }
+        ensures places { IfOk result (λ places. places
+            ≡ filter (λ p. nat_le from p) (places_from (shares_key end self.now.keys of.now) 0 (tuples_of end self.now))) }
+        ensures inside { IfOk result (λ places. All (λ p. p < length (tuples_of end self.now)) places) }
+    {
+        let side = self.side(end);
+        let key = key_of(alloc, self.keys.as_slice(), end.other(), of)?;
+        let start = (key, side.first + from as u64);
+        let mut places = Places::new(alloc);
+        for (key, number) in side
+            .index
+            .range((Bound::Included(&start), Bound::Unbounded))
+        {
+            if *key != start.0 {
+                return Ok(places);
+            }
+            places.push(number.saturating_sub(side.first) as usize)?;
+        }
+        Ok(places)
+    }
+
+    /// The places of a side's tuples from place `from` on that are partners of one of the other side,
+    /// in order.
+    pub fn partners(
+        &self,
+        alloc: Global,
+        within: u64,
+        end: End,
+        of: &Tuple,
+        from: usize,
+    ) -> Result<Places, NoMemory>
+        requires { from ≤ length (tuples_of end self.now) }
+        ensures places { IfOk result (λ places. places
+            ≡ filter (λ p. nat_le from p) (places_from (is_partner end within self.now.keys of.now) 0 (tuples_of end self.now))) }
+        ensures inside { IfOk result (λ places. All (λ p. p < length (tuples_of end self.now)) places) }
+    {
+        let side = self.side(end);
+        let mut places = Places::new(alloc);
+        let sharing = self.sharing(alloc, end, of, from)?;
+        for place in sharing.as_slice() {
+            if are_near(within, side.tuples[*place].stime, of.stime) {
+                places.push(*place)?;
+            }
+        }
+        Ok(places)
+    }
+
+    /// Takes these tuples again.
+    fn take_copies(
+        &mut self,
+        alloc: Global,
+        end: End,
+        tuples: &VecDeque<Tuple>,
+    ) -> Result<(), NoMemory>
+        ensures { OnOk result (self.new ≡ taken end tuples.now.items self.old) }
+    {
+        for tuple in tuples.iter() {
+            self.push(alloc, end, tuple)?;
+        }
+        Ok(())
+    }
+
+    /// The same tuples again.
+    pub fn copy(&self, alloc: Global) -> Result<Sides, NoMemory>
+        ensures { IfOk result (λ other. other ≡ self.now) }
+    {
+        let keys = self.keys.copy(alloc)?;
+        let mut other = Sides::new(alloc, keys);
+        other.take_copies(alloc, End::Left, self.left())?;
+        other.take_copies(alloc, End::Right, self.right())?;
+        Ok(other)
+    }
+
+    /// Whether the two have the same key columns and the same tuples.
+    pub fn same(&self, other: &Sides) -> bool
+        ensures { IsTrue result ↔ (self.now ≡ other.now) }
+    {
+        self.keys.same(&other.keys) && self.left.same(&other.left) && self.right.same(&other.right)
+    }
+}
