@@ -1,0 +1,13 @@
+pub mod Lines
+pub mod Spelling
+pub mod Keywords
+pub mod Symbols
+pub mod Statements
+pub mod Drafts
+pub mod Places
+pub mod Reasons
+pub mod Reading
+pub mod Checking
+pub mod Canonical
+pub mod Facts
+pub mod Laws
