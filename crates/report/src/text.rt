@@ -3,12 +3,14 @@ ghost use Rattle.std.specs.Prelude.{◌≡◌, ◌∷◌, [], ◌++◌, OnOk, On
 ghost use Rattle.std.specs.Io.{StartsWith};
 ghost use Rattle.std.specs.Fmt.{signed_decimal};
 ghost use Rattle.dpc_model.specs.Words.{spaced, line_of, text_of};
-ghost use Rattle.report.specs.Spaces.{behind_spaces};
-ghost use Rattle.report.specs.Text.{tuple_words, item_words, settled_word, summary_words, client_lines};
+ghost use Rattle.line_writer.specs.Spaces.{behind_spaces};
+ghost use Rattle.report.specs.Text.{tuple_words, item_words, settled_word, summary_words, client_lines, stream_lines};
+ghost use Rattle.dpc_model.specs.Sessions.{stable_items};
+ghost use Rattle.dpc_model.specs.declared.tuples.Item.TheVariants.{Stable};
 
 use dpc_model::faults::NoMemory;
 use dpc_model::tuples::{Item, Tuple};
-use itoa::Buffer;
+use line_writer::{put_first, put_number, put_values, put_word};
 
 /// What the last line of a client tells: how many stable tuples it holds, up to where they are all,
 /// how many tentative ones, and whether nothing is missing and nothing may change.
@@ -20,41 +22,8 @@ pub struct Summary {
     pub settled: bool,
 }
 
-/// A word behind a space.
-#[tactic(auto, using(crate::proofs::Kept::kept_same, crate::proofs::Kept::kept_behind))]
-fn put_word(text: &mut Vec<u8>, word: &[u8]) -> Result<(), NoMemory>
-    ensures put { OnOk result (text.new.items ≡ text.old.items ++ behind_spaces (word.now ∷ [])) }
-    ensures kept { OnErr result (StartsWith text.new.items text.old.items) }
-{
-    text.push(b' ')?;
-    text.extend_from_slice(word)?;
-    Ok(())
-}
-
-/// A number behind a space.
-fn put_number(text: &mut Vec<u8>, number: u64) -> Result<(), NoMemory>
-    ensures put { OnOk result (text.new.items ≡ text.old.items ++ behind_spaces (decimal number ∷ [])) }
-    ensures kept { OnErr result (StartsWith text.new.items text.old.items) }
-{
-    let mut buffer = Buffer::new();
-    put_word(text, buffer.format(number).as_bytes())
-}
-
-/// The values, each behind a space.
-#[tactic(auto, using(crate::proofs::Kept::kept_then))]
-fn put_values(text: &mut Vec<u8>, values: &[i64]) -> Result<(), NoMemory>
-    ensures put { OnOk result (text.new.items ≡ text.old.items ++ behind_spaces (map signed_decimal values.now)) }
-    ensures kept { OnErr result (StartsWith text.new.items text.old.items) }
-{
-    for value in values {
-        let mut buffer = Buffer::new();
-        put_word(text, buffer.format(*value).as_bytes())?;
-    }
-    Ok(())
-}
-
 /// The time and the values of a tuple, each behind a space.
-#[tactic(auto, using(crate::proofs::Kept::kept_last))]
+#[tactic(auto, using(line_writer::proofs::Kept::kept_last))]
 fn put_tuple(text: &mut Vec<u8>, tuple: &Tuple) -> Result<(), NoMemory>
     ensures put { OnOk result (text.new.items ≡ text.old.items ++ behind_spaces (tuple_words tuple.now)) }
     ensures kept { OnErr result (StartsWith text.new.items text.old.items) }
@@ -63,28 +32,25 @@ fn put_tuple(text: &mut Vec<u8>, tuple: &Tuple) -> Result<(), NoMemory>
     put_values(text, tuple.vals.as_slice())
 }
 
-/// The first word of a line.
-#[tactic(auto, using(crate::proofs::Kept::kept_same))]
-fn put_first(text: &mut Vec<u8>, word: &[u8]) -> Result<(), NoMemory>
-    ensures put { OnOk result (text.new.items ≡ text.old.items ++ word.now) }
+/// The words of a stable tuple of this number.
+#[tactic(auto, using(line_writer::proofs::Kept::kept_then, line_writer::proofs::Kept::kept_last))]
+fn put_stable(text: &mut Vec<u8>, number: u64, tuple: &Tuple) -> Result<(), NoMemory>
+    ensures put { OnOk result (text.new.items ≡ text.old.items ++ spaced (item_words (Stable number tuple.now))) }
     ensures kept { OnErr result (StartsWith text.new.items text.old.items) }
 {
-    text.extend_from_slice(word)?;
-    Ok(())
+    put_first(text, b"stable")?;
+    put_number(text, number)?;
+    put_tuple(text, tuple)
 }
 
 /// The words of an item.
-#[tactic(auto, using(crate::proofs::Kept::kept_then, crate::proofs::Kept::kept_last))]
+#[tactic(auto, using(line_writer::proofs::Kept::kept_then, line_writer::proofs::Kept::kept_last))]
 fn put_item(text: &mut Vec<u8>, item: &Item) -> Result<(), NoMemory>
     ensures put { OnOk result (text.new.items ≡ text.old.items ++ spaced (item_words item.now)) }
     ensures kept { OnErr result (StartsWith text.new.items text.old.items) }
 {
     match item {
-        Item::Stable(number, tuple) => {
-            put_first(text, b"stable")?;
-            put_number(text, *number)?;
-            put_tuple(text, tuple)
-        }
+        Item::Stable(number, tuple) => put_stable(text, *number, tuple),
         Item::Tentative(tuple) => {
             put_first(text, b"tentative")?;
             put_tuple(text, tuple)
@@ -107,7 +73,7 @@ fn put_item(text: &mut Vec<u8>, item: &Item) -> Result<(), NoMemory>
 }
 
 /// One line for each item.
-#[tactic(auto, using(crate::proofs::Kept::kept_behind, crate::proofs::Kept::kept_then))]
+#[tactic(auto, using(line_writer::proofs::Kept::kept_behind, line_writer::proofs::Kept::kept_then))]
 fn put_items(text: &mut Vec<u8>, items: &[Item]) -> Result<(), NoMemory>
     ensures put { OnOk result (text.new.items ≡ text.old.items ++ text_of (map item_words items.now)) }
     ensures kept { OnErr result (StartsWith text.new.items text.old.items) }
@@ -120,7 +86,7 @@ fn put_items(text: &mut Vec<u8>, items: &[Item]) -> Result<(), NoMemory>
 }
 
 /// The line of a client's name.
-#[tactic(auto, using(crate::proofs::Kept::kept_behind, crate::proofs::Kept::kept_then))]
+#[tactic(auto, using(line_writer::proofs::Kept::kept_behind, line_writer::proofs::Kept::kept_then))]
 fn put_name(text: &mut Vec<u8>, name: &[u8]) -> Result<(), NoMemory>
     ensures put { OnOk result (text.new.items ≡ text.old.items ++ line_of (codes "client" ∷ name.now ∷ [])) }
     ensures kept { OnErr result (StartsWith text.new.items text.old.items) }
@@ -132,7 +98,7 @@ fn put_name(text: &mut Vec<u8>, name: &[u8]) -> Result<(), NoMemory>
 }
 
 /// A word and a number, each behind a space.
-#[tactic(auto, using(crate::proofs::Kept::kept_last))]
+#[tactic(auto, using(line_writer::proofs::Kept::kept_last))]
 fn put_count(text: &mut Vec<u8>, word: &[u8], number: u64) -> Result<(), NoMemory>
     ensures put { OnOk result (text.new.items ≡ text.old.items ++ behind_spaces (word.now ∷ decimal number ∷ [])) }
     ensures kept { OnErr result (StartsWith text.new.items text.old.items) }
@@ -154,7 +120,7 @@ fn put_settled(text: &mut Vec<u8>, settled: bool) -> Result<(), NoMemory>
 }
 
 /// The summary line of a client. Where memory ends, the old text stands.
-#[tactic(auto, using(crate::proofs::Kept::kept_behind, crate::proofs::Kept::kept_then))]
+#[tactic(auto, using(line_writer::proofs::Kept::kept_behind, line_writer::proofs::Kept::kept_then))]
 pub fn put_summary(text: &mut Vec<u8>, name: &[u8], summary: &Summary) -> Result<(), NoMemory>
     ensures put { OnOk result (text.new.items ≡ text.old.items ++ line_of (summary_words name.now summary.now)) }
     ensures kept { OnErr result (StartsWith text.new.items text.old.items) }
@@ -171,7 +137,7 @@ pub fn put_summary(text: &mut Vec<u8>, name: &[u8], summary: &Summary) -> Result
 
 /// Appends the lines of one client: its name, one line for each item that it took, and its summary.
 /// Where memory ends, the old text stands, and what stands behind it is left open.
-#[tactic(auto, using(crate::proofs::Kept::kept_then, crate::proofs::Kept::kept_last))]
+#[tactic(auto, using(line_writer::proofs::Kept::kept_then, line_writer::proofs::Kept::kept_last))]
 pub fn put_client(
     text: &mut Vec<u8>,
     name: &[u8],
@@ -184,4 +150,33 @@ pub fn put_client(
     put_name(text, name)?;
     put_items(text, items)?;
     put_summary(text, name, summary)
+}
+
+/// The lines of a stream's tuples, each with its number.
+#[tactic(auto, using(line_writer::proofs::Kept::kept_behind, line_writer::proofs::Kept::kept_then))]
+fn put_all_stable(text: &mut Vec<u8>, tuples: &[Tuple]) -> Result<(), NoMemory>
+    ensures put { OnOk result (text.new.items
+        ≡ text.old.items ++ text_of (map item_words (stable_items 0 tuples.now))) }
+    ensures kept { OnErr result (StartsWith text.new.items text.old.items) }
+{
+    for (number, tuple) in tuples.iter().enumerate() {
+        put_stable(text, number as u64, tuple)?;
+        text.push(b'\n')?;
+    }
+    Ok(())
+}
+
+/// Appends the lines of one client's failure-free stream: its name, one line for each tuple, and how
+/// many there are. Where memory ends, the old text stands, and what stands behind it is left open.
+#[tactic(auto, using(line_writer::proofs::Kept::kept_behind, line_writer::proofs::Kept::kept_then))]
+pub fn put_stream(text: &mut Vec<u8>, name: &[u8], tuples: &[Tuple]) -> Result<(), NoMemory>
+    ensures put { OnOk result (text.new.items ≡ text.old.items ++ text_of (stream_lines name.now tuples.now)) }
+    ensures kept { OnErr result (StartsWith text.new.items text.old.items) }
+{
+    put_name(text, name)?;
+    put_all_stable(text, tuples)?;
+    put_first(text, b"total")?;
+    put_number(text, tuples.len() as u64)?;
+    text.push(b'\n')?;
+    Ok(())
 }

@@ -1,6 +1,6 @@
 use Rattle.std.proofs.Common.{◌≡◌, ℕ, List, [], ◌∷◌, codes, OnOk, subst, map}
 use Rattle.report.specs.Text.{item_words, summary_words}
-use Rattle.report.proofs.Lines.{all_lines}
+use Rattle.line_writer.proofs.Lines.{all_lines}
 use Rattle.report.proofs.text.put_client.Goals as goal
 
 pub returns-clause-put : goal.returns-clause-put

@@ -1,6 +1,6 @@
 use Rattle.std.proofs.Common.{codes, decimal}
 use Rattle.report.specs.Text.{settled_word}
-use Rattle.report.proofs.Lines.{nine_words}
+use Rattle.line_writer.proofs.Lines.{nine_words}
 use Rattle.report.proofs.text.put_summary.Goals as goal
 
 pub returns-clause-put : goal.returns-clause-put

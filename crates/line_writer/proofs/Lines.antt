@@ -3,7 +3,7 @@ use Rattle.std.proofs.Common.{◌≡◌, ℕ, List, [], ◌∷◌, ◌++◌, sym
 use Rattle.std.proofs.lemmas.List.{append-nil}
 use Rattle.std.proofs.lemmas.Grind.{flat_map-append}
 use Rattle.dpc_model.specs.Words.{Word, spaced, line_of, text_of}
-use Rattle.report.specs.Spaces.{behind_spaces}
+use Rattle.line_writer.specs.Spaces.{behind_spaces}
 
 -- a line's words are the first one, and the others each behind a space
 spaced-cons : (w : Word) (words : List Word) → spaced (w ∷ words) ≡ w ++ behind_spaces words
@@ -43,3 +43,30 @@ all_lines old first lines last =
     append_assoc (old ++ line_of first) (text_of lines) (line_of last) ∙ append_assoc old (line_of first) (text_of lines ++ line_of last)
     ∙ ap (λ (t : List ℕ). old ++ (line_of first ++ (text_of lines ++ t))) (sym (append-nil (line_of last)))
     ∙ ap (λ (t : List ℕ). old ++ (line_of first ++ t)) (sym (flat_map-append line_of lines (last ∷ [])))
+
+-- a first word, and words behind it in three parts, as a line
+pub line_in_parts : (old w : List ℕ) (a b c : List Word) →
+    ((((old ++ w) ++ behind_spaces a) ++ behind_spaces b) ++ behind_spaces c) ++ 10 ∷ [] ≡ old ++ line_of (w ∷ (a ++ (b ++ c)))
+line_in_parts old w a b c =
+    ap (λ (t : List ℕ). (t ++ behind_spaces c) ++ 10 ∷ []) (behind_both (old ++ w) a b)
+    ∙ ap (λ (t : List ℕ). t ++ 10 ∷ []) (behind_both (old ++ w) (a ++ b) c)
+    ∙ ap (λ (words : List Word). ((old ++ w) ++ behind_spaces words) ++ 10 ∷ []) (append_assoc a b c)
+    ∙ ap (λ (t : List ℕ). t ++ 10 ∷ []) (more_words old w (a ++ (b ++ c)))
+    ∙ append_assoc old (spaced (w ∷ (a ++ (b ++ c)))) (10 ∷ [])
+
+-- lines behind a text, in two parts
+pub text_in_parts : (old : List ℕ) (a b : List (List Word)) → (old ++ text_of a) ++ text_of b ≡ old ++ text_of (a ++ b)
+text_in_parts old a b = append_assoc old (text_of a) (text_of b) ∙ ap (λ (t : List ℕ). old ++ t) (sym (flat_map-append line_of a b))
+
+-- a line and lines behind a text, in parts
+pub block_in_parts : (old : List ℕ) (first : List Word) (a b : List (List Word)) →
+    ((old ++ line_of first) ++ text_of a) ++ text_of b ≡ old ++ text_of ((first ∷ a) ++ b)
+block_in_parts old first a b =
+    ap (λ (t : List ℕ). t ++ text_of b) (append_assoc old (line_of first) (text_of a)) ∙ text_in_parts old (first ∷ a) b
+
+-- one more line behind others
+pub one_more_line : (old : List ℕ) (lines : List (List Word)) (line : List Word) →
+    ((old ++ text_of lines) ++ spaced line) ++ 10 ∷ [] ≡ old ++ text_of (lines ++ line ∷ [])
+one_more_line old lines line =
+    append_assoc (old ++ text_of lines) (spaced line) (10 ∷ [])
+    ∙ ap (λ (t : List ℕ). (old ++ text_of lines) ++ t) (sym (append-nil (line_of line))) ∙ text_in_parts old lines (line ∷ [])

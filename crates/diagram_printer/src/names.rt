@@ -1,0 +1,89 @@
+//! The names by which a text refers to streams, operators and actors.
+ghost use Rattle.std.specs.Prelude.{◌≡◌, ◌∷◌, [], ◌++◌, OnOk, decimal};
+ghost use Rattle.dpc_model.specs.ScriptText.{source_name, frag_name, client_name, stream_name, actor_name, wire_word};
+ghost use Rattle.line_writer.specs.Spaces.{behind_spaces};
+
+use dpc_model::actors::{Role, role_of};
+use dpc_model::faults::NoMemory;
+use dpc_model::operators::Wire;
+use dpc_model::plans::{FragSpec, Plan, StreamRef};
+use itoa::Buffer;
+use line_writer::{put_first, put_word};
+
+/// The name of a source, and no byte where there is none.
+pub fn source_name(plan: &Plan, source: u64) -> &[u8]
+    ensures { result.now ≡ source_name plan.now source }
+{
+    match plan.sources.as_slice().get(source as usize) {
+        Some(source) => source.name.as_slice(),
+        None => &[],
+    }
+}
+
+/// The name of a fragment, and no byte where there is none.
+fn frag_name(plan: &Plan, frag: u64) -> &[u8]
+    ensures { result.now ≡ frag_name plan.now frag }
+{
+    match plan.frags.as_slice().get(frag as usize) {
+        Some(frag) => frag.name.as_slice(),
+        None => &[],
+    }
+}
+
+/// The name of a client, and no byte where there is none.
+fn client_name(plan: &Plan, client: u64) -> &[u8]
+    ensures { result.now ≡ client_name plan.now client }
+{
+    match plan.clients.as_slice().get(client as usize) {
+        Some(client) => client.name.as_slice(),
+        None => &[],
+    }
+}
+
+/// The name of a stream.
+pub fn stream_name(plan: &Plan, stream: StreamRef) -> &[u8]
+    ensures { result.now ≡ stream_name plan.now stream }
+{
+    match stream {
+        StreamRef::Source(source) => source_name(plan, source),
+        StreamRef::Frag(frag) => frag_name(plan, frag),
+    }
+}
+
+/// The name of what an operator of a fragment reads: a port's stream, or an operator.
+pub fn wire_name<'a>(plan: &'a Plan, frag: &'a FragSpec, wire: Wire) -> &'a [u8]
+    ensures { result.now ≡ wire_word plan.now frag.now wire }
+{
+    match wire {
+        Wire::Port(port) => match frag.inputs.as_slice().get(port as usize) {
+            Some(stream) => stream_name(plan, *stream),
+            None => &[],
+        },
+        Wire::Op(op) => match frag.ops.as_slice().get(op as usize) {
+            Some(op) => op.name.as_slice(),
+            None => &[],
+        },
+    }
+}
+
+/// A node's name behind a space: its fragment, a dot and its replica's number.
+fn put_node(text: &mut Vec<u8>, plan: &Plan, frag: u64, replica: u64) -> Result<(), NoMemory>
+    ensures { OnOk result (text.new.items ≡ text.old.items ++ behind_spaces ((frag_name plan.now frag ++ 46 ∷ decimal replica) ∷ [])) }
+{
+    put_word(text, frag_name(plan, frag))?;
+    put_first(text, b".")?;
+    let mut buffer = Buffer::new();
+    put_first(text, buffer.format(replica).as_bytes())
+}
+
+/// The name of an actor behind a space.
+pub fn put_actor(text: &mut Vec<u8>, plan: &Plan, actor: u64) -> Result<(), NoMemory>
+    ensures { OnOk result (text.new.items ≡ text.old.items ++ behind_spaces (actor_name plan.now actor ∷ [])) }
+{
+    match role_of(plan, actor) {
+        Role::Source(source) => put_word(text, source_name(plan, source)),
+        Role::Node(frag, replica) => put_node(text, plan, frag, replica),
+        Role::Client(client) => put_word(text, client_name(plan, client)),
+        Role::Nobody => put_word(text, b""),
+    }
+}
