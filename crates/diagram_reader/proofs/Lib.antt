@@ -1,8 +1,3 @@
-pub mod Cuts
-pub mod Digits
-pub mod Fronts
-pub mod SplittingLaws
-pub mod NumeralLaws
-pub mod LineLaws
-pub mod ScriptLaws
-pub mod Comparisons
+pub mod Numbered
+pub mod OperatorLines
+pub mod TakenLines

@@ -1,32 +1,31 @@
-//! Why a text is no script.
-ghost use Rattle.std.specs.Prelude.{◌≡◌};
-ghost use Rattle.diagram_reader.specs.declared.faults.ScriptFault.TheVariants as fault;
-
-use std::alloc::{AllocError, AllocFailed};
+//! Why a text or a line is refused.
+use dpc_model::faults::NoMemory;
+use dpc_model::scripts::PlanFault;
 
 /// Why a text was not read as a script.
 #[derive(Clone, Copy, PartialEq, Eq, Debug)]
 pub enum ScriptFault {
     NoMemory,
-    /// The first faulty line, from 1, and the reason. Where the form is not built yet, both are 0.
-    Refused { line: u64, reason: u64 },
+    /// The first faulty line, from 1, and the least reason that applies to it; line 0 where the text is
+    /// longer than the longest.
+    Refused(PlanFault),
 }
 
-/// The refusal of each form that is not built yet.
-pub(crate) const NOT_READ: ScriptFault = ScriptFault::Refused { line: 0, reason: 0 };
-
-impl From<AllocError> for ScriptFault {
-    ghost from_gives = { λ _ e. e ≡ fault.NoMemory };
-
-    fn from(_fault: AllocError) -> ScriptFault {
-        ScriptFault::NoMemory
-    }
+/// Why a line was not taken.
+#[derive(Clone, Copy, PartialEq, Eq, Debug)]
+pub enum LineFault {
+    NoMemory,
+    /// The least reason that applies to it.
+    Refused(u64),
 }
 
-impl<T: Drop> From<AllocFailed<T>> for ScriptFault {
+impl From<NoMemory> for LineFault {
+    ghost use Rattle.std.specs.Prelude.{◌≡◌};
+    ghost use Rattle.diagram_reader.specs.declared.faults.LineFault.TheVariants as fault;
+
     ghost from_gives = { λ _ e. e ≡ fault.NoMemory };
 
-    fn from(_fault: AllocFailed<T>) -> ScriptFault {
-        ScriptFault::NoMemory
+    fn from(_fault: NoMemory) -> LineFault {
+        LineFault::NoMemory
     }
 }

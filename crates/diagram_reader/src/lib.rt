@@ -1,14 +1,9 @@
-//! Reads the text of a script. So far the first form is read: one source, one filter on one replica,
-//! one client, and releases.
+//! Reads the text of a script.
 #![tactic(auto)]
 
-mod cursors;
 pub mod faults;
-mod fields;
-mod numerals;
+mod operators;
 mod reader;
+mod statements;
 
 pub use reader::read_script;
-
-#[cfg(test)]
-mod tests;

@@ -1,0 +1,10 @@
+mod Actors
+mod Changes
+mod Columns
+mod Downs
+mod Faults
+mod Found
+mod Lasts
+mod Names
+mod Nodes
+mod Shapes

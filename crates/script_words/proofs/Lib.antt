@@ -1,0 +1,15 @@
+pub mod Splitting
+pub mod Cuts
+pub mod Taking
+pub mod Digits
+pub mod Values
+pub mod Opened
+pub mod Seeing
+pub mod Scanning
+pub mod Limiting
+pub mod ReadOperands
+pub mod ReadExpressions
+pub mod Spanning
+pub mod Faults
+pub mod Lengths
+pub mod Ranges

@@ -1,0 +1,11 @@
+pub mod Ends
+pub mod Cursors
+pub mod Options
+pub mod Numbers
+pub mod Symbols
+pub mod Operands
+pub mod Readable
+pub mod Spans
+pub mod Limits
+pub mod Scans
+pub mod Faultless
