@@ -1,0 +1,4 @@
+pub mod Streams
+pub mod Splitting
+pub mod Steps
+pub mod Texts
