@@ -1,0 +1,3 @@
+pub mod Evens
+pub mod Sent
+pub mod Plans
