@@ -1,3 +1,4 @@
 pub mod Known
 pub mod Ended
 pub mod Commands
+pub mod Ideals

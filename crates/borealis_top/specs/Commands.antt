@@ -1,18 +1,34 @@
 -- Which words are a command.
-use Rattle.std.specs.Prelude.{ℕ, if◌then◌else◌, List, [], ◌∷◌, Option, Some, None, codes, bytes_eq}
+use Rattle.std.specs.Prelude.{ℕ, ◌&&◌, nat_le, if◌then◌else◌, List, [], ◌∷◌, Option, Some, None, option_map, codes, bytes_eq}
+use Rattle.script_rules.specs.Spelling.{is_numeral, number}
+use Rattle.borealis_top.specs.declared.command.Reading.{Reading}
+use Rattle.borealis_top.specs.declared.command.Reading.TheVariants.{Run, Check, Print, Ideal}
 use Rattle.borealis_top.specs.declared.command.Command.{Command}
-use Rattle.borealis_top.specs.declared.command.Command.TheVariants.{Run, Help, Version}
+use Rattle.borealis_top.specs.declared.command.Command.TheVariants.{Read, Gen, Help, Version}
+
+-- what is done with a script that is read
+abbrev pub reading_word : List ℕ → Option Reading
+reading_word w =
+    if bytes_eq w (codes "run") then Some Run
+    else (if bytes_eq w (codes "check") then Some Check
+    else (if bytes_eq w (codes "print") then Some Print
+    else (if bytes_eq w (codes "ideal") then Some Ideal
+    else None)))
 
 -- the command that one word is
 abbrev pub command_word : List ℕ → Option Command
 command_word w =
-    if bytes_eq w (codes "run") then Some Run
-    else (if bytes_eq w (codes "--help") then Some Help
+    if bytes_eq w (codes "--help") then Some Help
     else (if bytes_eq w (codes "--version") then Some Version
-    else None))
+    else option_map Read (reading_word w))
 
--- the command that the words are; every command so far is one word
+-- the number of a generated script: 1 to 1000
+abbrev pub seed_of : List ℕ → Option ℕ
+seed_of w = if is_numeral w && nat_le 1 (number w) && nat_le (number w) 1000 then Some (number w) else None
+
+-- the command that the words are
 abbrev pub command_of : List (List ℕ) → Option Command
 command_of [] = None
 command_of (w ∷ []) = command_word w
-command_of (w ∷ v ∷ words) = None
+command_of (w ∷ v ∷ []) = if bytes_eq w (codes "gen") then option_map Gen (seed_of v) else None
+command_of (w ∷ v ∷ u ∷ words) = None

@@ -2,13 +2,13 @@
 use Rattle.std.specs.Prelude.{◌≡◌, ℕ, ◌⊎◌, List, Option, None, Some}
 use Rattle.dpc_edge.specs.Edges.{Edge}
 use Rattle.borealis_top.specs.declared.command.Command.{Command}
-use Rattle.borealis_top.specs.declared.command.Command.TheVariants.{Run, Help, Version}
+use Rattle.borealis_top.specs.declared.command.Command.TheVariants.{Read, Gen, Help, Version}
 use Rattle.borealis_top.specs.declared.status.Status.{Status}
 use Rattle.borealis_top.specs.declared.status.Status.TheVariants.{Done, Words, NoMemory}
 use Rattle.borealis_top.specs.Codes.{code_of}
 use Rattle.borealis_top.specs.Commands.{command_of}
 use Rattle.borealis_top.specs.Texts.{help_text, version_text, unknown_words_line}
-use Rattle.borealis_top.specs.Ends.{IsTold, RunEnds, RunIsWhole}
+use Rattle.borealis_top.specs.Ends.{IsTold, ReadEnds, ReadIsWhole, GenEnds}
 
 -- how a command ends, or words that are none
 abbrev pub CommandEnds : Option Command → Edge → Edge → Edge → Edge → Edge → Edge → Status → Type 0
@@ -18,8 +18,10 @@ CommandEnds (Some Help) input input_new out out_new err err_new result =
     IsTold out out_new help_text Done result × (err_new ≡ err) × (input_new ≡ input)
 CommandEnds (Some Version) input input_new out out_new err err_new result =
     IsTold out out_new version_text Done result × (err_new ≡ err) × (input_new ≡ input)
-CommandEnds (Some Run) input input_new out out_new err err_new result =
-    RunEnds input input_new out out_new err err_new result × RunIsWhole input input_new out out_new result
+CommandEnds (Some (Read reading)) input input_new out out_new err err_new result =
+    ReadEnds reading input input_new out out_new err err_new result × ReadIsWhole reading input input_new out out_new result
+CommandEnds (Some (Gen seed)) input input_new out out_new err err_new result =
+    GenEnds seed out out_new result × (err_new ≡ err) × (input_new ≡ input)
 
 -- nothing was touched, for want of memory
 abbrev pub IsUntouched : Edge → Edge → Edge → Edge → Edge → Edge → Status → Type 0

@@ -1,34 +1,51 @@
 //! The commands that wait for nobody.
-ghost use Rattle.std.specs.Prelude.{◌≡◌, ◌⊎◌, IfOk, Some, None, map, string_bytes};
+ghost use Rattle.std.specs.Prelude.{◌≡◌, ◌⊎◌, ℕ, IfOk, Some, None, map, string_bytes, MatchOption};
 ghost use Rattle.dpc_edge.specs.Edges.{Stays};
+ghost use Rattle.dpc_model.specs.ScriptText.{script_text};
+ghost use Rattle.load_gen.specs.Generated.{generated};
+ghost use Rattle.ideal_run.specs.IdealPlans.{IsIdealPlan};
 ghost use Rattle.borealis_top.specs.Commands.{command_of};
 ghost use Rattle.borealis_top.specs.Texts.{help_text, version_text, unknown_words_line, refusal_line};
-ghost use Rattle.borealis_top.specs.Ends.{IsTold, RunEnds, RunIsWhole};
+ghost use Rattle.borealis_top.specs.Ends.{IsTold, answer_to, fault_line, ReadEnds, ReadIsWhole, GenEnds};
+ghost use Rattle.borealis_top.specs.declared.command.Reading as reading;
 
-use crate::command::{Command, command_in};
+use crate::command::{Command, Reading, command_in};
 use crate::status::Status;
 use crate::transfer::{InputFault, read_whole, write_whole};
+use diagram_printer::print_script;
 use diagram_reader::faults::ScriptFault;
 use diagram_reader::read_script;
 use dpc_edge::sink::Sink;
 use dpc_edge::source::Source;
 use dpc_model::faults::NoMemory;
+use dpc_model::scripts::{PlanFault, Script};
+use ideal_run::ideal_text;
 use itoa::Buffer;
-use small_run::small_report::report_of;
+use load_gen::generate;
+use small_run::small_report::small_report;
 use std::alloc::{AllocError, Global};
 
 /// What `--help` writes.
 const HELP: &[u8] =
-    b"borealis run < SCRIPT    runs a script, and writes what each client received\nborealis --help          writes these lines\nborealis --version       writes the version\nThe script language: docs/SCRIPT.md\n";
+    b"borealis run < SCRIPT    runs a script, and writes what each client received\nborealis check < SCRIPT  tells whether a script is right, or its first faulty line and why\nborealis print < SCRIPT  writes a script in canonical form\nborealis ideal < SCRIPT  writes the failure-free stream of each client\nborealis gen N           writes the generated script of a number, 1 to 1000\nborealis --help          writes these lines\nborealis --version       writes the version\nThe script language, and the reasons: docs/SCRIPT.md\n";
 
 /// What `--version` writes.
 const VERSION: &[u8] = b"borealis 0.1\n";
 
+/// What `check` writes of a right script.
+const RIGHT: &[u8] = b"ok\n";
+
 /// The line for words that are no command.
 const UNKNOWN_WORDS: &[u8] = b"borealis: unknown words\n";
 
-/// The reason for an input past a limit.
-const PAST_A_LIMIT: u64 = 14;
+/// The refusal of an input that is longer than the longest script.
+const TOO_LONG: PlanFault = PlanFault {
+    line: 0,
+    reason: 14,
+};
+
+/// The refusal of a script that is right, and asks for what is not built yet.
+const NOT_BUILT: PlanFault = PlanFault { line: 0, reason: 0 };
 
 /// Does what the words say, over any input and any sinks for the text and for one line on what is
 /// wrong. It waits for nobody.
@@ -48,16 +65,20 @@ pub fn plain<S: Source, O: Sink, E: Sink>(
     ensures version { command_of (map string_bytes words.now) ≡ Some Command.Version
         → IsTold (O.edge out.old) (O.edge out.new) version_text Status.Done result
         × (err.new ≡ err.old) × (input.new ≡ input.old) }
-    ensures run { command_of (map string_bytes words.now) ≡ Some Command.Run
-        → RunEnds (S.edge input.old) (S.edge input.new) (O.edge out.old) (O.edge out.new) (E.edge err.old) (E.edge err.new) result }
-    ensures complete { command_of (map string_bytes words.now) ≡ Some Command.Run
-        → RunIsWhole (S.edge input.old) (S.edge input.new) (O.edge out.old) (O.edge out.new) result }
+    ensures made { (seed : ℕ) → command_of (map string_bytes words.now) ≡ Some (Command.Gen seed)
+        → GenEnds seed (O.edge out.old) (O.edge out.new) result
+        × (err.new ≡ err.old) × (input.new ≡ input.old) }
+    ensures read { (what : reading.Reading) → command_of (map string_bytes words.now) ≡ Some (Command.Read what)
+        → ReadEnds what (S.edge input.old) (S.edge input.new) (O.edge out.old) (O.edge out.new) (E.edge err.old) (E.edge err.new) result }
+    ensures complete { (what : reading.Reading) → command_of (map string_bytes words.now) ≡ Some (Command.Read what)
+        → ReadIsWhole what (S.edge input.old) (S.edge input.new) (O.edge out.old) (O.edge out.new) result }
 {
     match command_in(words) {
         None => told(err, UNKNOWN_WORDS, Status::Words),
         Some(Command::Help) => told(out, HELP, Status::Done),
         Some(Command::Version) => told(out, VERSION, Status::Done),
-        Some(Command::Run) => run(alloc, input, out, err),
+        Some(Command::Gen(seed)) => gen_script(alloc, seed, out),
+        Some(Command::Read(reading)) => read(alloc, reading, input, out, err),
     }
 }
 
@@ -71,38 +92,73 @@ fn told<K: Sink>(sink: &mut K, text: &[u8], status: Status) -> Status
     }
 }
 
-/// Reads a script, and writes the report of its run.
-fn run<S: Source, O: Sink, E: Sink>(
+/// The text of the generated script of a number.
+fn generated_text(alloc: Global, seed: u64) -> Result<Vec<u8>, NoMemory>
+    ensures { IfOk result (λ text. text.items ≡ script_text (generated seed)) }
+{
+    let script = generate(alloc, seed)?;
+    print_script(alloc, &script)
+}
+
+/// Writes the generated script of a number.
+fn gen_script<O: Sink>(alloc: Global, seed: u64, out: &mut O) -> Status
+    ensures { GenEnds seed (O.edge out.old) (O.edge out.new) result }
+{
+    match generated_text(alloc, seed) {
+        Ok(text) => told(out, text.as_slice(), Status::Done),
+        Err(NoMemory) => Status::NoMemory,
+    }
+}
+
+/// What is to be written of a script, where that is built.
+fn answer(alloc: Global, reading: Reading, script: &Script) -> Result<Option<Vec<u8>>, NoMemory>
+    requires { IsIdealPlan script.now.plan }
+    ensures { IfOk result (λ r. MatchOption r
+        (answer_to reading script.now ≡ None)
+        (λ text. answer_to reading script.now ≡ Some text.items)) }
+{
+    match reading {
+        Reading::Run => small_report(alloc, script),
+        Reading::Check => Ok(Some(Vec::from_slice(alloc, RIGHT)?)),
+        Reading::Print => Ok(Some(print_script(alloc, script)?)),
+        Reading::Ideal => Ok(Some(ideal_text(alloc, &script.plan)?)),
+    }
+}
+
+/// Reads a script, and writes what is asked of it.
+fn read<S: Source, O: Sink, E: Sink>(
     alloc: Global,
+    reading: Reading,
     input: &mut S,
     out: &mut O,
     err: &mut E,
 ) -> Status
-    ensures ends { RunEnds (S.edge input.old) (S.edge input.new) (O.edge out.old) (O.edge out.new) (E.edge err.old) (E.edge err.new) result }
-    ensures complete { RunIsWhole (S.edge input.old) (S.edge input.new) (O.edge out.old) (O.edge out.new) result }
+    ensures ends { ReadEnds reading (S.edge input.old) (S.edge input.new) (O.edge out.old) (O.edge out.new) (E.edge err.old) (E.edge err.new) result }
+    ensures complete { ReadIsWhole reading (S.edge input.old) (S.edge input.new) (O.edge out.old) (O.edge out.new) result }
 {
     let text = match read_whole(alloc, input) {
         Ok(text) => text,
         Err(InputFault::NoMemory) => return Status::NoMemory,
         Err(InputFault::Failed) => return Status::ReadFault,
-        Err(InputFault::TooLong) => return refused(alloc, err, 0, PAST_A_LIMIT),
+        Err(InputFault::TooLong) => return refused(alloc, err, TOO_LONG),
     };
     match read_script(alloc, text.as_slice()) {
-        Ok(script) => match report_of(alloc, &script) {
-            Ok(report) => told(out, report.as_slice(), Status::Done),
+        Ok(script) => match answer(alloc, reading, &script) {
+            Ok(Some(answer)) => told(out, answer.as_slice(), Status::Done),
+            Ok(None) => refused(alloc, err, NOT_BUILT),
             Err(NoMemory) => Status::NoMemory,
         },
         Err(ScriptFault::NoMemory) => Status::NoMemory,
-        Err(ScriptFault::Refused { line, reason }) => refused(alloc, err, line, reason),
+        Err(ScriptFault::Refused(fault)) => refused(alloc, err, fault),
     }
 }
 
 /// Tells the first faulty line and the reason.
-fn refused<K: Sink>(alloc: Global, err: &mut K, line: u64, reason: u64) -> Status
-    ensures { IsTold (K.edge err.old) (K.edge err.new) (refusal_line line reason) Status.Refused result
+fn refused<K: Sink>(alloc: Global, err: &mut K, fault: PlanFault) -> Status
+    ensures { IsTold (K.edge err.old) (K.edge err.new) (fault_line fault) Status.Refused result
         ⊎ ((result ≡ Status.NoMemory) × Stays (K.edge err.old) (K.edge err.new)) }
 {
-    match refusal(alloc, line, reason) {
+    match refusal(alloc, fault.line, fault.reason) {
         Ok(text) => told(err, text.as_slice(), Status::Refused),
         Err(_) => Status::NoMemory,
     }

@@ -103,39 +103,63 @@ fn words_are_commands_or_not(rt: HostRuntime) -> Result<(), Fail> {
 }
 
 #[test]
-fn each_limit_refuses(rt: HostRuntime) -> Result<(), Fail> {
+fn each_reason_refuses(rt: HostRuntime) -> Result<(), Fail> {
     let alloc = rt.alloc();
     let run = words(alloc, "run", "")?;
     let rows = [
-        ("borealis 1\n", "borealis 2\n"),
-        ("width 10\n", "width 0\n"),
-        ("width 10\n", "width 1000001\n"),
-        ("delay 20\n", "delay 1000000000001\n"),
-        ("end 30\n", "end 35\n"),
-        ("end 30\n", "end 1099511627780\n"),
-        ("end 30\n", "end 100010\n"),
-        ("source s 1\n", "source s 9\n"),
-        ("source s 1\n", "source S 1\n"),
-        ("source s 1\n", "source aaaaaaaaaaaaaaaaa 1\n"),
-        ("log s 12 7\n", "log s 2 7\n"),
-        ("log s 25 2\n", "log s 30 2\n"),
-        ("log s 25 2\n", "log s 25 2 2\n"),
-        ("log s 3 5\n", "log s 3 -0\n"),
-        ("log s 3 5\n", "log s 3 9223372036854775808\n"),
-        ("log s 3 5\n", "log s 03 5\n"),
-        ("fragment f 1 s\n", "fragment f 2 s\n"),
-        ("filter k s gt c0 4\n", "filter k s gt c1 4\n"),
-        ("filter k s gt c0 4\n", "filter k s add c0 4\n"),
-        ("client c f\n", "client f f\n"),
-        ("release s 30\n", "release s 31\n"),
-        ("release s 30\n", "release s 40\n"),
-        ("tick 2\n", "tick 0\n"),
-        ("tick 4\n", "tick 1000000000001\n"),
-        ("tick 4\n", "tick 4"),
-        ("begin\n", "begin\n\n"),
-        ("begin\n", "begin \n"),
+        ("borealis 1\n", "borealis 4\n", "line 1: reason 5\n"),
+        ("width 10\n", "width\t10\n", "line 2: reason 1\n"),
+        ("width 10\n", "wide 10\n", "line 2: reason 2\n"),
+        ("width 10\n", "width 10 10\n", "line 2: reason 3\n"),
+        ("width 10\n", "width ten\n", "line 2: reason 4\n"),
+        ("end 30\n", "end 35\n", "line 4: reason 5\n"),
+        ("end 30\n", "end 100010\n", "line 4: reason 14\n"),
+        ("source s 1\n", "source S 1\n", "line 5: reason 2\n"),
+        ("log s 3 5\n", "log t 3 5\n", "line 6: reason 8\n"),
+        ("log s 3 5\n", "log s 3 -0\n", "line 6: reason 4\n"),
+        ("log s 12 7\n", "log s 2 7\n", "line 7: reason 9\n"),
+        ("log s 25 2\n", "log s 25 2 2\n", "line 8: reason 10\n"),
+        (
+            "fragment f 1 s\n",
+            "fragment f 1 s s\n",
+            "line 9: reason 7\n",
+        ),
+        (
+            "fragment f 1 s\n",
+            "fragment f 1 g\n",
+            "line 9: reason 11\n",
+        ),
+        (
+            "filter k s gt c0 4\n",
+            "source t 1\n",
+            "line 10: reason 6\n",
+        ),
+        (
+            "filter k s gt c0 4\n",
+            "filter k s gt c1 4\n",
+            "line 10: reason 10\n",
+        ),
+        (
+            "filter k s gt c0 4\n",
+            "aggregate k s 65 1 - count\n",
+            "line 10: reason 14\n",
+        ),
+        ("client c f\n", "client c g\n", "line 11: reason 11\n"),
+        ("client c f\n", "", "line 11: reason 12\n"),
+        ("begin\n", "", "line 12: reason 6\n"),
+        ("release s 30\n", "cut s c\n", "line 13: reason 8\n"),
+        (
+            "release s 30\n",
+            "crash f.0\ncrash f.0\n",
+            "line 14: reason 13\n",
+        ),
+        ("tick 2\n", "tick 0\n", "line 15: reason 13\n"),
+        ("tick 3\n", "settle\n", "line 17: reason 6\n"),
+        ("tick 4\n", "release s 30\n", "line 18: reason 12\n"),
+        ("fragment f 1 s\n", "fragment f 2 s\n", "line 0: reason 0\n"),
+        ("release s 30\n", "emit s 30\n", "line 0: reason 0\n"),
     ];
-    for (line, other) in rows {
+    for (line, other, wanted) in rows {
         let Some((before, behind)) = SMALLEST.split_once(line) else {
             return Ok(assert!(rt; false, "no line {line}"));
         };
@@ -145,8 +169,23 @@ fn each_limit_refuses(rt: HostRuntime) -> Result<(), Fail> {
         let mut err = sink(alloc, 1000, false)?;
         let status = plain(alloc, run.as_slice(), &mut input, &mut out, &mut err);
         assert_eq!(rt; status, Status::Refused, "at {other}");
-        assert_eq!(rt; err.bytes(), b"line 0: reason 0\n".as_slice(), "at {other}");
+        assert_eq!(rt; err.bytes(), wanted.as_bytes(), "at {other}");
         assert_eq!(rt; out.bytes().len(), 0, "at {other}");
+    }
+    Ok(())
+}
+
+#[test]
+fn a_script_is_checked_and_printed(rt: HostRuntime) -> Result<(), Fail> {
+    let alloc = rt.alloc();
+    for (word, wanted) in [("check", "ok\n"), ("print", SMALLEST)] {
+        let words = words(alloc, word, "")?;
+        let mut input = source(alloc, SMALLEST, 1000, false)?;
+        let mut out = sink(alloc, 1000, false)?;
+        let mut err = sink(alloc, 1000, false)?;
+        let status = plain(alloc, words.as_slice(), &mut input, &mut out, &mut err);
+        assert_eq!(rt; status, Status::Done, "at {word}");
+        assert_eq!(rt; out.bytes(), wanted.as_bytes(), "at {word}");
     }
     Ok(())
 }

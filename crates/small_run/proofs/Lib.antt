@@ -10,3 +10,4 @@ pub mod SmallFrames
 pub mod SmallReports
 pub mod SmallRunning
 pub mod SmallRounds
+pub mod FirstForms

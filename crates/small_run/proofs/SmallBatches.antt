@@ -5,12 +5,13 @@ use Rattle.std.proofs.lemmas.Bool.{cases_lt, lt-ltb, le-ltb, le-leb, lt-leb, eq-
 use Rattle.std.proofs.lemmas.List.{append-nil, append_assoc, length_push, drop_all}
 use Rattle.std.proofs.Math.Nat.{sub_self}
 use Rattle.dpc_model.specs.Lists.{is_nil}
-use Rattle.dpc_model.specs.Streams.{NoneBelow, time_of, InOrder, cut, count_below}
+use Rattle.dpc_model.specs.Streams.{NoneBelow, time_of, InOrder, count_below}
 use Rattle.dpc_model.specs.Reading.{fold_items, tuples_in, stable_reader}
 use Rattle.dpc_model.specs.Sessions.{given_items, stable_items, boundary_item}
 use Rattle.dpc_model.specs.declared.tuples.Tuple.{Tuple}
 use Rattle.dpc_model.specs.declared.tuples.Item.{Item}
 use Rattle.dpc_model.specs.declared.tuples.Item.TheVariants.{Stable, Tentative, Passed, Boundary, Undo, RecDone}
+use Rattle.dpc_model.proofs.Prefixes.{none_cut}
 use Rattle.small_run.specs.SmallWorlds.{SmallWorld, sends}
 use Rattle.small_run.specs.SmallSides.{batch_items}
 
@@ -97,13 +98,6 @@ length-tuples_in (Boundary b m ∷ xs) = omega (arith, length-tuples_in xs)
 length-tuples_in (Undo n ∷ xs) = omega (arith, length-tuples_in xs)
 length-tuples_in (RecDone ∷ xs) = omega (arith, length-tuples_in xs)
 
--- one more tuple at the end
-pub stable_items-push : (k : ℕ) (ts : List Tuple) (t : Tuple) → stable_items k (ts ++ t ∷ []) ≡ stable_items k ts ++ Stable (k + length ts) t ∷ []
-stable_items-push k [] t = let e : k + 0 ≡ k = omega arith in rw e refl
-stable_items-push k (u ∷ us) t =
-    let e : k + 1 + length us ≡ k + length (u ∷ us) = omega arith in
-    ap (λ (is : List Item). Stable k u ∷ is) (rw e at (stable_items-push (k + 1) us t))
-
 -- ---- batches as what is given
 
 -- new tuples and a boundary behind them are a batch
@@ -123,11 +117,6 @@ pub sends-batch : (to_client : Bool) (first : ℕ) (tuples : List Tuple) (bound 
 sends-batch to_client first tuples bound w = rw (is_nil-batch first tuples bound) refl
 
 -- ---- how many tuples in order lie below a time
-
--- where no tuple lies below a number, none is cut at a time up to it
-cut-none : (n b : ℕ) (ts : List Tuple) → b ≤ n → NoneBelow time_of n ts → cut ts b ≡ []
-cut-none n b [] h s = refl
-cut-none n b (t ∷ ts) h s = rw (le-ltb t.stime b (omega (arith, h, s.0))) (cut-none n b ts h s.1)
 
 -- such tuples read by number
 NoneBelow-get : (n i : ℕ) (ts : List Tuple) (d : Tuple) → NoneBelow time_of n ts → i < length ts → n ≤ (get_or ts i d).stime
@@ -157,7 +146,7 @@ count_below-more (t ∷ ts) (suc i) b d o h k =
 -- no tuple is counted from one on that isn't below the time
 pub count_below-end : (ts : List Tuple) (i b : ℕ) (d : Tuple) → InOrder ts → i < length ts → b ≤ (get_or ts i d).stime → count_below ts b ≤ i
 count_below-end [] i b d o h k = absurd (omega arith)
-count_below-end (t ∷ ts) zero b d o h k = rw (le-ltb t.stime b k, cut-none t.stime b ts k o.0) (omega arith)
+count_below-end (t ∷ ts) zero b d o h k = rw (le-ltb t.stime b k, none_cut b t.stime ts k o.0) (omega arith)
 count_below-end (t ∷ ts) (suc i) b d o h k =
     let rest = count_below-end ts i b d o.1 (omega (arith, h)) k in
     grind (arith, common_steps, rest)

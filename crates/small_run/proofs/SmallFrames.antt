@@ -10,7 +10,7 @@ use Rattle.dpc_model.specs.declared.tuples.Item.{Item}
 use Rattle.dpc_model.specs.declared.messages.Event.{Event}
 use Rattle.dpc_model.specs.declared.messages.Event.TheVariants.{Deliver, Tick}
 use Rattle.dpc_model.specs.declared.scripts.Script.{Script}
-use Rattle.diagram_reader.specs.FirstForm.{IsFirstForm}
+use Rattle.small_run.specs.FirstForm.{IsFirstForm}
 use Rattle.small_run.specs.declared.small_source.SmallSource.{SmallSource}
 use Rattle.small_run.specs.declared.small_node.SmallNode.{SmallNode}
 use Rattle.small_run.specs.declared.small_client.SmallClient.{SmallClient}

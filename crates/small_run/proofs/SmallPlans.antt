@@ -8,7 +8,7 @@ use Rattle.dpc_model.specs.declared.tuples.Tuple.{Tuple}
 use Rattle.dpc_model.specs.declared.plans.Plan.{Plan}
 use Rattle.dpc_model.specs.declared.plans.StreamRef.TheVariants.{Source, Frag}
 use Rattle.dpc_model.proofs.FragmentValues.{ideal-frag}
-use Rattle.diagram_reader.specs.FirstForm.{Parts, AreSound, AreLogged, first_fragment, first_script}
+use Rattle.small_run.specs.FirstForm.{Parts, AreSound, AreLogged, first_fragment, first_script}
 use Rattle.small_run.specs.SmallWorlds.{operators}
 
 -- the plan is sound, its buckets have a width, its whole source is the log, and its output is the fragment's of that source
@@ -24,18 +24,18 @@ lone-InOrder log o zero = o
 lone-InOrder log o (suc s) = tt
 
 -- every logged tuple lies below the end, so the log is cut nowhere
-cut-logged : (columns end : ℕ) (log : List Tuple) → AreLogged columns end log → cut log end ≡ log
-cut-logged columns end [] h = refl
-cut-logged columns end (t ∷ ts) h = rw (lt-ltb t.stime end h.0.below) (ap (λ (us : List Tuple). t ∷ us) (cut-logged columns end ts h.1))
+cut-logged : (end : ℕ) (log : List Tuple) → AreLogged end log → cut log end ≡ log
+cut-logged end [] h = refl
+cut-logged end (t ∷ ts) h = rw (lt-ltb t.stime end h.0) (ap (λ (us : List Tuple). t ∷ us) (cut-logged end ts h.1))
 
 -- its fragment is a filter that reads the source
 first-IsSound : (p : Parts) → AreSound p → IsSound (first_script p).plan
-first-IsSound p s = record { logs = lone-InOrder p.log s.log_ordered; ops = ((tt, tt), tt); inputs = (tt, tt) }
+first-IsSound p s = record { logs = lone-InOrder p.log s.ordered; ops = ((tt, tt), tt); inputs = (tt, tt) }
 
 -- its whole source is the log
 first-source : (p : Parts) → AreSound p → ideal (first_script p).plan (Source 0) ≡ p.log
 unfolding ideal ideal_upto
-first-source p s = cut-logged p.columns p.end p.log s.log
+first-source p s = cut-logged p.end p.log s.logged
 
 -- a script of the first form has such a plan
 pub first-IsSmallPlan : (p : Parts) → AreSound p → IsSmallPlan (first_script p).plan
@@ -43,7 +43,7 @@ first-IsSmallPlan p s =
     let sound = first-IsSound p s in
     record {
       sound = sound;
-      width = omega (arith, s.width_low);
+      width = s.width;
       source = first-source p s;
       output = λ b. ideal-frag (first_script p).plan 0 b (first_fragment p) (omega arith) sound.inputs;
     }

@@ -12,7 +12,7 @@ use Rattle.dpc_model.specs.declared.plans.ClientSpec.{ClientSpec}
 use Rattle.dpc_model.specs.declared.tuples.Item.{Item}
 use Rattle.dpc_model.specs.declared.scripts.Phase.{Phase as PhaseSpec}
 use Rattle.dpc_model.specs.declared.scripts.Script.{Script}
-use Rattle.diagram_reader.specs.FirstForm.{Parts, first_script, IsFirstForm}
+use Rattle.small_run.specs.FirstForm.{Parts, first_script, IsFirstForm}
 use Rattle.report.specs.declared.text.Summary.{Summary}
 use Rattle.report.specs.Text.{client_lines, summary_of}
 use Rattle.small_run.specs.declared.small_source.SmallSource.{SmallSource}

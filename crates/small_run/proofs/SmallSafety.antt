@@ -13,7 +13,7 @@ use Rattle.dpc_model.specs.declared.scripts.Script.{Script}
 use Rattle.dpc_model.proofs.IdealCausality.{cut-ideal_upto}
 use Rattle.world_model.specs.Safe.{HoldsOf}
 use Rattle.world_safety.proofs.Outputs.{cut-held}
-use Rattle.diagram_reader.specs.FirstForm.{IsFirstForm, first_script}
+use Rattle.small_run.specs.FirstForm.{IsFirstForm, first_script}
 use Rattle.small_run.specs.SmallWorlds.{SmallWorld, opening, happens, run_from, run}
 use Rattle.small_run.specs.SmallSafe.{IsSafeSmall}
 use Rattle.small_run.proofs.SmallPlans.{IsSmallPlan, first-IsSmallPlan}

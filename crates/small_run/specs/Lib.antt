@@ -1,3 +1,4 @@
+pub mod FirstForm
 pub mod Inputs
 pub mod OrderProps
 pub mod SmallWorlds

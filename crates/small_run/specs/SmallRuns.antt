@@ -2,7 +2,7 @@
 use Rattle.std.specs.Prelude.{◌≡◌, List, ◌++◌, map}
 use Rattle.dpc_model.specs.declared.messages.Event.{Event}
 use Rattle.dpc_model.specs.declared.scripts.Script.{Script}
-use Rattle.diagram_reader.specs.FirstForm.{IsFirstForm}
+use Rattle.small_run.specs.FirstForm.{IsFirstForm}
 use Rattle.small_run.specs.declared.small_run.SmallRun.{SmallRun}
 use Rattle.small_run.specs.SmallWorlds.{Sent, SmallWorld, run}
 use Rattle.small_run.specs.SmallSides.{sent_of, IsSourceOf, IsNodeOf, IsClientOf}

@@ -2,7 +2,7 @@
 ghost use Rattle.std.specs.Prelude.{List};
 ghost use Rattle.dpc_model.specs.declared.messages.Event.{Event};
 ghost use Rattle.dpc_model.specs.declared.scripts.Script.{Script};
-ghost use Rattle.diagram_reader.specs.FirstForm.{IsFirstForm};
+ghost use Rattle.small_run.specs.FirstForm.{IsFirstForm};
 ghost use Rattle.small_run.specs.SmallWorlds.{run};
 ghost use Rattle.small_run.specs.SmallSafe.{IsSafeSmall};
 

@@ -2,6 +2,8 @@
 #![tactic(auto)]
 
 mod batch;
+mod counting;
+mod first_form;
 pub mod laws;
 mod small_client;
 mod small_node;

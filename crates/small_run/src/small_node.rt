@@ -9,7 +9,7 @@ ghost use Rattle.dpc_model.specs.Streams.{InOrder, count_below};
 ghost use Rattle.dpc_model.specs.Operators.{filtered};
 
 use crate::batch::Batch;
-use dpc_model::engines::Engine;
+use crate::counting::number_below;
 use dpc_model::exact::Exact;
 use dpc_model::expressions::Expr;
 use dpc_model::faults::NoMemory;
@@ -73,7 +73,7 @@ fn passing(
     ensures kept { filter.new.expr ≡ filter.old.expr }
 {
     let inputs = tagged(alloc, tuples)?;
-    match filter.bucket(alloc, inputs.as_slice(), bucket) {
+    match filter.take(alloc, inputs.as_slice(), bucket) {
         Ok(passed) => Ok(passed.into_vec()),
         Err(_) => Err(NoMemory),
     }
@@ -87,20 +87,6 @@ fn append(tuples: &mut Vec<Tuple>, more: Vec<Tuple>) -> Result<(), NoMemory>
         tuples.push(tuple)?;
     }
     Ok(())
-}
-
-/// How many of the tuples lie below a time, where those before a number do.
-fn number_below(tuples: &[Tuple], from: usize, time: u64) -> usize
-    requires { from ≤ length tuples.now }
-    ensures within { result ≤ length tuples.now }
-    ensures onwards { from ≤ result }
-    ensures counted { InOrder tuples.now → from ≤ count_below tuples.now time → result ≡ count_below tuples.now time }
-{
-    let mut count = from;
-    while count < tuples.len() && tuples[count].stime < time {
-        count += 1;
-    }
-    count
 }
 
 /// Whether a bucket has a stamp. The search begins at the last one, which most tuples belong to.

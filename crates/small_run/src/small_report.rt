@@ -1,12 +1,13 @@
 //! The report of a script of the first form, by its small run.
-ghost use Rattle.std.specs.Prelude.{◌≡◌, [], IfOk};
-ghost use Rattle.diagram_reader.specs.FirstForm.{Parts, first_fragment, IsFirstForm};
+ghost use Rattle.std.specs.Prelude.{◌≡◌, [], IfOk, MatchOption, true, false};
+ghost use Rattle.small_run.specs.FirstForm.{Parts, first_fragment, is_first_form, IsFirstForm};
 ghost use Rattle.small_run.specs.SmallWorlds.{opening, run};
 ghost use Rattle.small_run.specs.SmallSchedules.{journal, run_report};
 ghost use Rattle.small_run.specs.SmallSides.{IsClientOf};
 ghost use Rattle.small_run.specs.SmallRuns.{IsRunOf};
 ghost use Rattle.small_run.specs.Inputs.{IsFirstFragment};
 
+use crate::first_form::is_first_form;
 use crate::small_client::SmallClient;
 use crate::small_node::{SmallNode, Timing};
 use crate::small_run::SmallRun;
@@ -73,8 +74,8 @@ fn received_of(alloc: Global, script: &Script) -> Result<SmallClient, NoMemory>
     Ok(run.client)
 }
 
-/// The report of the run of a script.
-pub fn report_of(alloc: Global, script: &Script) -> Result<Vec<u8>, NoMemory>
+/// The report of the run of a script of the first form.
+fn report_of(alloc: Global, script: &Script) -> Result<Vec<u8>, NoMemory>
     requires { IsFirstForm script.now }
     ensures { IfOk result (λ text. text.items ≡ run_report script.now) }
 {
@@ -96,4 +97,19 @@ pub fn report_of(alloc: Global, script: &Script) -> Result<Vec<u8>, NoMemory>
         &summary,
     )?;
     Ok(text)
+}
+
+/// The report of the run of a script, where the script has the first form; its run is safe. The only
+/// error is want of memory.
+#[tactic(auto, using(crate::proofs::FirstForms::first_form_of))]
+pub fn small_report(alloc: Global, script: &Script) -> Result<Option<Vec<u8>>, NoMemory>
+    ensures { IfOk result (λ r. MatchOption r
+        (is_first_form script.now ≡ false)
+        (λ text. (is_first_form script.now ≡ true) × (text.items ≡ run_report script.now))) }
+{
+    if is_first_form(script) {
+        Ok(Some(report_of(alloc, script)?))
+    } else {
+        Ok(None)
+    }
 }

@@ -4,6 +4,7 @@ ghost use Rattle.dpc_model.specs.Streams.{InOrder, count_below};
 ghost use Rattle.small_run.specs.OrderProps.{InOrder-prop};
 
 use crate::batch::Batch;
+use crate::counting::number_below;
 use dpc_model::exact::Exact;
 use dpc_model::faults::NoMemory;
 use dpc_model::tuples::Tuple;
@@ -28,21 +29,6 @@ fn copies(alloc: Global, tuples: &[Tuple]) -> Result<Vec<Tuple>, NoMemory>
         copies.push(tuple.copy(alloc)?)?;
     }
     Ok(copies)
-}
-
-/// How many of the tuples lie below a time, where so many are known to.
-fn number_below(tuples: &[Tuple], known: usize, time: u64) -> usize
-    requires ordered { InOrder tuples.now }
-    requires known { known ≤ count_below tuples.now time }
-    ensures count { result ≡ count_below tuples.now time }
-    ensures within { result ≤ length tuples.now }
-    ensures onwards { known ≤ result }
-{
-    let mut count = known;
-    while count < tuples.len() && tuples[count].stime < time {
-        count += 1;
-    }
-    count
 }
 
 impl<'a> SmallSource<'a> {

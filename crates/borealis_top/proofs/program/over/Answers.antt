@@ -22,7 +22,8 @@ returns g c =
                 (λ e. let h = done.ensures.words e in (h.0, ap text.edge h.1, ap source.edge h.2))
                 (λ e. let h = done.ensures.help e in (h.0, ap line.edge h.1, ap source.edge h.2))
                 (λ e. let h = done.ensures.version e in (h.0, ap line.edge h.1, ap source.edge h.2))
-                (λ e. (done.ensures.run e, done.ensures.complete e))));
+                (λ seed e. let h = done.ensures.made seed e in (h.0, ap line.edge h.1, ap source.edge h.2))
+                (λ reading e. (done.ensures.read reading e, done.ensures.complete reading e))));
           }
       | in-Err w ↦
           record {

@@ -1,5 +1,5 @@
 use Rattle.std.proofs.Common.{refl, ap, ◌∙◌}
-use Rattle.diagram_reader.specs.FirstForm.{first_script}
+use Rattle.small_run.specs.FirstForm.{first_script}
 use Rattle.dpc_model.specs.declared.scripts.Script.{Script}
 use Rattle.small_run.specs.declared.small_node.Timing.{Timing}
 use Rattle.small_run.proofs.SmallFrames.{opening-IsReached}

@@ -4,7 +4,8 @@ use Rattle.dpc_model.specs.Reading.{tuples_in}
 use Rattle.dpc_model.specs.Sessions.{stable_items}
 use Rattle.dpc_model.specs.declared.tuples.Item.{Item}
 use Rattle.dpc_model.specs.declared.tuples.Item.TheVariants.{Stable}
-use Rattle.small_run.proofs.SmallBatches.{tuples_in-append, length-tuples_in, stable_items-push}
+use Rattle.small_run.proofs.SmallBatches.{tuples_in-append, length-tuples_in}
+use Rattle.dpc_model.proofs.StableItems.{stable_items-push}
 use Rattle.small_run.proofs.small_client.SmallClient.push_from.Goals as goal
 
 -- the number of the tuples in items that fit into memory fits, with one more

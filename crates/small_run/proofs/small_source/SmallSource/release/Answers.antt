@@ -53,13 +53,22 @@ returns-then-time-self c = λ w s.
     subst (λ (v : SmallWorld). IsSourceOf c.args.self.now v × (v.sent ≡ w.sent ++ []))
     (sym (released_at-none c.args.time w s.below (omega (arith, s.released, c.if-time-self.true)))) (s, sym (append-nil w.sent))
 
-pub number_below-upto-requires-clause-known : goal.number_below-upto-requires-clause-known
-number_below-upto-requires-clause-known c =
-    omega (arith, c.args.self.now.below, count_below-later c.args.self.now.log.now c.args.self.now.released c.args.time (omega arith))
+-- what was sent lies below a later time
+before : (log : List Tuple) (released t emitted : ℕ) → emitted ≡ count_below log released → released ≤ t → emitted ≤ count_below log t
+before log released t emitted e h = omega (arith, e, count_below-later log released t h)
+
+pub invariant_of-self-clause-below : goal.invariant_of-self-clause-below
+invariant_of-self-clause-below c =
+    let self = c.args.self.now in
+    c.number_below-upto.ensures.counted self.ordered (before self.log.now self.released c.args.time self.emitted self.below (omega (arith, c.if-time-self.false)))
+
+pub number_below-upto-requires : goal.number_below-upto-requires
+number_below-upto-requires c = omega (arith, c.args.self.now.below, count_below-length c.args.self.now.log.now c.args.self.now.released)
 
 pub returns : goal.returns
 returns c = λ w s.
-    let count = c.number_below-upto.ensures.count in
+    let self = c.args.self.now in
+    let count = c.number_below-upto.ensures.counted self.ordered (before self.log.now self.released c.args.time self.emitted self.below (omega (arith, c.if-time-self.false))) in
     let tuples = c.in_ok-tuples.tuples.items in
     let part : tuples ≡ take (count_below (log w) c.args.time - w.emitted) (drop w.emitted (log w)) =
     rw (count, s.logged, s.emitted) at (c.in_ok-tuples.ensures {u = tt}) in
