@@ -1,7 +1,9 @@
 -- How the logic stores an expression.
-use Rattle.std.proofs.Common.{◌≡◌, ◌≢◌, ℕ, refl, ap, arith}
+use Rattle.std.specs.Prelude.{◌≡◌, ◌≢◌, ℕ}
 use Rattle.std.specs.Coded.{Coded, coded_ℕ, coded_ℤ}
 use base.Stored.{Gv, gnil, gnum, gcons}
+use mathlib.Core.Path.{refl, ap}
+use native.Mathlib.Omega.{arith}
 use Rattle.dpc_model.specs.contracts.expressions.BinOp as binary
 use Rattle.dpc_model.specs.Formula.{Formula, Col, Num, Time, Neg, Not, Bin, If}
 
