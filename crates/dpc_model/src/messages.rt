@@ -1,6 +1,7 @@
 //! Events, and what actors send one another.
 use crate::lists::Listed;
-use crate::tuples::Items;
+use crate::shared::Shared;
+use crate::tuples::Item;
 
 /// What may happen in a run.
 #[derive(Clone, Copy, PartialEq, Eq)]
@@ -51,7 +52,8 @@ pub struct Beat {
 
 #[derive(Drop)]
 pub enum Message {
-    Batch(Sess, u64, Items),
+    /// A batch of a session, by its number. Its items are made once for all readers.
+    Batch(Sess, u64, Shared<Item>),
     Subscribe(Subscribe),
     Truncated(Sess, u64),
     Beat(Beat),
