@@ -3,7 +3,8 @@ use Rattle.std.specs.Prelude.{◌≡◌, ℕ, ◌*◌, ◌<◌, ◌≤◌, Bool,
 use Rattle.std.specs.List.{AllZip}
 use Rattle.dpc_model.specs.Inlets.{InletState}
 use Rattle.dpc_model.specs.Due.{Stamps, stamp_of}
-use Rattle.dpc_model.specs.Sessions.{Sub, Acked}
+use Rattle.dpc_model.specs.Sessions.{Acked}
+use Rattle.dpc_model.specs.declared.sessions.Sub.{Sub}
 use Rattle.dpc_model.specs.Parts.{Inputs, view_of, processed, processed_view, Stream, Outputs, Neighbours}
 use Rattle.dpc_model.specs.declared.tuples.Tuple.{Tuple}
 use Rattle.dpc_model.specs.declared.tuples.Tagged.{Tagged}

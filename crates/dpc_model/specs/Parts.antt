@@ -9,7 +9,8 @@ use Rattle.dpc_model.specs.Inlets.{InletState}
 use Rattle.dpc_model.specs.Due.{Stamps}
 use Rattle.dpc_model.specs.Replicas.{Watch}
 use Rattle.dpc_model.specs.Granting.{Grants}
-use Rattle.dpc_model.specs.Sessions.{Sub, Acked, Shown}
+use Rattle.dpc_model.specs.Sessions.{Acked, Shown}
+use Rattle.dpc_model.specs.declared.sessions.Sub.{Sub}
 use Rattle.dpc_model.specs.declared.tuples.Tuple.{Tuple}
 use Rattle.dpc_model.specs.declared.tuples.Tagged.{Tagged}
 

@@ -14,6 +14,7 @@ pub mod messages;
 pub mod operators;
 pub mod plans;
 pub mod scripts;
+pub mod sessions;
 pub mod shared;
 pub mod steps;
 #[cfg(test)]

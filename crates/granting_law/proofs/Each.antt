@@ -5,7 +5,8 @@ use Rattle.dpc_model.specs.Lists.{nth, insert_by}
 use Rattle.dpc_model.specs.Inlets.{with_next_session, asked_by}
 use Rattle.dpc_model.specs.Actors.{senders_of}
 use Rattle.dpc_model.specs.Ports.{Port, choice_at, must_reopen, subscriptions}
-use Rattle.dpc_model.specs.Sessions.{Sub, link_of, batches_from, batches_of}
+use Rattle.dpc_model.specs.Sessions.{link_of, batches_from, batches_of}
+use Rattle.dpc_model.specs.declared.sessions.Sub.{Sub}
 use Rattle.dpc_model.specs.declared.tuples.Item.{Item}
 use Rattle.dpc_model.specs.declared.messages.Sess.{Sess}
 use Rattle.dpc_model.specs.declared.messages.Message.{Message}

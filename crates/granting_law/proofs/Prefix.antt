@@ -6,7 +6,8 @@ use Rattle.dpc_model.specs.Inlets.{same_sess, sess_of}
 use Rattle.dpc_model.specs.Actors.{role_of, roles_of, inputs_of, readers_of, same_stream}
 use Rattle.dpc_model.specs.declared.actors.Role.{Role}
 use Rattle.dpc_model.specs.declared.actors.Role.TheVariants.{Node as IsNode, Nobody}
-use Rattle.dpc_model.specs.Sessions.{Sub, no_session, opening_session}
+use Rattle.dpc_model.specs.Sessions.{no_session, opening_session}
+use Rattle.dpc_model.specs.declared.sessions.Sub.{Sub}
 use Rattle.dpc_model.specs.declared.messages.Event.{Event}
 use Rattle.dpc_model.specs.declared.messages.Sess.{Sess}
 use Rattle.dpc_model.specs.declared.plans.Plan.{Plan}

@@ -7,7 +7,8 @@ use Rattle.dpc_model.specs.Replicas.{is_silent}
 use Rattle.dpc_model.specs.Granting.{Key, key_le, Grants, own_key, grants, with_promise, promise_to, promised_other, known_over, may_enter_by, with_ask}
 use Rattle.dpc_model.specs.Actors.{replicas_of}
 use Rattle.dpc_model.specs.Ports.{subscriptions, no_port, sender_at, on_truncated, all_truncated}
-use Rattle.dpc_model.specs.Sessions.{Sub, Shown, Answered, answer_to, is_newer_than_kept, first_batch, given_items}
+use Rattle.dpc_model.specs.Sessions.{Shown, Answered, answer_to, is_newer_than_kept, first_batch, given_items}
+use Rattle.dpc_model.specs.declared.sessions.Sub.{Sub}
 use Rattle.dpc_model.specs.declared.batches.Taken.{Taken}
 use Rattle.dpc_model.specs.declared.batches.Taken.TheVariants.{Used, Old, Broken}
 use Rattle.dpc_model.specs.declared.tuples.Item.{Item}

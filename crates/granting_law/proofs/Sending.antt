@@ -4,7 +4,8 @@ use Rattle.std.proofs.lemmas.Grind.{common_steps}
 use Rattle.std.proofs.lemmas.Option.{slice_get_within}
 use Rattle.dpc_model.specs.Lists.{nth, range_with_len}
 use Rattle.dpc_model.specs.Inlets.{same_sess, is_newer}
-use Rattle.dpc_model.specs.Sessions.{Sub, no_session, Shown, Answered, answer_to, is_newer_than_kept, link_of, with_session_shut, with_batch, with_batches, batches_from, batches_of, first_batch}
+use Rattle.dpc_model.specs.Sessions.{no_session, Shown, Answered, answer_to, is_newer_than_kept, link_of, with_session_shut, with_batch, with_batches, batches_from, batches_of, first_batch}
+use Rattle.dpc_model.specs.declared.sessions.Sub.{Sub}
 use Rattle.dpc_model.specs.declared.tuples.Item.{Item}
 use Rattle.dpc_model.specs.declared.messages.Sess.{Sess}
 use Rattle.dpc_model.specs.declared.messages.Subscribe.{Subscribe}

@@ -4,7 +4,8 @@ use Rattle.std.proofs.lemmas.List.{append-nil}
 use Rattle.dpc_model.specs.Lists.{nth, changed, range_with_len}
 use Rattle.dpc_model.specs.Actors.{role_of}
 use Rattle.dpc_model.specs.declared.actors.Role.TheVariants.{Source as IsSource, Node as IsNode, Client as IsClient}
-use Rattle.dpc_model.specs.Sessions.{Sub, no_session}
+use Rattle.dpc_model.specs.Sessions.{no_session}
+use Rattle.dpc_model.specs.declared.sessions.Sub.{Sub}
 use Rattle.dpc_model.specs.declared.messages.Event.{Event}
 use Rattle.dpc_model.specs.declared.messages.Sess.{Sess}
 use Rattle.dpc_model.specs.declared.plans.Plan.{Plan}

@@ -6,7 +6,8 @@ use Rattle.dpc_model.specs.Lists.{nth, changed, range_with_len, place_of}
 use Rattle.dpc_model.specs.Inlets.{same_sess}
 use Rattle.dpc_model.specs.Actors.{role_of}
 use Rattle.dpc_model.specs.declared.actors.Role.TheVariants.{Source as IsSource, Node as IsNode, Client as IsClient}
-use Rattle.dpc_model.specs.Sessions.{Sub, no_session, link_of, with_batch, with_batches, answer_to, given_items}
+use Rattle.dpc_model.specs.Sessions.{no_session, link_of, with_batch, with_batches, answer_to, given_items}
+use Rattle.dpc_model.specs.declared.sessions.Sub.{Sub}
 use Rattle.dpc_model.specs.declared.messages.Event.{Event}
 use Rattle.dpc_model.specs.declared.tuples.Item.{Item}
 use Rattle.dpc_model.specs.declared.messages.Message.{Message}

@@ -21,7 +21,8 @@ use Rattle.dpc_model.specs.declared.messages.Message.{Message}
 use Rattle.dpc_model.specs.declared.messages.Message.TheVariants as message
 use Rattle.dpc_model.specs.declared.messages.NodeState.TheVariants.{Stable, UpFailure, Stabilization}
 use Rattle.dpc_model.specs.declared.plans.StreamRef.{StreamRef}
-use Rattle.dpc_model.specs.Sessions.{Sub, with_session_shut, link_of, Given, given_items, after_ack, base_after}
+use Rattle.dpc_model.specs.Sessions.{with_session_shut, link_of, Given, given_items, after_ack, base_after}
+use Rattle.dpc_model.specs.declared.sessions.Sub.{Sub}
 use Rattle.node_model.specs.Mails.{Stepped, Snap, Packet, Plain, SnapFor, Mail, mail, mails, in_actor_order, to_each, to_sessions, to_subscriber}
 use Rattle.dpc_model.specs.NodeStates.{is_up_failure, is_stabilization}
 use Rattle.node_model.specs.Nodes.{Home, streams_of, own_readers, PlainNode, inputs_done, view_cursor, out_stable, out_tentative, out_bound, out_passed, shown, bucket_of, complete_buckets, ready, due_at, wants_to_reconcile}

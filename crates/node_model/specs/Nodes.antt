@@ -20,7 +20,8 @@ use Rattle.dpc_model.specs.declared.plans.Plan.{Plan}
 use Rattle.dpc_model.specs.declared.plans.FragSpec.{FragSpec}
 use Rattle.dpc_model.specs.declared.plans.StreamRef.{StreamRef}
 use Rattle.dpc_model.specs.declared.plans.StreamRef.TheVariants.{Frag}
-use Rattle.dpc_model.specs.Sessions.{Sub, no_session, opening_session, Shown, Acked}
+use Rattle.dpc_model.specs.Sessions.{no_session, opening_session, Shown, Acked}
+use Rattle.dpc_model.specs.declared.sessions.Sub.{Sub}
 
 -- ---- where a node stands
 

@@ -11,7 +11,8 @@ use Rattle.dpc_model.specs.declared.messages.Message.TheVariants as message
 use Rattle.dpc_model.specs.declared.messages.NodeState.TheVariants.{Stable}
 use Rattle.dpc_model.specs.declared.plans.Plan.{Plan}
 use Rattle.dpc_model.specs.declared.plans.StreamRef.TheVariants.{Source}
-use Rattle.dpc_model.specs.Sessions.{Sub, opening_session, link_of, Shown, Given, given_items}
+use Rattle.dpc_model.specs.Sessions.{opening_session, link_of, Shown, Given, given_items}
+use Rattle.dpc_model.specs.declared.sessions.Sub.{Sub}
 use Rattle.node_model.specs.Mails.{Stepped, Mail, mail, Packet, Plain, SnapFor, to_sessions, to_subscriber}
 
 -- how many tuples of its log were emitted, its last boundary (0 where none was released), the readers' sessions, and the clock

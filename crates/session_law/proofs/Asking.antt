@@ -4,7 +4,8 @@ use Rattle.std.proofs.lemmas.Grind.{common_steps}
 use Rattle.std.proofs.lemmas.List.{append-nil}
 use Rattle.std.proofs.lemmas.Option.{slice_get_within}
 use Rattle.dpc_model.specs.Lists.{nth, changed}
-use Rattle.dpc_model.specs.Sessions.{Sub, Shown, Answered, answer_to, first_batch, is_newer_than_kept}
+use Rattle.dpc_model.specs.Sessions.{Shown, Answered, answer_to, first_batch, is_newer_than_kept}
+use Rattle.dpc_model.specs.declared.sessions.Sub.{Sub}
 use Rattle.dpc_model.specs.declared.tuples.Item.{Item}
 use Rattle.dpc_model.specs.declared.messages.Sess.{Sess}
 use Rattle.dpc_model.specs.declared.messages.Subscribe.{Subscribe}

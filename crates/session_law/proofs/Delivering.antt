@@ -7,7 +7,8 @@ use Rattle.dpc_model.specs.Granting.{grants, with_promise, may_enter_by}
 use Rattle.dpc_model.specs.Actors.{role_of, replicas_of}
 use Rattle.dpc_model.specs.declared.actors.Role.TheVariants.{Node as IsNode}
 use Rattle.dpc_model.specs.Ports.{Port, no_port, sender_at, on_truncated, all_truncated}
-use Rattle.dpc_model.specs.Sessions.{Sub, Shown, answer_to}
+use Rattle.dpc_model.specs.Sessions.{Shown, answer_to}
+use Rattle.dpc_model.specs.declared.sessions.Sub.{Sub}
 use Rattle.dpc_model.specs.declared.batches.Taken.{Taken}
 use Rattle.dpc_model.specs.declared.batches.Taken.TheVariants.{Used, Old, Broken}
 use Rattle.dpc_model.specs.declared.tuples.Item.{Item}

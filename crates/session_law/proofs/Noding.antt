@@ -9,7 +9,8 @@ use Rattle.dpc_model.specs.Granting.{with_ask, own_key}
 use Rattle.dpc_model.specs.Ports.{Port, must_reopen, choice_at, subscriptions, acks_to}
 use Rattle.dpc_model.specs.Inlets.{with_next_session, asked_by}
 use Rattle.dpc_model.specs.Actors.{senders_of}
-use Rattle.dpc_model.specs.Sessions.{Sub, Shown, with_session_shut, link_of, given_items, with_batches}
+use Rattle.dpc_model.specs.Sessions.{Shown, with_session_shut, link_of, given_items, with_batches}
+use Rattle.dpc_model.specs.declared.sessions.Sub.{Sub}
 use Rattle.dpc_model.specs.declared.tuples.Tuple.{Tuple}
 use Rattle.dpc_model.specs.declared.tuples.Tagged.{Tagged}
 use Rattle.dpc_model.specs.declared.tuples.Item.{Item}

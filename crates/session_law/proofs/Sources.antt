@@ -6,7 +6,8 @@ use Rattle.std.proofs.lemmas.List.{length-take-le}
 use Rattle.dpc_model.specs.Lists.{nth, list_all, changed, place_of, IsPrefixOf}
 use Rattle.dpc_model.specs.Streams.{count_below}
 use Rattle.dpc_model.specs.Fragments.{log_of, ideal}
-use Rattle.dpc_model.specs.Sessions.{Sub, no_session, link_of, answer_to, given_items}
+use Rattle.dpc_model.specs.Sessions.{no_session, link_of, answer_to, given_items}
+use Rattle.dpc_model.specs.declared.sessions.Sub.{Sub}
 use Rattle.dpc_model.specs.declared.tuples.Tuple.{Tuple}
 use Rattle.dpc_model.specs.declared.tuples.Item.{Item}
 use Rattle.dpc_model.specs.declared.messages.Sess.{Sess}

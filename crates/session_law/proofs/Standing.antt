@@ -5,7 +5,8 @@ use Rattle.dpc_model.specs.Lists.{nth, changed, list_all}
 use Rattle.dpc_model.specs.Replicas.{is_silent}
 use Rattle.dpc_model.specs.Granting.{may_enter_by, own_key, with_ask, grants, with_promise}
 use Rattle.dpc_model.specs.Actors.{replicas_of}
-use Rattle.dpc_model.specs.Sessions.{Sub, Shown, Given, Answered, answer_to, is_newer_than_kept, link_of, first_batch, batches_from, batches_of, given_items, stable_items, boundary_item, tentative_items, passed_item, item_if, with_batches}
+use Rattle.dpc_model.specs.Sessions.{Shown, Given, Answered, answer_to, is_newer_than_kept, link_of, first_batch, batches_from, batches_of, given_items, stable_items, boundary_item, tentative_items, passed_item, item_if, with_batches}
+use Rattle.dpc_model.specs.declared.sessions.Sub.{Sub}
 use Rattle.dpc_model.specs.declared.tuples.Tuple.{Tuple}
 use Rattle.dpc_model.specs.declared.tuples.Item.{Item}
 use Rattle.dpc_model.specs.declared.tuples.Item.TheVariants.{Stable, Tentative, Passed, Boundary, Undo, RecDone}

@@ -11,7 +11,8 @@ use Rattle.dpc_model.specs.Actors.{role_of, reads_from, are_peers, senders_of}
 use Rattle.dpc_model.specs.declared.actors.Role.{Role}
 use Rattle.dpc_model.specs.declared.actors.Role.TheVariants.{Source as IsSource, Node as IsNode, Client as IsClient, Nobody}
 use Rattle.dpc_model.specs.Ports.{Port}
-use Rattle.dpc_model.specs.Sessions.{Sub, Acked}
+use Rattle.dpc_model.specs.Sessions.{Acked}
+use Rattle.dpc_model.specs.declared.sessions.Sub.{Sub}
 use Rattle.dpc_model.specs.declared.tuples.Tuple.{Tuple}
 use Rattle.dpc_model.specs.declared.tuples.Tagged.{Tagged}
 use Rattle.dpc_model.specs.declared.tuples.Item.{Item}

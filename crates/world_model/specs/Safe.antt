@@ -18,7 +18,8 @@ use Rattle.dpc_model.specs.declared.messages.Message.TheVariants as message
 use Rattle.dpc_model.specs.declared.plans.Plan.{Plan}
 use Rattle.dpc_model.specs.declared.plans.StreamRef.{StreamRef}
 use Rattle.dpc_model.specs.declared.plans.StreamRef.TheVariants.{Source, Frag}
-use Rattle.dpc_model.specs.Sessions.{Sub, link_of, given_items}
+use Rattle.dpc_model.specs.Sessions.{link_of, given_items}
+use Rattle.dpc_model.specs.declared.sessions.Sub.{Sub}
 use Rattle.node_model.specs.Mails.{Snap, Packet, Plain, SnapFor, Mail, mail, Stepped}
 use Rattle.dpc_model.specs.NodeStates.{is_stable, is_stabilization}
 use Rattle.node_model.specs.Nodes.{Home, PlainNode, streams_of, own_readers, held_by, out_stable, out_tentative, due_at}

@@ -5,7 +5,8 @@ use Rattle.dpc_model.specs.Lists.{nth}
 use Rattle.dpc_model.specs.declared.tuples.Item.{Item}
 use Rattle.dpc_model.specs.declared.messages.Sess.{Sess}
 use Rattle.dpc_model.specs.declared.messages.Message.TheVariants as message
-use Rattle.dpc_model.specs.Sessions.{Sub, link_of, with_batch, batches_from}
+use Rattle.dpc_model.specs.Sessions.{link_of, with_batch, batches_from}
+use Rattle.dpc_model.specs.declared.sessions.Sub.{Sub}
 use Rattle.node_model.specs.Mails.{Mail, mail, to_readers}
 use Rattle.node_model.specs.Nodes.{Home, PlainNode, own_readers}
 use Rattle.node_model.specs.NodeSteps.{give}

@@ -6,7 +6,8 @@ use Rattle.dpc_model.specs.Streams.{is_below}
 use Rattle.dpc_model.specs.Fragments.{ideal, ideal_upto}
 use Rattle.dpc_model.specs.Granting.{Grants, with_ask_over}
 use Rattle.dpc_model.specs.Ports.{Port, held_at}
-use Rattle.dpc_model.specs.Sessions.{Acked, Sub, with_session_shut}
+use Rattle.dpc_model.specs.Sessions.{Acked, with_session_shut}
+use Rattle.dpc_model.specs.declared.sessions.Sub.{Sub}
 use Rattle.dpc_model.specs.declared.tuples.Tuple.{Tuple}
 use Rattle.dpc_model.specs.declared.plans.Plan.{Plan}
 use Rattle.dpc_model.specs.declared.plans.StreamRef.{StreamRef}

@@ -8,7 +8,8 @@ use Rattle.dpc_model.specs.Operators.{all_of}
 use Rattle.dpc_model.specs.Fragments.{serial, fragment_value}
 use Rattle.dpc_model.specs.Granting.{with_ask}
 use Rattle.dpc_model.specs.Actors.{role_of, reads_from, readers_of}
-use Rattle.dpc_model.specs.Sessions.{Sub, Shown, given_items, stable_items, boundary_item, tentative_items, passed_item, item_if, first_batch, Answered, answer_to, is_newer_than_kept}
+use Rattle.dpc_model.specs.Sessions.{Shown, given_items, stable_items, boundary_item, tentative_items, passed_item, item_if, first_batch, Answered, answer_to, is_newer_than_kept}
+use Rattle.dpc_model.specs.declared.sessions.Sub.{Sub}
 use Rattle.dpc_model.specs.declared.tuples.Tuple.{Tuple}
 use Rattle.dpc_model.specs.declared.tuples.Tagged.{Tagged}
 use Rattle.dpc_model.specs.declared.tuples.Item.{Item}

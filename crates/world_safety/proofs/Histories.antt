@@ -5,7 +5,8 @@ use Rattle.std.proofs.lemmas.List.{append-nil}
 use Rattle.std.proofs.lemmas.Option.{slice_get_within}
 use Rattle.dpc_model.specs.Lists.{nth}
 use Rattle.dpc_model.specs.Inlets.{same_sess, is_newer}
-use Rattle.dpc_model.specs.Sessions.{Sub, Shown, link_of, is_newer_than_kept, with_batch, batches_from}
+use Rattle.dpc_model.specs.Sessions.{Shown, link_of, is_newer_than_kept, with_batch, batches_from}
+use Rattle.dpc_model.specs.declared.sessions.Sub.{Sub}
 use Rattle.dpc_model.specs.declared.tuples.Item.{Item}
 use Rattle.dpc_model.specs.declared.messages.Sess.{Sess}
 use Rattle.dpc_model.specs.declared.messages.Subscribe.{Subscribe}

@@ -4,7 +4,8 @@ use Rattle.std.specs.Prelude.{IsTrue}
 use Rattle.dpc_model.specs.Lists.{nth, list_all, insert_by}
 use Rattle.dpc_model.specs.Actors.{role_of, reads_from, are_peers, readers_of}
 use Rattle.dpc_model.specs.declared.actors.Role.TheVariants.{Source as IsSource, Node as IsNode}
-use Rattle.dpc_model.specs.Sessions.{Sub, link_of, batches_from, batches_of, Given, given_items, stable_items, boundary_item, tentative_items, passed_item, item_if}
+use Rattle.dpc_model.specs.Sessions.{link_of, batches_from, batches_of, Given, given_items, stable_items, boundary_item, tentative_items, passed_item, item_if}
+use Rattle.dpc_model.specs.declared.sessions.Sub.{Sub}
 use Rattle.dpc_model.specs.declared.tuples.Tuple.{Tuple}
 use Rattle.dpc_model.specs.declared.tuples.Item.{Item}
 use Rattle.dpc_model.specs.declared.tuples.Item.TheVariants.{Stable, Tentative, Passed, Boundary, Undo, RecDone}

@@ -4,7 +4,8 @@ use Rattle.std.proofs.lemmas.List.{length-map}
 use Rattle.std.proofs.Math.Nat.{le-div_iff_mul-le}
 use Rattle.dpc_model.specs.Lists.{least, range_with_len, is_nil}
 use Rattle.dpc_model.specs.Reading.{Reader}
-use Rattle.dpc_model.specs.Sessions.{given_items, boundary_item, with_batch, with_batches, Sub}
+use Rattle.dpc_model.specs.Sessions.{given_items, boundary_item, with_batch, with_batches}
+use Rattle.dpc_model.specs.declared.sessions.Sub.{Sub}
 use Rattle.dpc_model.specs.declared.tuples.Item.{Item}
 use Rattle.dpc_model.specs.declared.tuples.Tagged.{Tagged}
 use Rattle.dpc_model.specs.declared.messages.NodeState.TheVariants.{UpFailure}

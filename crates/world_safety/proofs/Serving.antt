@@ -8,7 +8,8 @@ use Rattle.dpc_model.specs.Lists.{nth, list_all, range_with_len}
 use Rattle.dpc_model.specs.Replicas.{is_silent}
 use Rattle.dpc_model.specs.Granting.{with_ask, own_key}
 use Rattle.dpc_model.specs.Ports.{port_after_choice, port_after_tick, without_ended_marks}
-use Rattle.dpc_model.specs.Sessions.{Sub, link_of, Given, given_items}
+use Rattle.dpc_model.specs.Sessions.{link_of, Given, given_items}
+use Rattle.dpc_model.specs.declared.sessions.Sub.{Sub}
 use Rattle.dpc_model.specs.declared.tuples.Item.{Item}
 use Rattle.dpc_model.specs.declared.messages.Sess.{Sess}
 use Rattle.dpc_model.specs.declared.messages.Message.TheVariants as message

@@ -11,7 +11,8 @@ use Rattle.dpc_model.specs.Actors.{role_of, are_peers, reads_from, senders_of, r
 use Rattle.dpc_model.specs.declared.actors.Role.{Role}
 use Rattle.dpc_model.specs.declared.actors.Role.TheVariants.{Source as IsSource, Node as IsNode, Client as IsClient, Nobody}
 use Rattle.dpc_model.specs.Ports.{Port, held_at, choice_at, must_reopen, port_after_choice, subscriptions, acks_to}
-use Rattle.dpc_model.specs.Sessions.{Sub, link_of}
+use Rattle.dpc_model.specs.Sessions.{link_of}
+use Rattle.dpc_model.specs.declared.sessions.Sub.{Sub}
 use Rattle.dpc_model.specs.declared.messages.Rank.{Rank}
 use Rattle.dpc_model.specs.declared.messages.Message.{Message}
 use Rattle.dpc_model.specs.declared.messages.Message.TheVariants as message
