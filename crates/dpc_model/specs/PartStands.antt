@@ -1,5 +1,5 @@
 -- How the parts of a node that has forgotten some of its inputs stand for those of the plain node.
-use Rattle.std.specs.Prelude.{◌≡◌, ℕ, ◌*◌, ◌<◌, ◌≤◌, Bool, false, List, [], ◌++◌, length, All, Option, Some, None, IsNone, ◌↔◌}
+use Rattle.std.specs.Prelude.{◌≡◌, ℕ, ◌*◌, ◌<◌, ◌≤◌, Bool, false, List, [], ◌++◌, length, drop, All, Option, Some, None, IsNone, ◌↔◌}
 use Rattle.std.specs.List.{AllZip}
 use Rattle.dpc_model.specs.Inlets.{InletState}
 use Rattle.dpc_model.specs.Due.{Stamps, stamp_of}
@@ -70,10 +70,11 @@ pub record OutputValue : Type 0 where
   pub subs : List Sub
   pub acks : List Acked
 
--- the first tuples of the stable output, all of them before the base, were forgotten
+-- exactly the tuples of the stable output before the base were forgotten
 pub record StandsForOutput (s : Stream) (v : OutputValue) (x : Outputs) : Type 0 where
   pub count : v.count ≡ length s.stable
-  pub kept : (gone : List Tuple) × (s.stable ≡ gone ++ v.kept) × (length gone ≤ x.base)
+  pub within : x.base ≤ length s.stable
+  pub kept : v.kept ≡ drop x.base s.stable
   pub base : v.base ≡ x.base
   pub bound : v.bound ≡ s.bound
   pub tentative : v.tentative ≡ s.tentative

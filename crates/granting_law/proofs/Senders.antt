@@ -28,7 +28,7 @@ use Rattle.world_model.specs.Worlds.{Envelope, from}
 use Rattle.world_model.specs.SessionLaw.{Channel}
 use Rattle.world_safety.proofs.Tests.{both-of, eq-of, eq-test}
 use Rattle.world_safety.proofs.Histories.{AreDistinct}
-use Rattle.world_safety.proofs.Pointwise.{length-changed}
+use Rattle.dpc_model.proofs.Elements.{length-changed}
 use Rattle.world_safety.proofs.Giving.{place-below}
 use Rattle.world_safety.proofs.Delivered.{place-nth}
 use Rattle.granting_law.specs.Taken.{subscribes_packet}

@@ -22,7 +22,7 @@ use Rattle.world_model.specs.Worlds.{World, Envelope, source_at, no_source, from
 use Rattle.world_model.specs.Safe.{EachStep}
 use Rattle.world_model.specs.SessionLaw.{Channel}
 use Rattle.world_safety.proofs.Tests.{both-of, eq-test}
-use Rattle.world_safety.proofs.Pointwise.{length-changed}
+use Rattle.dpc_model.proofs.Elements.{length-changed}
 use Rattle.world_safety.proofs.Giving.{place-below}
 use Rattle.world_safety.proofs.Delivered.{place-nth}
 use Rattle.world_safety.proofs.Numbering.{source-at as source-number}

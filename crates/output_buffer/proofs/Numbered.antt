@@ -1,4 +1,4 @@
--- Stable items, one more at the end; and one element of a list changed.
+-- Stable items, one more at the end.
 use Rattle.std.proofs.Common.{◌≡◌, ℕ, zero, suc, ◌+◌, ◌-◌, ◌<◌, ◌≤◌, List, [], ◌∷◌, ◌++◌, take, drop, length, refl, ap, arith, slice_index_or, slice_set}
 use Rattle.dpc_model.specs.Lists.{changed}
 use Rattle.dpc_model.specs.Sessions.{Acked, stable_items}
@@ -15,9 +15,3 @@ items-more n (suc p) zero (x ∷ xs) t low inside e = absurd (omega (arith, low)
 items-more n (suc p) (suc i) (x ∷ xs) t low inside e =
     let more : suc i + 1 - suc p ≡ i + 1 - p = omega arith in let same : suc i - suc p ≡ i - p = omega arith in
     rw (more, same) (items-more n p i xs t (omega (arith, low)) (omega (arith, inside)) e)
-
--- one element is set to what it becomes
-pub set-changed : (xs : List Acked) (i : ℕ) (f : Acked → Acked) (old new : Acked) → i < length xs → old ≡ slice_index_or xs i old → new ≡ f old → slice_set xs i new ≡ changed i f xs
-set-changed [] i f old new low e k = absurd (omega (arith, low))
-set-changed (x ∷ xs) zero f old new low e k = rw (k, e) refl
-set-changed (x ∷ xs) (suc i) f old new low e k = ap (λ (ys : List Acked). x ∷ ys) (set-changed xs i f old new (omega (arith, low)) e k)

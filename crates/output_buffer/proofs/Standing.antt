@@ -1,17 +1,11 @@
 -- A buffer goes on to stand for the whole stable output.
 use Rattle.std.proofs.Common.{◌≡◌, ℕ, zero, suc, ◌+◌, ◌-◌, ◌≤◌, List, [], ◌∷◌, ◌++◌, drop, length, refl, sym, ap, ◌∙◌, arith, max, min, length-append}
-use Rattle.std.proofs.lemmas.List.{length-drop, drop-append-le}
+use Rattle.std.proofs.lemmas.List.{length-drop, drop-drop, drop-append-le}
 use Rattle.dpc_model.specs.Lists.{least, changed}
 use Rattle.dpc_model.specs.Sessions.{Acked, base_after, after_ack, stable_items}
 use Rattle.dpc_model.specs.Parts.{Outputs}
 use Rattle.dpc_model.specs.declared.tuples.Tuple.{Tuple}
 use Rattle.output_buffer.specs.Buffers.{BufferState, count_of, cut_to_base, StandsForBuffer}
-
-drop-drop : {X : Type 0} (m n : ℕ) (xs : List X) → drop m (drop n xs) ≡ drop (n + m) xs
-drop-drop m zero xs = let none : 0 + m ≡ m = omega arith in rw none refl
-drop-drop zero (suc n) [] = let next : suc n + 0 ≡ suc n = omega arith in rw next refl
-drop-drop (suc m) (suc n) [] = let next : suc n + suc m ≡ suc (n + suc m) = omega arith in rw next refl
-drop-drop m (suc n) (x ∷ xs) = let next : suc n + m ≡ suc (n + m) = omega arith in rw next (drop-drop m n xs)
 
 -- it tells how many tuples there were
 pub count-stands : (stable : List Tuple) (x : Outputs) (b : BufferState) → StandsForBuffer stable x b → count_of b ≡ length stable

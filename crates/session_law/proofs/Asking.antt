@@ -17,7 +17,8 @@ use Rattle.node_model.specs.Mails.{Plain, Mail, mail}
 use Rattle.world_model.specs.Worlds.{Envelope, from}
 use Rattle.world_model.specs.SessionLaw.{carried, LeavesView}
 use Rattle.world_safety.proofs.Tests.{eq-of, eq-test}
-use Rattle.world_safety.proofs.Pointwise.{get-changed, length-changed}
+use Rattle.dpc_model.proofs.Elements.{length-changed}
+use Rattle.world_safety.proofs.Pointwise.{get-changed}
 use Rattle.world_safety.proofs.Views.{IsView, first-law}
 use Rattle.world_safety.proofs.Histories.{HoldsSession, AreDistinct, same-self, newer-other, newer-kept}
 use Rattle.session_law.specs.Openings.{asks_for, has_first}

@@ -36,7 +36,8 @@ use Rattle.world_safety.proofs.Processing.{base-follows}
 use Rattle.world_safety.proofs.Frames.{IsGood, IsSafeNode-held, out_stable-held, is_empty_port, marks-good}
 use Rattle.world_safety.proofs.Emptied.{shape-of, shape-test, emptied-of, emptied-test, later-good, recovering_again-good}
 use Rattle.world_safety.proofs.Starting.{adopted-good, snapshot-true}
-use Rattle.world_safety.proofs.Pointwise.{changed-same, length-changed, port-at, ports-changed, IsSenderOf, sender-of}
+use Rattle.dpc_model.proofs.Elements.{length-changed}
+use Rattle.world_safety.proofs.Pointwise.{changed-same, port-at, ports-changed, IsSenderOf, sender-of}
 use Rattle.world_safety.proofs.Batches.{took-good, take_batch-broken}
 use Rattle.world_safety.proofs.Numbering.{all-at}
 use Rattle.world_safety.proofs.Mailing.{mails-weaker, IsActor, node-mail, node-snap}

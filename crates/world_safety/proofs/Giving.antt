@@ -36,7 +36,7 @@ use Rattle.world_safety.proofs.Processing.{stably-open, stably-complete, cursor-
 use Rattle.world_safety.proofs.SoundPorts.{node-columns}
 use Rattle.world_safety.proofs.Frames.{IsGood}
 use Rattle.world_safety.proofs.Emptied.{shape-of, shape-test, later-good, finished-over}
-use Rattle.world_safety.proofs.Pointwise.{length-changed}
+use Rattle.dpc_model.proofs.Elements.{length-changed}
 use Rattle.world_safety.proofs.Numbering.{all-nth}
 use Rattle.world_safety.proofs.Dues.{due-range}
 use Rattle.world_safety.proofs.OutFits.{out_stable-fits, out_tentative-fits, drop-fits, cursor-within, view-within}

@@ -20,11 +20,6 @@ changed-same i f [] h = refl
 changed-same zero f (x ∷ xs) h = ap (λ y. y ∷ xs) (h x refl)
 changed-same (suc i) f (x ∷ xs) h = ap (λ ys. x ∷ ys) (changed-same i f xs h)
 
-pub length-changed : {X : Type 0} (i : ℕ) (f : X → X) (xs : List X) → length (changed i f xs) ≡ length xs
-length-changed i f [] = refl
-length-changed zero f (x ∷ xs) = refl
-length-changed (suc i) f (x ∷ xs) = ap suc (length-changed i f xs)
-
 pub get-changed : {X : Type 0} (i : ℕ) (f : X → X) (xs : List X) (x : X) → slice_get xs i ≡ Some x → slice_get (changed i f xs) i ≡ Some (f x)
 get-changed i f [] x e = cc
 get-changed zero f (y ∷ xs) x e = let same : y ≡ x = cc in rw same refl

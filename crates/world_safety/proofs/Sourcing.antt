@@ -21,13 +21,12 @@ use Rattle.world_safety.proofs.Truth.{stable_items-true, given_items-true, ideal
 use Rattle.world_safety.specs.Plans.{IsChecked}
 use Rattle.world_safety.proofs.Tests.{both, both-of, le-of, le-test, eq-of, eq-test, lt-of, all-weaker}
 use Rattle.world_safety.proofs.Processing.{length-counted}
-use Rattle.world_safety.proofs.Pointwise.{length-changed}
 use Rattle.world_safety.proofs.OutFits.{drop-fits}
 use Rattle.world_safety.proofs.Numbering.{readers-read, source-sends-it}
 use Rattle.world_safety.proofs.Mailing.{AreMails, source-sender, batches-mails, given-fit, IsBoundWithin, mails-weaker}
 use Rattle.world_safety.proofs.Giving.{IsShown, answer-mails, place-below}
 use Rattle.world_safety.proofs.Ticked.{zipped-mails, or-left}
-use Rattle.dpc_model.proofs.Elements.{get-take, get-drop}
+use Rattle.dpc_model.proofs.Elements.{get-take, get-drop, length-changed}
 
 -- what is kept of a source
 pub record IsFineSource (plan : Plan) (s : ℕ) (x : SourceState) : Type 0 where

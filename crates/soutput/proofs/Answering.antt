@@ -1,0 +1,48 @@
+-- A subscription: the session that it leaves and its answer, case by case.
+use Rattle.std.proofs.Common.{◌≡◌, ℕ, zero, suc, ◌≤◌, ◌<◌, Bool, true, false, List, [], ◌∷◌, length, refl, sym, ap, arith, Some, None, slice_index_or}
+use Rattle.std.proofs.lemmas.Bool.{lt-ltb, le-ltb}
+use Rattle.dpc_model.specs.Lists.{nth, changed}
+use Rattle.dpc_model.specs.Parts.{shown_of}
+use Rattle.dpc_model.specs.PartStands.{OutputValue}
+use Rattle.dpc_model.specs.Sessions.{no_session, is_newer_than_kept, first_batch}
+use Rattle.dpc_model.specs.declared.tuples.Tuple.{Tuple}
+use Rattle.dpc_model.specs.declared.tuples.Item.{Item}
+use Rattle.dpc_model.specs.declared.messages.Subscribe.{Subscribe}
+use Rattle.dpc_model.specs.declared.messages.Message.TheVariants as message
+use Rattle.dpc_model.specs.declared.sessions.Sub.{Sub}
+use Rattle.soutput.specs.Giving.{stream_behind, IsAnswered}
+
+-- a session that is put where it stands
+changed-to-same : {X : Type 0} (d : X) (i : ℕ) (xs : List X) → changed i (λ _. nth d xs i) xs ≡ xs
+changed-to-same d i [] = refl
+changed-to-same d zero (x ∷ xs) = refl
+changed-to-same {X = X} d (suc i) (x ∷ xs) = ap (λ (ys : List X). x ∷ ys) (changed-to-same d i xs)
+
+-- an element that is there
+pub nth-is : {X : Type 0} (d x : X) (i : ℕ) (xs : List X) → i < length xs → x ≡ slice_index_or xs i x → nth d xs i ≡ x
+nth-is d x i [] low e = absurd (omega (arith, low))
+nth-is d x zero (y ∷ xs) low e = sym e
+nth-is d x (suc i) (y ∷ xs) low e = nth-is d x i xs (omega (arith, low)) e
+
+-- what is asked by a session that is not newer
+pub old-answered : (stable_now : Bool) (reader : ℕ) (asked : Subscribe) (v : OutputValue) → is_newer_than_kept asked.sess (nth no_session v.subs reader).kept ≡ false →
+    IsAnswered stable_now reader asked v v None
+old-answered stable_now reader asked v old = record {
+  after = λ gone base. rw old (sym (ap (λ (subs : List Sub). record v { subs = subs }) (changed-to-same no_session reader v.subs)));
+  answer = λ gone base. rw old refl;
+}
+
+-- .. for tuples that are gone
+pub truncated-answered : (stable_now : Bool) (reader : ℕ) (asked : Subscribe) (v : OutputValue) → is_newer_than_kept asked.sess (nth no_session v.subs reader).kept ≡ true → asked.n < v.base →
+    IsAnswered stable_now reader asked v (record v { subs = changed reader (λ _. record { kept = Some asked.sess; is_open = false; batches = 0 }) v.subs }) (Some (message.Truncated asked.sess v.base))
+truncated-answered stable_now reader asked v new low =
+    let below = lt-ltb asked.n v.base low in
+    record { after = λ gone base. rw (new, below) refl; answer = λ gone base. rw (new, below) refl }
+
+-- .. and for tuples that are there
+pub batch-answered : (stable_now : Bool) (reader : ℕ) (asked : Subscribe) (v : OutputValue) (items : List Item) → is_newer_than_kept asked.sess (nth no_session v.subs reader).kept ≡ true → v.base ≤ asked.n →
+    ((gone : List Tuple) → length gone ≡ v.base → items ≡ first_batch (shown_of (stream_behind gone v) v.base stable_now) asked) →
+    IsAnswered stable_now reader asked v (record v { subs = changed reader (λ _. record { kept = Some asked.sess; is_open = true; batches = 1 }) v.subs }) (Some (message.Batch asked.sess 0 items))
+batch-answered stable_now reader asked v items new high told =
+    let past = le-ltb asked.n v.base high in
+    record { after = λ gone base. rw (new, past) refl; answer = λ gone base. rw (new, past) (ap (λ (is : List Item). Some (message.Batch asked.sess 0 is)) (told gone base)) }
