@@ -1,0 +1,4 @@
+pub mod Dropping
+mod Folds
+pub mod Standing
+mod Taking

@@ -1,0 +1,3 @@
+pub mod Batches
+pub mod Drafts
+pub mod Forgotten

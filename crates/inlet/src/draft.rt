@@ -1,0 +1,160 @@
+//! Items being read, before anything of the inlet changes.
+ghost use Rattle.std.specs.Prelude.{◌≡◌, ◌+◌, ◌^◌, ◌<◌, length, map, option_map, IfOk};
+ghost use Rattle.std.specs.Borrow.{Bor};
+ghost use Rattle.dpc_model.specs.declared.tuples.Item.{Item};
+ghost use Rattle.dpc_model.specs.Reading.{Reader, is_sure};
+ghost use Rattle.dpc_model.specs.declared.tuples.Item.TheVariants as item_of;
+ghost use Rattle.inlet.specs.Drafts.{Began, drafted, Reads, IsFold};
+
+use dpc_model::exact::Exact;
+use dpc_model::faults::NoMemory;
+use dpc_model::tuples::{Item, Tuple};
+use std::alloc::Global;
+
+/// What became of one item.
+#[derive(Clone, Copy, PartialEq, Eq)]
+pub enum Verdict {
+    /// It has no reading.
+    Refused,
+    /// It was read, and changes nothing.
+    Skipped,
+    Taken,
+}
+
+/// What the items of a batch add to what is held.
+#[derive(Drop)]
+pub struct Draft {
+    /// How many stable tuples there were before the batch.
+    pub first: u64,
+    pub stable: Vec<Tuple>,
+    pub bound: u64,
+    /// Whether tentative tuples were held before the batch, and still are.
+    pub held: bool,
+    pub tentative: Vec<Tuple>,
+    pub soft: u64,
+}
+
+impl Draft {
+    /// How many stable tuples there are.
+    fn count(&self) -> u64
+        requires { self.now.first + length self.now.stable.items < 2 ^ 64 }
+        ensures { result ≡ self.now.first + length self.now.stable.items }
+    {
+        self.first + self.stable.len() as u64
+    }
+
+    /// Whether nothing tentative is held or known of.
+    fn is_sure(&self) -> bool
+        ensures { (base : Reader) → Began base self.now → result ≡ is_sure (drafted base self.now) }
+    {
+        !self.held && self.tentative.is_empty() && self.soft == 0
+    }
+
+    fn read_stable(
+        &mut self,
+        alloc: Global,
+        number: u64,
+        tuple: &Tuple,
+    ) -> Result<Verdict, NoMemory>
+        requires { self.old.first + length self.old.stable.items < 2 ^ 64 }
+        ensures { IfOk result (Reads (item_of.Stable number tuple.now) self.old self.new) }
+    {
+        let count = self.count();
+        if number < count {
+            return Ok(Verdict::Skipped);
+        }
+        if number > count || !self.is_sure() {
+            return Ok(Verdict::Refused);
+        }
+        self.stable.push(tuple.copy(alloc)?)?;
+        Ok(Verdict::Taken)
+    }
+
+    fn read_tentative(&mut self, alloc: Global, tuple: &Tuple) -> Result<Verdict, NoMemory>
+        ensures { IfOk result (Reads (item_of.Tentative tuple.now) self.old self.new) }
+    {
+        if tuple.stime < self.bound {
+            return Ok(Verdict::Skipped);
+        }
+        self.tentative.push(tuple.copy(alloc)?)?;
+        Ok(Verdict::Taken)
+    }
+
+    fn read_passed(&mut self, upto: u64) -> Verdict
+        ensures { Reads (item_of.Passed upto) self.old self.new result }
+    {
+        if upto <= self.bound || upto <= self.soft {
+            return Verdict::Skipped;
+        }
+        self.soft = upto;
+        Verdict::Taken
+    }
+
+    fn read_boundary(&mut self, bound: u64, count: u64) -> Verdict
+        requires { self.old.first + length self.old.stable.items < 2 ^ 64 }
+        ensures { Reads (item_of.Boundary bound count) self.old self.new result }
+    {
+        if count > self.count() || !self.is_sure() {
+            return Verdict::Refused;
+        }
+        if bound <= self.bound {
+            return Verdict::Skipped;
+        }
+        self.bound = bound;
+        Verdict::Taken
+    }
+
+    fn undo(&mut self, number: u64) -> Verdict
+        ensures { Reads (item_of.Undo number) self.old self.new result }
+    {
+        self.held = false;
+        self.tentative.clear();
+        self.soft = 0;
+        Verdict::Taken
+    }
+
+    fn end_corrections(&mut self) -> Verdict
+        ensures { Reads item_of.RecDone self.old self.new result }
+    {
+        if self.is_sure() {
+            Verdict::Taken
+        } else {
+            Verdict::Refused
+        }
+    }
+
+    /// Reads one item.
+    fn read(&mut self, alloc: Global, item: &Item) -> Result<Verdict, NoMemory>
+        requires { self.old.first + length self.old.stable.items < 2 ^ 64 }
+        ensures { IfOk result (Reads item.now self.old self.new) }
+    {
+        Ok(match item {
+            Item::Stable(number, tuple) => self.read_stable(alloc, *number, tuple)?,
+            Item::Tentative(tuple) => self.read_tentative(alloc, tuple)?,
+            Item::Passed(upto) => self.read_passed(*upto),
+            Item::Boundary(bound, count) => self.read_boundary(*bound, *count),
+            Item::Undo(number) => self.undo(*number),
+            Item::RecDone => self.end_corrections(),
+        })
+    }
+
+    /// Reads items in order, and gives those that were taken. There is nothing where one has no reading.
+    pub fn fold<'a>(
+        &mut self,
+        alloc: Global,
+        items: &'a [Item],
+    ) -> Result<Option<Vec<&'a Item>>, NoMemory>
+        requires { self.old.first + length self.old.stable.items + length items.now < 2 ^ 64 }
+        ensures { IfOk result (λ taken. IsFold items.now self.old self.new (option_map (map (λ (item : Bor Item). item.now)) (option_map (λ taken. taken.items) taken))) }
+    {
+        let mut taken = Vec::new(alloc);
+        for item in items {
+            match self.read(alloc, item)? {
+                Verdict::Taken => taken.push(item)?,
+                Verdict::Skipped => {}
+                Verdict::Refused => return Ok(None),
+            }
+        }
+        Ok(Some(taken))
+    }
+}

@@ -1,0 +1,7 @@
+//! The receiving end of one stream: which batches are taken, and what is held of the stream.
+#![tactic(auto)]
+
+mod draft;
+pub mod inlet;
+#[cfg(test)]
+mod tests;
