@@ -1,14 +1,14 @@
 -- Bucket by bucket: what a bucket adds to the output of a causal engine is its output from the bucket's begin on.
-use Rattle.std.proofs.Common.{◌≡◌, ℕ, ◌+◌, ◌*◌, ◌<◌, ◌≤◌, true, false, cond, ◌==◌, List, [], ◌∷◌, ◌++◌, map, length, drop, get_or, refl, sym, ◌∙◌, ap, arith, nat_le, None, unwrap_or, All}
+use Rattle.std.proofs.Common.{◌≡◌, ℕ, ◌+◌, ◌*◌, ◌<◌, ◌≤◌, true, ◌==◌, List, [], ◌∷◌, ◌++◌, map, length, drop, refl, ◌∙◌, ap, arith, nat_le, None, unwrap_or, All, false, cond}
 use Rattle.std.proofs.lemmas.Grind.{common_steps}
 use Rattle.std.proofs.Math.Seq.{drop-append_seam}
 use Rattle.std.proofs.lemmas.List.{map-append, append-nil}
-use Rattle.std.proofs.lemmas.List.Elements.{filter-append, recursion_from_All, All-append, All-weaker}
-use Rattle.std.proofs.lemmas.List.Sorted.{IsNonDecreasingBy-from_all_adjacent}
+use Rattle.std.proofs.lemmas.List.Elements.{filter-append, recursion_from_All, All-append, All-weaker, All-filter, filter_passes}
 use Rattle.std.specs.List.{filter, AllByRecursion}
+use Rattle.std.specs.Cmp.Derive.{both_true}
 use Rattle.dpc_model.specs.Lists.{range_with_len, push, last_or}
-use Rattle.dpc_model.specs.Streams.{NoneBelow, IsOrdered, time_of, InOrder, cut, is_below, cut_each}
-use Rattle.dpc_model.specs.Engines.{Value, IsBucket, LiesIn, LiesBelow, precedes, from_time, ports_of, engine_value, lone_operator, nameless, operator_value, added_output}
+use Rattle.dpc_model.specs.Streams.{NoneBelow, IsOrdered, time_of, InOrder, cut, is_below}
+use Rattle.dpc_model.specs.Engines.{Value, IsBucket, LiesIn, LiesBelow, from_time, ports_of, engine_value, lone_operator, nameless, operator_value, added_output}
 use Rattle.dpc_model.specs.Fragments.{at_port, cut_tagged, read_wire, outputs_after, IsSoundKind}
 use Rattle.dpc_model.specs.Operators.{output_of}
 use Rattle.dpc_model.specs.declared.tuples.Tuple.{Tuple}
@@ -16,32 +16,11 @@ use Rattle.dpc_model.specs.declared.tuples.Tagged.{Tagged}
 use Rattle.dpc_model.specs.declared.operators.OpKind.{OpKind}
 use Rattle.dpc_model.specs.declared.operators.OpSpec.{OpSpec}
 use Rattle.dpc_model.specs.declared.operators.Wire.TheVariants.{Port}
-use Rattle.dpc_model.proofs.Causality.{filter-filter, filter-map}
-use Rattle.dpc_model.proofs.Prefixes.{none_cut}
-use Rattle.dpc_model.proofs.IdealCausality.{at_port-cut, cut-output_of}
-use Rattle.dpc_model.proofs.Sorting.{IsOrdered-from}
-
-abbrev pub tagged_time : Tagged → ℕ
-tagged_time x = x.tuple.stime
-
--- ---- an ordered list below a time, and from it on
-
-from_time-all : (b n : ℕ) (ts : List Tuple) → b ≤ n → NoneBelow time_of n ts → from_time b ts ≡ ts
-from_time-all b n [] h s = refl
-from_time-all b n (t ∷ ts) h s = grind (arith, common_steps, s.0, from_time-all b n ts h s.1)
-
-pub ordered-split : (b : ℕ) (ts : List Tuple) → InOrder ts → ts ≡ cut ts b ++ from_time b ts
-ordered-split b [] o = refl
-ordered-split b (t ∷ ts) o =
-    (elim (is_below b t) as (λ c. is_below b t ≡ c → t ∷ ts ≡ cond c (t ∷ cut ts b) (cut ts b) ++ from_time b (t ∷ ts)) [
-      | true ↦ λ e.
-          let late : nat_le b (time_of t) ≡ false = grind (arith, common_steps) in
-          rw late (ap (λ (us : List Tuple). t ∷ us) (ordered-split b ts o.1))
-      | false ↦ λ e.
-          let late : nat_le b (time_of t) ≡ true = grind (arith, common_steps) in
-          let low : b ≤ time_of t = grind (arith, common_steps) in
-          rw (none_cut b (time_of t) ts low o.0, late) (sym (ap (λ (us : List Tuple). t ∷ us) (from_time-all b (time_of t) ts low o.0)))
-    ]) refl
+use Rattle.dpc_model.proofs.IdealCausality.{cut-output_of}
+use Rattle.dpc_model.proofs.Order.{tagged_time}
+use Rattle.dpc_model.proofs.Cuts.{none-below, all-from, ordered-split, none_below-all, ordered-append}
+use Rattle.dpc_model.proofs.Kept.{ports_of-kept}
+use Rattle.dpc_model.proofs.Serial.{adjacent-ordered}
 
 -- ---- the inputs before a bucket, and those of the bucket
 
@@ -49,9 +28,21 @@ cut_all : (b : ℕ) (xs : List Tagged) → AllByRecursion (LiesBelow b) xs → c
 cut_all b [] h = refl
 cut_all b (x ∷ xs) h = grind (arith, common_steps, h.0, cut_all b xs h.1)
 
-cut_none : (w k : ℕ) (xs : List Tagged) → AllByRecursion (LiesIn w k) xs → cut_tagged (k * w) xs ≡ []
-cut_none w k [] h = refl
-cut_none w k (x ∷ xs) h = let low = h.0.0 in grind (arith, common_steps, low, cut_none w k xs h.1)
+-- a tuple of a bucket lies from its begin on and below its end
+pub lies-from : (w k : ℕ) (x : Tagged) → LiesIn w k x → k * w ≤ x.tuple.stime
+lies-from w k x h = grind (arith, common_steps)
+
+pub lies-below : (w k : ℕ) (x : Tagged) → LiesIn w k x → x.tuple.stime < (k + 1) * w
+lies-below w k x h = grind (arith, common_steps)
+
+pub bucket-from : (w k : ℕ) (xs : List Tagged) → All (LiesIn w k) xs → AllByRecursion (λ (x : Tagged). k * w ≤ x.tuple.stime) xs
+bucket-from w k xs l = recursion_from_All (λ (x : Tagged). k * w ≤ x.tuple.stime) xs (All-weaker (LiesIn w k) (λ (x : Tagged). k * w ≤ x.tuple.stime) (lies-from w k) xs l)
+
+pub bucket-below : (w k : ℕ) (xs : List Tagged) → All (LiesIn w k) xs → AllByRecursion (LiesBelow ((k + 1) * w)) xs
+bucket-below w k xs l = recursion_from_All (LiesBelow ((k + 1) * w)) xs (All-weaker (LiesIn w k) (LiesBelow ((k + 1) * w)) (lies-below w k) xs l)
+
+late-bucket : (w k : ℕ) (xs : List Tagged) → All (LiesIn w k) xs → NoneBelow tagged_time (k * w) xs
+late-bucket w k xs l = none_below-all tagged_time (k * w) (k * w) xs (omega arith) (bucket-from w k xs l)
 
 -- inputs below a time stay when they are cut there
 pub cut-below : (b : ℕ) (xs : List Tagged) → All (LiesBelow b) xs → cut_tagged b xs ≡ xs
@@ -61,7 +52,7 @@ cut-below b xs h = cut_all b xs (recursion_from_All (LiesBelow b) xs h)
 pub cut-before : (w k : ℕ) (xs ys : List Tagged) → All (LiesBelow (k * w)) xs → All (LiesIn w k) ys → cut_tagged (k * w) (xs ++ ys) ≡ xs
 cut-before w k xs ys h l =
     filter-append (λ (x : Tagged). is_below (k * w) x.tuple) xs ys
-    ∙ rw (cut_all (k * w) xs (recursion_from_All (LiesBelow (k * w)) xs h), cut_none w k ys (recursion_from_All (LiesIn w k) ys l)) (append-nil xs)
+    ∙ rw (cut_all (k * w) xs (recursion_from_All (LiesBelow (k * w)) xs h), none-below tagged_time (k * w) (k * w) ys (omega arith) (late-bucket w k ys l)) (append-nil xs)
 
 -- the tagged tuples from a time on
 abbrev pub from_tagged : ℕ → List Tagged → List Tagged
@@ -71,15 +62,19 @@ from_none : (b : ℕ) (xs : List Tagged) → AllByRecursion (LiesBelow b) xs →
 from_none b [] h = refl
 from_none b (x ∷ xs) h = grind (arith, common_steps, h.0, from_none b xs h.1)
 
-from_all : (w k : ℕ) (xs : List Tagged) → AllByRecursion (LiesIn w k) xs → from_tagged (k * w) xs ≡ xs
-from_all w k [] h = refl
-from_all w k (x ∷ xs) h = let low = h.0.0 in grind (arith, common_steps, low, from_all w k xs h.1)
+-- what is cut out lies in the bucket
+pub cut-inside : (w k : ℕ) (xs : List Tagged) → All (LiesIn w k) (cut_tagged ((k + 1) * w) (from_tagged (k * w) xs))
+cut-inside w k xs =
+    let early = λ (x : Tagged). is_below ((k + 1) * w) x.tuple in
+    let late = λ (x : Tagged). nat_le (k * w) x.tuple.stime in
+    let from = All-filter early (λ (x : Tagged). late x ≡ true) (from_tagged (k * w) xs) (filter_passes late xs) in
+    λ i d h. both_true (from i d h) (filter_passes early (from_tagged (k * w) xs) i d h)
 
 -- from the begin of a bucket on stands the bucket
-pub from-bucket : (w k : ℕ) (xs ys : List Tagged) → All (LiesBelow (k * w)) xs → All (LiesIn w k) ys → from_tagged (k * w) (xs ++ ys) ≡ ys
-from-bucket w k xs ys h l =
+pub after-begin : (w k : ℕ) (xs ys : List Tagged) → All (LiesBelow (k * w)) xs → All (LiesIn w k) ys → from_tagged (k * w) (xs ++ ys) ≡ ys
+after-begin w k xs ys h l =
     filter-append (λ (x : Tagged). nat_le (k * w) x.tuple.stime) xs ys
-    ∙ rw (from_none (k * w) xs (recursion_from_All (LiesBelow (k * w)) xs h), from_all w k ys (recursion_from_All (LiesIn w k) ys l)) refl
+    ∙ rw (from_none (k * w) xs (recursion_from_All (LiesBelow (k * w)) xs h), all-from tagged_time (k * w) (k * w) ys (omega arith) (late-bucket w k ys l)) refl
 
 -- after a bucket all lies below its end
 pub LiesBelow-next : (w k : ℕ) (xs ys : List Tagged) → All (LiesBelow (k * w)) xs → All (LiesIn w k) ys → All (LiesBelow ((k + 1) * w)) (xs ++ ys)
@@ -87,7 +82,7 @@ LiesBelow-next w k xs ys h l =
     let later : k * w ≤ (k + 1) * w = grind (arith, common_steps) in
     All-append (LiesBelow ((k + 1) * w)) xs ys
     (All-weaker (LiesBelow (k * w)) (LiesBelow ((k + 1) * w)) (λ x e. omega (arith, e, later)) xs h)
-    (All-weaker (LiesIn w k) (LiesBelow ((k + 1) * w)) (λ x e. e.1) ys l)
+    (All-weaker (LiesIn w k) (LiesBelow ((k + 1) * w)) (lies-below w k) ys l)
 
 -- ---- what came by a port
 
@@ -96,21 +91,14 @@ at_port-append p xs ys =
     ap (λ (zs : List Tagged). map (λ (x : Tagged). x.tuple) zs) (filter-append (λ (x : Tagged). x.port == p) xs ys)
     ∙ map-append (λ (x : Tagged). x.tuple) (filter (λ (x : Tagged). x.port == p) xs) (filter (λ (x : Tagged). x.port == p) ys)
 
-pub at_port-from : (p b : ℕ) (xs : List Tagged) → from_time b (at_port p xs) ≡ at_port p (from_tagged b xs)
-at_port-from p b xs =
-    filter-map (λ (t : Tuple). nat_le b t.stime) (λ (x : Tagged). nat_le b x.tuple.stime) (λ (x : Tagged). x.tuple) (λ x. refl) (filter (λ (x : Tagged). x.port == p) xs)
-    ∙ ap (λ (ys : List Tagged). map (λ (x : Tagged). x.tuple) ys) (filter-filter (λ (x : Tagged). nat_le b x.tuple.stime) (λ (x : Tagged). x.port == p) xs)
-
-ports-from : (b : ℕ) (xs : List Tagged) (ps : List ℕ) → map (from_time b) (map (λ p. at_port p xs) ps) ≡ map (λ p. at_port p (from_tagged b xs)) ps
-ports-from b xs [] = refl
-ports-from b xs (p ∷ ps) = rw (at_port-from p b xs) (ap (λ (yss : List (List Tuple)). at_port p (from_tagged b xs) ∷ yss) (ports-from b xs ps))
-
-pub ports_of-from : (b n : ℕ) (xs : List Tagged) → map (from_time b) (ports_of n xs) ≡ ports_of n (from_tagged b xs)
-ports_of-from b n xs = ports-from b xs (range_with_len 0 n)
-
-ports-cut : (b : ℕ) (xs : List Tagged) (ps : List ℕ) → cut_each b (map (λ p. at_port p xs) ps) ≡ map (λ p. at_port p (cut_tagged b xs)) ps
-ports-cut b xs [] = refl
-ports-cut b xs (p ∷ ps) = rw (at_port-cut p b xs) (ap (λ (yss : List (List Tuple)). at_port p (cut_tagged b xs) ∷ yss) (ports-cut b xs ps))
+-- what holds of each tuple holds of those of a port
+pub at_port-all : (P : Tuple → Type 0) (p : ℕ) (xs : List Tagged) → AllByRecursion (λ (x : Tagged). P x.tuple) xs → AllByRecursion P (at_port p xs)
+at_port-all P p [] h = tt
+at_port-all P p (x ∷ xs) h =
+    elim (x.port == p) as (λ c. AllByRecursion P (map (λ (y : Tagged). y.tuple) (cond c (x ∷ filter (λ (y : Tagged). y.port == p) xs) (filter (λ (y : Tagged). y.port == p) xs)))) [
+      | true ↦ (h.0, at_port-all P p xs h.1)
+      | false ↦ at_port-all P p xs h.1
+    ]
 
 -- the ports that one operator reads
 ports-read : (xs : List Tagged) (ps : List ℕ) → map (read_wire xs []) (map Port ps) ≡ map (λ p. at_port p xs) ps
@@ -133,9 +121,6 @@ nameless-outputs outs (op ∷ ops) xs b = nameless-outputs (push outs (output_of
 pub nameless-value : (ops : List OpSpec) (xs : List Tagged) (b : ℕ) → engine_value (nameless ops) xs b ≡ engine_value ops xs b
 nameless-value ops xs b = ap (λ (yss : List (List Tuple)). unwrap_or (last_or None yss) []) (nameless-outputs [] ops xs b)
 
-pub ports_of-cut : (b n : ℕ) (xs : List Tagged) → cut_each b (ports_of n xs) ≡ ports_of n (cut_tagged b xs)
-ports_of-cut b n xs = ports-cut b xs (range_with_len 0 n)
-
 -- ---- causal engines
 
 -- the output cut at a time is that of the cut inputs
@@ -144,7 +129,7 @@ IsCausal v = (xs : List Tagged) (b b' : ℕ) → b ≤ b' → cut (v xs b') b �
 
 pub operator-causal : (kind : OpKind) (n : ℕ) → IsSoundKind kind → IsCausal (operator_value kind n)
 operator-causal kind n s xs b b' h =
-    cut-output_of kind (ports_of n xs) b b' s h ∙ ap (λ (yss : List (List Tuple)). output_of kind yss b) (ports_of-cut b n xs)
+    cut-output_of kind (ports_of n xs) b b' s h ∙ ap (λ (yss : List (List Tuple)). output_of kind yss b) (ports_of-kept (is_below b) n xs)
 
 -- the output of a bucket stands behind that of the buckets before it
 pub value-split : (v : Value) (w k : ℕ) (before bucket : List Tagged) → IsCausal v → InOrder (v (before ++ bucket) ((k + 1) * w)) →
@@ -153,7 +138,7 @@ pub value-split : (v : Value) (w k : ℕ) (before bucket : List Tagged) → IsCa
 value-split v w k before bucket causal o h l =
     let later : k * w ≤ (k + 1) * w = grind (arith, common_steps) in
     let whole = v (before ++ bucket) ((k + 1) * w) in
-    ordered-split (k * w) whole o
+    ordered-split time_of (k * w) whole o
     ∙ ap (λ (ts : List Tuple). ts ++ from_time (k * w) whole)
     (causal (before ++ bucket) (k * w) ((k + 1) * w) later ∙ ap (λ (xs : List Tagged). v xs (k * w)) (cut-before w k before bucket h l))
 
@@ -169,32 +154,8 @@ value-below v b xs causal h = causal xs b b (omega arith) ∙ ap (λ (ys : List 
 
 -- ---- the order of a bucket
 
-precedes-time : (x y : Tagged) → precedes x y ≡ true → x.tuple.stime ≤ y.tuple.stime
-precedes-time x y e = grind (arith, common_steps)
-
-pub bucket-ordered : (w k : ℕ) (xs : List Tagged) → IsBucket w k xs → IsOrdered tagged_time xs
-bucket-ordered w k xs h =
-    IsOrdered-from tagged_time xs
-    (IsNonDecreasingBy-from_all_adjacent tagged_time xs
-    (λ i d low. precedes-time (get_or xs i d) (get_or xs (i + 1) d) (h.ordered i d low)))
-
-module _ {X : Type 0} (key : X → ℕ) where
-  none_below-append : (n : ℕ) (xs ys : List X) → NoneBelow key n xs → NoneBelow key n ys → NoneBelow key n (xs ++ ys)
-  none_below-append n [] ys s t = t
-  none_below-append n (x ∷ xs) ys s t = (s.0, none_below-append n xs ys s.1 t)
-
-  none_below-all : (m n : ℕ) (ys : List X) → m ≤ n → AllByRecursion (λ y. n ≤ key y) ys → NoneBelow key m ys
-  none_below-all m n [] h s = tt
-  none_below-all m n (y ∷ ys) h s = (omega (arith, s.0), none_below-all m n ys h s.1)
-
-  -- ordered lists one after the other, the first below a number and the second from it on
-  pub ordered-append : (b : ℕ) (xs ys : List X) → IsOrdered key xs → IsOrdered key ys → AllByRecursion (λ x. key x < b) xs → AllByRecursion (λ y. b ≤ key y) ys → IsOrdered key (xs ++ ys)
-  ordered-append b [] ys o p h l = p
-  ordered-append b (x ∷ xs) ys o p h l =
-      (none_below-append (key x) xs ys o.0 (none_below-all (key x) b ys (omega (arith, h.0)) l), ordered-append b xs ys o.1 p h.1 l)
-
 -- the inputs stay in order of time
 pub inputs-ordered : (w k : ℕ) (xs ys : List Tagged) → IsOrdered tagged_time xs → All (LiesBelow (k * w)) xs → IsBucket w k ys → IsOrdered tagged_time (xs ++ ys)
 inputs-ordered w k xs ys o h b =
-    ordered-append tagged_time (k * w) xs ys o (bucket-ordered w k ys b) (recursion_from_All (LiesBelow (k * w)) xs h)
-    (recursion_from_All (λ (y : Tagged). k * w ≤ y.tuple.stime) ys (All-weaker (LiesIn w k) (λ (y : Tagged). k * w ≤ y.tuple.stime) (λ y e. e.0) ys b.inside))
+    ordered-append tagged_time (k * w) xs ys o (adjacent-ordered ys b.ordered) (recursion_from_All (LiesBelow (k * w)) xs h)
+    (bucket-from w k ys b.inside)

@@ -1,7 +1,7 @@
 -- The output of an operator, cut at a time, is its output of the inputs cut at that time.
 use Rattle.std.proofs.Common.{◌≡◌, ℕ, ◌≤◌, Bool, true, false, cond, List, [], ◌∷◌, ◌++◌, map, refl, sym, ◌∙◌, ap, arith, nat_lt}
 use Rattle.std.proofs.lemmas.Grind.{common_steps}
-use Rattle.std.proofs.lemmas.Bool.{ltb-true}
+use Rattle.std.proofs.lemmas.Bool.{ltb-true, ltb-false}
 use Rattle.std.specs.List.{filter}
 use Rattle.std.proofs.lemmas.List.Elements.{filter-append}
 use Rattle.dpc_model.specs.Lists.{insert_by, sort_by}
@@ -32,28 +32,33 @@ cut-mapped es ts b = filter-map (is_below b) (is_below b) (mapped_tuple es) (λ 
 -- ---- union
 
 module _ {X : Type 0} (key : X → ℕ) where
-  NoneBelow-le : (m n : ℕ) (xs : List X) → m ≤ n → NoneBelow key n xs → NoneBelow key m xs
+  pub NoneBelow-le : (m n : ℕ) (xs : List X) → m ≤ n → NoneBelow key n xs → NoneBelow key m xs
   NoneBelow-le m n [] h s = tt
   NoneBelow-le m n (x ∷ xs) h s = (omega (arith, s.0), NoneBelow-le m n xs h s.1)
 
-  -- where a test fails, the other order holds
-  pub not_below : (a b : ℕ) → nat_lt a b ≡ false → b ≤ a
-  not_below a b e = grind (arith, common_steps)
+  pub NoneBelow-append : (n : ℕ) (xs ys : List X) → NoneBelow key n xs → NoneBelow key n ys → NoneBelow key n (xs ++ ys)
+  NoneBelow-append n [] ys s t = t
+  NoneBelow-append n (x ∷ xs) ys s t = (s.0, NoneBelow-append n xs ys s.1 t)
 
-  NoneBelow-insert : (n : ℕ) (x : X) (xs : List X) → n ≤ key x → NoneBelow key n xs → NoneBelow key n (insert_by key x xs)
-  NoneBelow-insert n x [] h s = (h, tt)
-  NoneBelow-insert n x (y ∷ ys) h s =
-      elim (nat_lt (key y) (key x)) as (λ b. NoneBelow key n (cond b (y ∷ insert_by key x ys) (x ∷ y ∷ ys))) [
-        | true ↦ (s.0, NoneBelow-insert n x ys h s.1)
+  -- also in order of another number
+  NoneBelow-insert : (by : X → ℕ) (n : ℕ) (x : X) (xs : List X) → n ≤ key x → NoneBelow key n xs → NoneBelow key n (insert_by by x xs)
+  NoneBelow-insert by n x [] h s = (h, tt)
+  NoneBelow-insert by n x (y ∷ ys) h s =
+      elim (nat_lt (by y) (by x)) as (λ b. NoneBelow key n (cond b (y ∷ insert_by by x ys) (x ∷ y ∷ ys))) [
+        | true ↦ (s.0, NoneBelow-insert by n x ys h s.1)
         | false ↦ (h, s)
       ]
+
+  pub NoneBelow-sort : (by : X → ℕ) (n : ℕ) (xs : List X) → NoneBelow key n xs → NoneBelow key n (sort_by by xs)
+  NoneBelow-sort by n [] s = tt
+  NoneBelow-sort by n (x ∷ xs) s = NoneBelow-insert by n x (sort_by by xs) s.0 (NoneBelow-sort by n xs s.1)
 
   IsOrdered-insert : (x : X) (xs : List X) → IsOrdered key xs → IsOrdered key (insert_by key x xs)
   IsOrdered-insert x [] s = (tt, tt)
   IsOrdered-insert x (y ∷ ys) s =
       (elim (nat_lt (key y) (key x)) as (λ b. nat_lt (key y) (key x) ≡ b → IsOrdered key (cond b (y ∷ insert_by key x ys) (x ∷ y ∷ ys))) [
-        | true ↦ λ e. (NoneBelow-insert (key y) x ys (omega (arith, ltb-true (key y) (key x) e)) s.0, IsOrdered-insert x ys s.1)
-        | false ↦ λ e. ((not_below (key y) (key x) e, NoneBelow-le (key x) (key y) ys (not_below (key y) (key x) e) s.0), s)
+        | true ↦ λ e. (NoneBelow-insert key (key y) x ys (omega (arith, ltb-true (key y) (key x) e)) s.0, IsOrdered-insert x ys s.1)
+        | false ↦ λ e. ((ltb-false (key y) (key x) e, NoneBelow-le (key x) (key y) ys (ltb-false (key y) (key x) e) s.0), s)
       ]) refl
 
   pub IsOrdered-sort : (xs : List X) → IsOrdered key (sort_by key xs)
@@ -84,7 +89,7 @@ module _ {X : Type 0} (key : X → ℕ) where
               | false ↦ λ k. filter-insert p x ys h s.1
             ]) refl
         | false ↦ λ e.
-            let g : key x ≤ key y = not_below (key y) (key x) e in
+            let g : key x ≤ key y = ltb-false (key y) (key x) e in
             rw h (sym (insert_by-first x (filter p (y ∷ ys)) (NoneBelow-filter p (key x) (y ∷ ys) (g, NoneBelow-le (key x) (key y) ys g s.0))))
       ]) refl
 

@@ -33,7 +33,3 @@ pub length-changed : {X : Type 0} (i : ℕ) (f : X → X) (xs : List X) → leng
 length-changed i f [] = refl
 length-changed zero f (x ∷ xs) = refl
 length-changed (suc i) f (x ∷ xs) = ap suc (length-changed i f xs)
-
-pub drop-whole : {X : Type 0} (xs : List X) → drop (length xs) xs ≡ []
-drop-whole [] = refl
-drop-whole (x ∷ xs) = drop-whole xs

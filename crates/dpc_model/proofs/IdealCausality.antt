@@ -1,17 +1,14 @@
 -- The failure-free output up to a time is the whole one, cut at that time.
-use Rattle.std.proofs.Common.{◌≡◌, ℕ, zero, suc, ◌+◌, ◌≤◌, ◌==◌, List, [], ◌∷◌, map, refl, ◌∙◌, ap, arith, nat_lt, Option, Some, None, unwrap_or, option_map}
+use Rattle.std.proofs.Common.{◌≡◌, ℕ, ◌≤◌, List, [], ◌∷◌, map, refl, ◌∙◌, ap, arith, None, unwrap_or}
 use Rattle.std.proofs.lemmas.Grind.{common_steps}
 use Rattle.std.proofs.lemmas.List.{map-append}
-use Rattle.std.proofs.lemmas.List.Elements.{filter-append}
-use Rattle.std.specs.List.{filter, last_or}
-use Rattle.dpc_model.specs.Lists.{nth, push, sort_by}
+use Rattle.std.specs.List.{last_or}
+use Rattle.dpc_model.specs.Lists.{nth, push}
 use Rattle.dpc_model.specs.Streams.{cut, is_below, cut_each}
 use Rattle.dpc_model.specs.Operators.{output_of}
-use Rattle.dpc_model.specs.Fragments.{tag, tagged_from, serial, at_port, read_wire, outputs_after, fragment_value, log_of, stream_upto, fragments_upto, ideal_upto, ideal, IsSoundKind, AreSoundOps, AreSoundFrags, cut_tagged}
+use Rattle.dpc_model.specs.Fragments.{serial, read_wire, outputs_after, fragment_value, log_of, stream_upto, fragments_upto, ideal_upto, ideal, IsSoundKind, AreSoundOps, AreSoundFrags, cut_tagged}
 use Rattle.dpc_model.specs.declared.tuples.Tuple.{Tuple}
 use Rattle.dpc_model.specs.declared.tuples.Tagged.{Tagged}
-use Rattle.dpc_model.specs.declared.operators.Wire.{Wire}
-use Rattle.dpc_model.specs.declared.operators.Wire.TheVariants.{Port, Op}
 use Rattle.dpc_model.specs.declared.operators.OpKind.{OpKind}
 use Rattle.dpc_model.specs.declared.operators.OpKind.TheVariants.{Filter, Map, Union, Join, Aggregate}
 use Rattle.dpc_model.specs.declared.operators.OpSpec.{OpSpec}
@@ -19,40 +16,20 @@ use Rattle.dpc_model.specs.declared.plans.FragSpec.{FragSpec}
 use Rattle.dpc_model.specs.declared.plans.Plan.{Plan}
 use Rattle.dpc_model.specs.declared.plans.StreamRef.{StreamRef}
 use Rattle.dpc_model.specs.declared.plans.StreamRef.TheVariants.{Source, Frag}
-use Rattle.dpc_model.proofs.Causality.{filter-filter, filter-map, filter-sort, cut-filtered, cut-mapped, cut-united}
+use Rattle.dpc_model.proofs.Causality.{cut-filtered, cut-mapped, cut-united}
 use Rattle.dpc_model.proofs.JoinCausality.{cut-joined}
 use Rattle.dpc_model.proofs.WindowCausality.{cut-aggregated, filter-implied}
-
--- ---- what an operator reads
-
-pub at_port-cut : (p b : ℕ) (xs : List Tagged) → cut (at_port p xs) b ≡ at_port p (cut_tagged b xs)
-at_port-cut p b xs =
-    filter-map (is_below b) (λ (x : Tagged). nat_lt x.tuple.stime b) (λ (x : Tagged). x.tuple) (λ x. refl) (filter (λ (x : Tagged). x.port == p) xs)
-    ∙ ap (λ (ys : List Tagged). map (λ (x : Tagged). x.tuple) ys) (filter-filter (λ (x : Tagged). nat_lt x.tuple.stime b) (λ (x : Tagged). x.port == p) xs)
-
-nth-cut : (b i : ℕ) (xss : List (List Tuple)) → cut (nth [] xss i) b ≡ nth [] (cut_each b xss) i
-nth-cut b i [] = refl
-nth-cut b zero (ts ∷ xss) = refl
-nth-cut b (suc i) (ts ∷ xss) = nth-cut b i xss
-
-read_wire-cut : (b : ℕ) (xs : List Tagged) (outs : List (List Tuple)) (w : Wire) → cut (read_wire xs outs w) b ≡ read_wire (cut_tagged b xs) (cut_each b outs) w
-read_wire-cut b xs outs (Port p) = at_port-cut p b xs
-read_wire-cut b xs outs (Op i) = nth-cut b i outs
-
-reads-cut : (b : ℕ) (xs : List Tagged) (outs : List (List Tuple)) (ws : List Wire) →
-    cut_each b (map (read_wire xs outs) ws) ≡ map (read_wire (cut_tagged b xs) (cut_each b outs)) ws
-reads-cut b xs outs [] = refl
-reads-cut b xs outs (w ∷ ws) = rw (read_wire-cut b xs outs w) (ap (λ (yss : List (List Tuple)). read_wire (cut_tagged b xs) (cut_each b outs) w ∷ yss) (reads-cut b xs outs ws))
+use Rattle.dpc_model.proofs.Kept.{nth-kept, reads-kept, serial-kept, last-mapped}
 
 -- ---- any operator
 
 pub cut-output_of : (kind : OpKind) (ins : List (List Tuple)) (b b' : ℕ) → IsSoundKind kind → b ≤ b' → cut (output_of kind ins b') b ≡ output_of kind (cut_each b ins) b
-cut-output_of (Filter e) ins b b' s h = rw (← nth-cut b 0 ins) (cut-filtered e (nth [] ins 0) b)
-cut-output_of (Map es) ins b b' s h = rw (← nth-cut b 0 ins) (cut-mapped es (nth [] ins 0) b)
+cut-output_of (Filter e) ins b b' s h = rw (← nth-kept (is_below b) 0 ins) (cut-filtered e (nth [] ins 0) b)
+cut-output_of (Map es) ins b b' s h = rw (← nth-kept (is_below b) 0 ins) (cut-mapped es (nth [] ins 0) b)
 cut-output_of Union ins b b' s h = cut-united ins b
-cut-output_of (Join w keys) ins b b' s h = rw (← nth-cut b 0 ins, ← nth-cut b 1 ins) (cut-joined w keys (nth [] ins 0) (nth [] ins 1) b)
+cut-output_of (Join w keys) ins b b' s h = rw (← nth-kept (is_below b) 0 ins, ← nth-kept (is_below b) 1 ins) (cut-joined w keys (nth [] ins 0) (nth [] ins 1) b)
 cut-output_of (Aggregate size step group aggs) ins b b' s h =
-    rw (← nth-cut b 0 ins) (cut-aggregated size step group aggs (nth [] ins 0) b s.0 s.1 b' h)
+    rw (← nth-kept (is_below b) 0 ins) (cut-aggregated size step group aggs (nth [] ins 0) b s.0 s.1 b' h)
 
 -- ---- a fragment
 
@@ -66,35 +43,13 @@ cut-outputs_after outs (op ∷ ops) xs b b' s h =
     ∙ ap (λ (yss : List (List Tuple)). outputs_after yss ops (cut_tagged b xs) b)
     (map-append (λ (ts : List Tuple). cut ts b) outs (out ∷ [])
     ∙ ap (λ (ts : List Tuple). push (cut_each b outs) ts)
-    (cut-output_of op.kind ins b b' s.0 h ∙ ap (λ (yss : List (List Tuple)). output_of op.kind yss b) (reads-cut b xs outs op.reads)))
-
-last-cut : (b : ℕ) (o : Option (List Tuple)) (xss : List (List Tuple)) → option_map (λ ts. cut ts b) (last_or o xss) ≡ last_or (option_map (λ ts. cut ts b) o) (cut_each b xss)
-last-cut b o [] = refl
-last-cut b o (ts ∷ xss) = last-cut b (Some ts) xss
-
-unwrap-cut : (b : ℕ) (o : Option (List Tuple)) → cut (unwrap_or o []) b ≡ unwrap_or (option_map (λ ts. cut ts b) o) []
-unwrap-cut b None = refl
-unwrap-cut b (Some ts) = refl
+    (cut-output_of op.kind ins b b' s.0 h ∙ ap (λ (yss : List (List Tuple)). output_of op.kind yss b) (reads-kept (is_below b) xs outs op.reads)))
 
 pub cut-fragment_value : (ops : List OpSpec) (xs : List Tagged) (b b' : ℕ) → AreSoundOps ops → b ≤ b' →
     cut (fragment_value ops xs b') b ≡ fragment_value ops (cut_tagged b xs) b
 cut-fragment_value ops xs b b' s h =
-    unwrap-cut b (last_or None (outputs_after [] ops xs b'))
-    ∙ ap (λ (o : Option (List Tuple)). unwrap_or o []) (last-cut b None (outputs_after [] ops xs b')
-    ∙ ap (λ (yss : List (List Tuple)). last_or None yss) (cut-outputs_after [] ops xs b b' s h))
-
--- ---- the inputs in one list
-
-tagged_from-cut : (b p : ℕ) (ports : List (List Tuple)) → cut_tagged b (tagged_from p ports) ≡ tagged_from p (cut_each b ports)
-tagged_from-cut b p [] = refl
-tagged_from-cut b p (ts ∷ ports) =
-    filter-append (λ (x : Tagged). nat_lt x.tuple.stime b) (map (tag p) ts) (tagged_from (p + 1) ports)
-    ∙ rw (filter-map (λ (x : Tagged). nat_lt x.tuple.stime b) (is_below b) (tag p) (λ t. refl) ts, tagged_from-cut b (p + 1) ports) refl
-
-pub serial-cut : (b : ℕ) (ports : List (List Tuple)) → cut_tagged b (serial ports) ≡ serial (cut_each b ports)
-serial-cut b ports =
-    filter-sort (λ (x : Tagged). x.tuple.stime) (λ (x : Tagged). is_below b x.tuple) (tagged_from 0 ports)
-    ∙ ap (λ (xs : List Tagged). sort_by (λ (x : Tagged). x.tuple.stime) xs) (tagged_from-cut b 0 ports)
+    last-mapped (λ (ts : List Tuple). cut ts b) refl (outputs_after [] ops xs b')
+    ∙ ap (λ (yss : List (List Tuple)). unwrap_or (last_or None yss) []) (cut-outputs_after [] ops xs b b' s h)
 
 -- ---- the failure-free output
 
@@ -105,7 +60,7 @@ cut-cut ts b b' h = filter-implied (is_below b) (is_below b') (λ (t : Tuple) e.
 stream_upto-cut : (plan : Plan) (b b' : ℕ) (values : List (List Tuple)) (s : StreamRef) → b ≤ b' →
     cut (stream_upto plan b' values s) b ≡ stream_upto plan b (cut_each b values) s
 stream_upto-cut plan b b' values (Source s) h = cut-cut (log_of plan s) b b' h
-stream_upto-cut plan b b' values (Frag f) h = nth-cut b f values
+stream_upto-cut plan b b' values (Frag f) h = nth-kept (is_below b) f values
 
 streams_upto-cut : (plan : Plan) (b b' : ℕ) (values : List (List Tuple)) (ss : List StreamRef) → b ≤ b' →
     cut_each b (map (stream_upto plan b' values) ss) ≡ map (stream_upto plan b (cut_each b values)) ss
@@ -125,7 +80,7 @@ fragments_upto-cut plan b b' values (f ∷ rest) s h =
     ∙ ap (λ (ts : List Tuple). push (cut_each b values) ts)
     (cut-fragment_value f.ops (serial ins) b b' s.0 h
     ∙ ap (λ (xs : List Tagged). fragment_value f.ops xs b)
-    (serial-cut b ins ∙ ap (λ (yss : List (List Tuple)). serial yss) (streams_upto-cut plan b b' values f.inputs h))))
+    (serial-kept (is_below b) ins ∙ ap (λ (yss : List (List Tuple)). serial yss) (streams_upto-cut plan b b' values f.inputs h))))
 
 pub cut-ideal_upto : (plan : Plan) (s : StreamRef) (b b' : ℕ) → AreSoundFrags plan.frags → b ≤ b' → cut (ideal_upto plan s b') b ≡ ideal_upto plan s b
 unfolding ideal_upto

@@ -1,4 +1,6 @@
 pub mod Causality
+pub mod Cuts
+pub mod Kept
 pub mod Folding
 pub mod JoinCausality
 pub mod WindowCausality

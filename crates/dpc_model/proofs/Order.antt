@@ -5,7 +5,7 @@ use Rattle.dpc_model.specs.Lists.{nth, push, range_with_len, is_nil}
 use Rattle.dpc_model.specs.Streams.{AllInOrder, NoneBelow, IsOrdered, time_of, InOrder, is_below}
 use Rattle.dpc_model.specs.Values.{column, is_true, value_of}
 use Rattle.dpc_model.specs.Operators.{output_of, all_of, pairs_with, group_rows, window_rows, between, window_count, tuple_of, total_of, distinct_values, mapped_tuple}
-use Rattle.dpc_model.specs.Fragments.{serial, tagged_from, read_wire, outputs_after, fragment_value, log_of, stream_upto, fragments_upto, ideal_upto, LogsInOrder}
+use Rattle.dpc_model.specs.Fragments.{serial, tagged_from, read_wire, outputs_after, fragment_value, log_of, stream_upto, fragments_upto, ideal_upto, LogsInOrder, at_port}
 use Rattle.dpc_model.specs.declared.tuples.Tuple.{Tuple}
 use Rattle.dpc_model.specs.declared.tuples.Tagged.{Tagged}
 use Rattle.dpc_model.specs.declared.operators.Agg.{Agg}
@@ -18,9 +18,9 @@ use Rattle.dpc_model.specs.declared.plans.FragSpec.{FragSpec}
 use Rattle.dpc_model.specs.declared.plans.Plan.{Plan}
 use Rattle.dpc_model.specs.declared.plans.StreamRef.{StreamRef}
 use Rattle.dpc_model.specs.declared.plans.StreamRef.TheVariants.{Source, Frag}
-use Rattle.dpc_model.proofs.Causality.{IsOrdered-sort, NoneBelow-filter}
+use Rattle.dpc_model.proofs.Causality.{IsOrdered-sort, NoneBelow-le, NoneBelow-filter}
 
-abbrev tagged_time : Tagged → ℕ
+abbrev pub tagged_time : Tagged → ℕ
 tagged_time x = x.tuple.stime
 
 module _ {X : Type 0} (key : X → ℕ) where
@@ -42,11 +42,6 @@ module _ {X Y : Type 0} (key : X → ℕ) (key' : Y → ℕ) (f : X → Y) (same
   IsOrdered-map (x ∷ xs) s = (rw (same x) (NoneBelow-map (key x) xs s.0), IsOrdered-map xs s.1)
 
 -- ---- windows
-
--- rows of one time, followed by rows that are not earlier
-NoneBelow-less : (m n : ℕ) (ts : List Tuple) → m ≤ n → NoneBelow time_of n ts → NoneBelow time_of m ts
-NoneBelow-less m n [] h s = tt
-NoneBelow-less m n (t ∷ ts) h s = (omega (arith, s.0), NoneBelow-less m n ts h s.1)
 
 -- rows made at one time, in front of others
 made_first : {X : Type 0} (time : ℕ) (f : X → Tuple) → ((x : X) → time_of (f x) ≡ time) → (xs : List X) (ts : List Tuple) → NoneBelow time_of time ts → InOrder ts →
@@ -73,7 +68,7 @@ windows_in_order size step group aggs us a zero = (tt, tt)
 windows_in_order size step group aggs us a (suc n) =
     let rest = windows_in_order size step group aggs us (a + 1) n in
     let later : a * step + size - 1 ≤ (a + 1) * step + size - 1 = omega arith in
-    rows_first group aggs (a * step + size - 1) (between (a * step) (a * step + size) us) _ (NoneBelow-less (a * step + size - 1) ((a + 1) * step + size - 1) _ later rest.0) rest.1
+    rows_first group aggs (a * step + size - 1) (between (a * step) (a * step + size) us) _ (NoneBelow-le time_of (a * step + size - 1) ((a + 1) * step + size - 1) _ later rest.0) rest.1
 
 -- ---- any operator
 
@@ -91,9 +86,12 @@ output_of-InOrder (Aggregate size step group aggs) ins b h = (windows_in_order s
 
 -- ---- a fragment
 
-read_wire-InOrder : (xs : List Tagged) (outs : List (List Tuple)) (w : Wire) → IsOrdered tagged_time xs → AllInOrder outs → InOrder (read_wire xs outs w)
-read_wire-InOrder xs outs (Port p) o h =
+pub at_port-InOrder : (p : ℕ) (xs : List Tagged) → IsOrdered tagged_time xs → InOrder (at_port p xs)
+at_port-InOrder p xs o =
     IsOrdered-map tagged_time time_of (λ (x : Tagged). x.tuple) (λ x. refl) (filter (λ (x : Tagged). x.port == p) xs) (IsOrdered-filter tagged_time (λ (x : Tagged). x.port == p) xs o)
+
+read_wire-InOrder : (xs : List Tagged) (outs : List (List Tuple)) (w : Wire) → IsOrdered tagged_time xs → AllInOrder outs → InOrder (read_wire xs outs w)
+read_wire-InOrder xs outs (Port p) o h = at_port-InOrder p xs o
 read_wire-InOrder xs outs (Op i) o h = nth-InOrder outs i h
 
 pub reads-InOrder : (xs : List Tagged) (outs : List (List Tuple)) (ws : List Wire) → IsOrdered tagged_time xs → AllInOrder outs → AllInOrder (map (read_wire xs outs) ws)
@@ -119,8 +117,11 @@ pub value-InOrder : (outs : List (List Tuple)) → AllInOrder outs → InOrder (
 value-InOrder [] h = tt
 value-InOrder (ts ∷ outs) h = last-InOrder ts outs h.0 h.1
 
+pub fragment-InOrder : (ops : List OpSpec) (xs : List Tagged) (b : ℕ) → IsOrdered tagged_time xs → InOrder (fragment_value ops xs b)
+fragment-InOrder ops xs b o = value-InOrder (outputs_after [] ops xs b) (outputs-InOrder [] ops xs b o tt)
+
 pub fragment_value-InOrder : (ops : List OpSpec) (ports : List (List Tuple)) (b : ℕ) → InOrder (fragment_value ops (serial ports) b)
-fragment_value-InOrder ops ports b = value-InOrder (outputs_after [] ops (serial ports) b) (outputs-InOrder [] ops (serial ports) b (IsOrdered-sort tagged_time (tagged_from 0 ports)) tt)
+fragment_value-InOrder ops ports b = fragment-InOrder ops (serial ports) b (IsOrdered-sort tagged_time (tagged_from 0 ports))
 
 -- ---- the failure-free output
 

@@ -1,5 +1,5 @@
 -- What a beginning of a stream that is all up to a bound says of the stream.
-use Rattle.std.proofs.Common.{◌≡◌, ℕ, zero, suc, ◌≤◌, Bool, true, false, cond, List, [], ◌∷◌, ◌++◌, length, refl, ◌∙◌, ap, arith, slice_get, Some}
+use Rattle.std.proofs.Common.{◌≡◌, ℕ, zero, suc, ◌≤◌, Bool, true, false, cond, List, [], ◌∷◌, ◌++◌, length, refl, ◌∙◌, arith, slice_get, Some}
 use Rattle.std.proofs.lemmas.Grind.{common_steps}
 use Rattle.std.proofs.lemmas.List.{append-nil}
 use Rattle.std.proofs.lemmas.List.Elements.{filter-append}
@@ -8,11 +8,7 @@ use Rattle.std.specs.List.{filter}
 use Rattle.dpc_model.specs.Streams.{NoneBelow, time_of, InOrder, cut, is_below}
 use Rattle.dpc_model.specs.declared.tuples.Tuple.{Tuple}
 use Rattle.dpc_model.proofs.IdealCausality.{cut-cut}
-
--- behind tuples that are not below b nothing is
-pub none_cut : (b n : ℕ) (ts : List Tuple) → b ≤ n → NoneBelow time_of n ts → cut ts b ≡ []
-none_cut b n [] h s = refl
-none_cut b n (t ∷ ts) h s = grind (arith, common_steps, s.0, none_cut b n ts h s.1)
+use Rattle.dpc_model.proofs.Cuts.{those_from, none-below, ordered-split}
 
 NoneBelow-behind : (n : ℕ) (xs ys : List Tuple) → NoneBelow time_of n (xs ++ ys) → NoneBelow time_of n ys
 NoneBelow-behind n [] ys s = s
@@ -29,7 +25,7 @@ rest-cut b [] (y ∷ ys) o h =
 rest-cut b (x ∷ xs) ys o h =
     (elim (is_below b x) as (λ c. is_below b x ≡ c → length (cond c (x ∷ cut (xs ++ ys) b) (cut (xs ++ ys) b)) ≤ suc (length xs) → cut ys b ≡ []) [
       | true ↦ λ e k. rest-cut b xs ys o.1 (omega (arith, k))
-      | false ↦ λ e k. none_cut b (time_of x) ys (grind (arith, common_steps)) (NoneBelow-behind (time_of x) xs ys o.0)
+      | false ↦ λ e k. none-below time_of b (time_of x) ys (grind (arith, common_steps)) (NoneBelow-behind (time_of x) xs ys o.0)
     ]) refl h
 
 -- so below b the beginning is the whole
@@ -38,12 +34,7 @@ prefix-cut b xs ys o h = filter-append (is_below b) xs ys ∙ rw (rest-cut b xs 
 
 -- what lies below b is a beginning
 pub cut-beginning : (b : ℕ) (ts : List Tuple) → InOrder ts → IsPrefixOf (cut ts b) ts
-cut-beginning b [] o = ([], refl)
-cut-beginning b (t ∷ ts) o =
-    (elim (is_below b t) as (λ c. is_below b t ≡ c → IsPrefixOf (cond c (t ∷ cut ts b) (cut ts b)) (t ∷ ts)) [
-      | true ↦ λ e. let p = cut-beginning b ts o.1 in (p.0, ap (λ (us : List Tuple). t ∷ us) p.1)
-      | false ↦ λ e. (t ∷ ts, rw (none_cut b (time_of t) ts (grind (arith, common_steps)) o.0) refl)
-    ]) refl
+cut-beginning b ts o = (those_from time_of b ts, ordered-split time_of b ts o)
 
 -- the elements of a beginning are those of the whole
 pub get-prefix : {X : Type 0} (xs ys : List X) (i : ℕ) (x : X) → IsPrefixOf xs ys → slice_get xs i ≡ Some x → slice_get ys i ≡ Some x

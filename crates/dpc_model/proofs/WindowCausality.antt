@@ -1,7 +1,7 @@
 -- The rows of windows, cut at a time, are those of the windows that end by then.
 use Rattle.std.proofs.Common.{◌≡◌, ℕ, zero, suc, ◌+◌, ◌-◌, ◌*◌, ◌/◌, ◌<◌, ◌≤◌, Bool, true, false, cond, ◌&&◌, List, [], ◌∷◌, ◌++◌, map, refl, sym, ◌∙◌, ap, arith, nat_lt, nat_le, Option, Some, None, zero-add}
 use Rattle.std.proofs.lemmas.Grind.{common_steps}
-use Rattle.std.proofs.lemmas.Bool.{ltb-true, lt-ltb}
+use Rattle.std.proofs.lemmas.Bool.{ltb-true, ltb-false, lt-ltb, le-ltb}
 use Rattle.std.proofs.Math.Nat.{le-div_iff_mul-le}
 use Rattle.std.specs.List.{filter, flat_map}
 use Rattle.dpc_model.specs.Lists.{range_with_len, is_nil}
@@ -11,13 +11,6 @@ use Rattle.dpc_model.specs.Values.{column}
 use Rattle.dpc_model.specs.declared.tuples.Tuple.{Tuple}
 use Rattle.dpc_model.specs.declared.operators.Agg.{Agg}
 use Rattle.dpc_model.proofs.JoinCausality.{filter-flat_map, filter-map_none}
-
--- where a test fails, the other order holds
-not_below : (a b : ℕ) → nat_lt a b ≡ false → b ≤ a
-not_below a b e = grind (arith, common_steps)
-
-le-ltb_false : (a b : ℕ) → b ≤ a → nat_lt a b ≡ false
-le-ltb_false a b h = grind (arith, common_steps)
 
 -- ---- the windows that end by a time
 
@@ -50,7 +43,7 @@ window_count-le size step b b' pos h =
           let ends = window_before size step b (window_count size step b') pos (ltb-true (window_count size step b') (window_count size step b) e) in
           let over = window_after size step b' (window_count size step b') pos (omega arith) in
           absurd (omega (arith, ends, over))
-      | false ↦ λ e. not_below (window_count size step b') (window_count size step b) e
+      | false ↦ λ e. ltb-false (window_count size step b') (window_count size step b) e
     ]) refl
 
 -- ---- the rows of one window
@@ -105,7 +98,7 @@ module _ (size step : ℕ) (group : Option ℕ) (aggs : List Agg) (ts : List Tup
   lost_window : (j : ℕ) → window_count size step b ≤ j → cut (rows_of ts j) b ≡ []
   lost_window j h =
       let over = window_after size step b j pos h in
-      rows-above group aggs (j * step + size - 1) b (between (j * step) (j * step + size) ts) (le-ltb_false (j * step + size - 1) b (omega (arith, over)))
+      rows-above group aggs (j * step + size - 1) b (between (j * step) (j * step + size) ts) (le-ltb (j * step + size - 1) b (omega (arith, over)))
 
   -- windows from a on, of which the first n end by b
   lost_windows : (a n : ℕ) → window_count size step b ≤ a → flat_map (λ j. cut (rows_of ts j) b) (range_with_len a n) ≡ []

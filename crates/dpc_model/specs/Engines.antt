@@ -1,5 +1,5 @@
 -- Engines that take one bucket after another: what they take, and what they answer.
-use Rattle.std.specs.Prelude.{⊤, ℕ, ◌+◌, ◌*◌, ◌^◌, ◌<◌, ◌≤◌, Bool, IsTrue, ◌&&◌, ◌||◌, ◌==◌, nat_lt, nat_le, Option, Some, None, List, [], ◌∷◌, ◌++◌, map, filter, length, drop, All}
+use Rattle.std.specs.Prelude.{⊤, ℕ, ◌+◌, ◌*◌, ◌^◌, ◌<◌, Bool, true, IsTrue, ◌&&◌, ◌||◌, ◌==◌, nat_lt, nat_le, Option, Some, None, List, [], ◌∷◌, ◌++◌, map, filter, length, drop, All}
 use Rattle.std.specs.List.{AllAdjacentBelow}
 use Rattle.dpc_model.specs.Lists.{range_with_len}
 use Rattle.dpc_model.specs.Fragments.{at_port, fragment_value}
@@ -14,13 +14,22 @@ use Rattle.dpc_model.specs.declared.operators.Wire.TheVariants.{Port}
 abbrev pub Value : Type 0
 Value = List Tagged → ℕ → List Tuple
 
--- a tagged tuple lies in bucket k
+-- whether a tagged tuple lies in bucket k
+abbrev pub lies_in : ℕ → ℕ → Tagged → Bool
+lies_in width k x = nat_le (k * width) x.tuple.stime && nat_lt x.tuple.stime ((k + 1) * width)
+
 abbrev pub LiesIn : ℕ → ℕ → Tagged → Type 0
-LiesIn width k x = (k * width ≤ x.tuple.stime) × (x.tuple.stime < (k + 1) * width)
+LiesIn width k x = IsTrue (lies_in width k x)
 
 -- whether a tagged tuple may stand before another: by time, then by port
 abbrev pub precedes : Tagged → Tagged → Bool
 precedes x y = nat_lt x.tuple.stime y.tuple.stime || (x.tuple.stime == y.tuple.stime && nat_le x.port y.port)
+
+-- each tuple may stand before the next one
+abbrev pub is_serial : List Tagged → Bool
+is_serial [] = true
+is_serial (x ∷ []) = true
+is_serial (x ∷ y ∷ xs) = precedes x y && is_serial (y ∷ xs)
 
 -- the tagged tuples of bucket k, in order of time and port
 pub record IsBucket (width k : ℕ) (xs : List Tagged) : Type 0 where

@@ -86,7 +86,7 @@ impl<T: Exact> Exact for Option<T> {
 }
 
 /// The same elements again.
-fn copied<T: Exact>(alloc: Global, elements: &[T]) -> Result<Vec<T>, AllocError>
+pub fn copied<T: Exact>(alloc: Global, elements: &[T]) -> Result<Vec<T>, AllocError>
     ensures { IfOk result (λ other. other.items ≡ elements.now) }
 {
     let mut copies = Vec::with_capacity(alloc, elements.len())?;

@@ -1,5 +1,3 @@
-pub mod Serial
-pub mod Outputs
 pub mod Operators
 pub mod Gathering
 pub mod Stepping

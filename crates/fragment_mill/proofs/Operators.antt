@@ -15,8 +15,7 @@ use Rattle.fragment_mill.specs.declared.mill.Stage.{Stage}
 use Rattle.fragment_mill.specs.Mills.{kind_of, operators_of, width_of, next_of, spec_of, new_operator, new_stage, OperatorAfter}
 use Rattle.fragment_mill.specs.Milling.{added_of, MakesOutput, IsFit}
 use Rattle.dpc_model.proofs.Buckets.{lone-value}
-use Rattle.dpc_model.proofs.Serial.{at_port-serial}
-use Rattle.fragment_mill.proofs.Serial.{ports_of-serial}
+use Rattle.dpc_model.proofs.Serial.{at_port-serial, ports_of-serial}
 
 -- ---- what stays
 

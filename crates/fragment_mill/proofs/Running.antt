@@ -15,11 +15,13 @@ use Rattle.dpc_model.specs.declared.tuples.Tagged.{Tagged}
 use Rattle.dpc_model.specs.declared.operators.OpSpec.{OpSpec}
 use Rattle.dpc_model.proofs.Buckets.{LiesBelow-next, inputs-ordered, added-is}
 use Rattle.dpc_model.proofs.IdealCausality.{cut-fragment_value}
+use Rattle.dpc_model.proofs.FragmentValues.{outputs-more}
+use Rattle.dpc_model.proofs.Order.{fragment-InOrder}
+use Rattle.dpc_model.proofs.Kept.{last-mapped}
 use Rattle.fragment_mill.specs.Mills.{kind_of, width_of, next_of, OperatorAfter, MillState, spec_of, specs_of, inputs_of, MillAfter}
 use Rattle.fragment_mill.specs.Milling.{added_of, IsFit, IsMill}
 use Rattle.fragment_mill.specs.declared.mill.Stage.{Stage}
 use Rattle.fragment_mill.proofs.Operators.{Accepts-from, next-after}
-use Rattle.fragment_mill.proofs.Outputs.{outputs-more, fragment-InOrder, last-mapped}
 use Rattle.fragment_mill.proofs.Stepping.{inputs-split, added-bucket, added-output}
 
 -- ---- lists of stages

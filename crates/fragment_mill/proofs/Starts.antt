@@ -1,36 +1,32 @@
 -- A mill before bucket 0.
 use Rattle.std.proofs.Common.{◌≡◌, ℕ, zero, suc, ◌*◌, ◌<◌, false, List, [], ◌∷◌, map, length, take, get_or, Some, refl, sym, ◌∙◌, ap, arith, All, slice_get}
-use Rattle.std.proofs.lemmas.Grind.{common_steps}
 use Rattle.std.proofs.lemmas.List.Elements.{All-from_recursion, All-nil}
 use Rattle.std.specs.List.{AllByRecursion}
 use Rattle.dpc_model.specs.Streams.{is_below, cut_each}
 use Rattle.dpc_model.specs.Engines.{LiesBelow, nameless}
-use Rattle.dpc_model.specs.Fragments.{cut_tagged, outputs_after, IsSoundKind, AreSoundOps, AreSoundFrags}
+use Rattle.dpc_model.specs.Fragments.{outputs_after, IsSoundKind, AreSoundOps, AreSoundFrags}
 use Rattle.dpc_model.specs.declared.tuples.Tuple.{Tuple}
-use Rattle.dpc_model.specs.declared.tuples.Tagged.{Tagged}
 use Rattle.dpc_model.specs.declared.operators.OpSpec.{OpSpec}
 use Rattle.dpc_model.specs.declared.operators.Wire.{Wire}
 use Rattle.dpc_model.specs.declared.plans.FragSpec.{FragSpec}
 use Rattle.dpc_model.proofs.IdealCausality.{cut-outputs_after}
+use Rattle.dpc_model.proofs.Cuts.{none-below, none_below-zero}
+use Rattle.dpc_model.proofs.Order.{tagged_time}
 use Rattle.fragment_mill.specs.Mills.{OperatorAfter, MillState, specs_of, new_stage, new_mill, inputs_of, MillAfter}
 use Rattle.fragment_mill.specs.Milling.{IsFit, IsMill}
 use Rattle.fragment_mill.specs.declared.mill.Stage.{Stage}
 use Rattle.fragment_mill.proofs.Operators.{kind-new, IsFit-new, after-new}
-use Rattle.fragment_mill.proofs.Outputs.{inputs-kept}
 use Rattle.fragment_mill.proofs.Running.{sound-take}
+use Rattle.fragment_mill.proofs.Stepping.{inputs-kept}
 
 -- ---- nothing was read
-
-cut-none : (ys : List Tagged) → cut_tagged 0 ys ≡ []
-cut-none [] = refl
-cut-none (y ∷ ys) = grind (arith, common_steps, cut-none ys)
 
 -- of no inputs, up to time 0, no stage reads any
 inputs-none : (ops : List OpSpec) (ws : List Wire) (b : ℕ) → b ≡ 0 → AreSoundOps ops → inputs_of [] (outputs_after [] ops [] b) ws ≡ []
 inputs-none ops ws b e sound =
     let outs = outputs_after [] ops [] 0 in
     let same : cut_each 0 outs ≡ outs = cut-outputs_after [] ops [] 0 0 sound (omega arith) in
-    rw e (sym (inputs-kept (is_below 0) [] outs ws ∙ ap (λ (yss : List (List Tuple)). inputs_of [] yss ws) same) ∙ cut-none (inputs_of [] outs ws))
+    rw e (sym (inputs-kept (is_below 0) [] outs ws ∙ ap (λ (yss : List (List Tuple)). inputs_of [] yss ws) same) ∙ none-below tagged_time 0 0 (inputs_of [] outs ws) (omega arith) (none_below-zero tagged_time (inputs_of [] outs ws)))
 
 -- operators that took nothing make a mill that took nothing
 pub MillAfter-none : (m : MillState) → All (IsFit m.width) m.stages → All (λ s. OperatorAfter s.operator [] 0) m.stages → m.next ≡ 0 → MillAfter m [] 0

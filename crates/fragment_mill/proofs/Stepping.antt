@@ -1,70 +1,31 @@
 -- One stage over one bucket: what it reads, and what it adds.
-use Rattle.std.proofs.Common.{◌≡◌, ℕ, ◌+◌, ◌*◌, ◌≤◌, true, false, cond, List, [], ◌∷◌, ◌++◌, map, length, drop, refl, sym, ◌∙◌, ap, subst, arith, nat_le, All}
+use Rattle.std.proofs.Common.{◌≡◌, ℕ, ◌+◌, ◌*◌, ◌≤◌, List, [], ◌++◌, map, length, drop, refl, sym, ◌∙◌, ap, subst, arith, nat_le, All, Bool}
 use Rattle.std.proofs.lemmas.Grind.{common_steps}
-use Rattle.std.proofs.lemmas.Bool.{ltb-true}
 use Rattle.std.proofs.lemmas.List.{length-map}
-use Rattle.std.proofs.lemmas.List.Elements.{All-from_recursion}
 use Rattle.std.proofs.Math.Seq.{drop-append_seam}
-use Rattle.std.specs.List.{AllByRecursion}
-use Rattle.dpc_model.specs.Streams.{NoneBelow, IsOrdered, cut, is_below, cut_each}
+use Rattle.dpc_model.specs.Streams.{IsOrdered, cut, is_below, cut_each, time_of}
 use Rattle.dpc_model.specs.Engines.{IsBucket, LiesIn, LiesBelow, from_time, engine_value}
 use Rattle.dpc_model.specs.Operators.{output_of}
-use Rattle.dpc_model.specs.Fragments.{tagged_from, cut_tagged, read_wire, outputs_after, AreSoundOps}
+use Rattle.dpc_model.specs.Fragments.{tagged_from, cut_tagged, read_wire, outputs_after, AreSoundOps, serial}
 use Rattle.dpc_model.specs.declared.tuples.Tuple.{Tuple}
 use Rattle.dpc_model.specs.declared.tuples.Tagged.{Tagged}
 use Rattle.dpc_model.specs.declared.operators.OpSpec.{OpSpec}
-use Rattle.dpc_model.proofs.Buckets.{tagged_time, from_tagged, ordered-split, cut-below, cut-before, from-bucket, LiesBelow-next, inputs-ordered}
-use Rattle.dpc_model.proofs.Causality.{IsOrdered-sort}
+use Rattle.dpc_model.specs.declared.operators.Wire.{Wire}
+use Rattle.dpc_model.proofs.Buckets.{from_tagged, cut-below, cut-before, LiesBelow-next, inputs-ordered, after-begin, cut-inside}
+use Rattle.dpc_model.proofs.Causality.{IsOrdered-sort, filter-filter}
 use Rattle.dpc_model.proofs.IdealCausality.{cut-output_of, cut-outputs_after}
-use Rattle.dpc_model.proofs.Order.{reads-InOrder, outputs-InOrder, output_of-InOrder}
+use Rattle.dpc_model.proofs.Order.{reads-InOrder, outputs-InOrder, output_of-InOrder, tagged_time}
+use Rattle.dpc_model.proofs.Cuts.{ordered-split}
+use Rattle.dpc_model.proofs.Kept.{kept, kept_each, reads-kept, serial-kept}
+use Rattle.dpc_model.proofs.Serial.{serial-is, serial-adjacent}
 use Rattle.fragment_mill.specs.Mills.{kind_of, operators_of, inputs_of}
 use Rattle.fragment_mill.specs.Milling.{added_of, IsFit}
 use Rattle.fragment_mill.specs.declared.mill.Stage.{Stage}
-use Rattle.fragment_mill.proofs.Serial.{serial-adjacent}
 use Rattle.fragment_mill.proofs.Operators.{added-fit}
-use Rattle.fragment_mill.proofs.Outputs.{reads-kept, inputs-kept}
 
--- ---- tagged tuples below a time, and from it on
-
-pub tagged_none : (b n : ℕ) (ys : List Tagged) → b ≤ n → NoneBelow tagged_time n ys → cut_tagged b ys ≡ []
-tagged_none b n [] h s = refl
-tagged_none b n (y ∷ ys) h s = grind (arith, common_steps, s.0, tagged_none b n ys h s.1)
-
-pub tagged_all : (b n : ℕ) (ys : List Tagged) → b ≤ n → NoneBelow tagged_time n ys → from_tagged b ys ≡ ys
-tagged_all b n [] h s = refl
-tagged_all b n (y ∷ ys) h s = grind (arith, common_steps, s.0, tagged_all b n ys h s.1)
-
-tagged-split : (b : ℕ) (ys : List Tagged) → IsOrdered tagged_time ys → ys ≡ cut_tagged b ys ++ from_tagged b ys
-tagged-split b [] o = refl
-tagged-split b (y ∷ ys) o =
-    (elim (is_below b y.tuple) as (λ c. is_below b y.tuple ≡ c → y ∷ ys ≡ cond c (y ∷ cut_tagged b ys) (cut_tagged b ys) ++ from_tagged b (y ∷ ys)) [
-      | true ↦ λ e.
-          let late : nat_le b (tagged_time y) ≡ false = grind (arith, common_steps) in
-          rw late (ap (λ (zs : List Tagged). y ∷ zs) (tagged-split b ys o.1))
-      | false ↦ λ e.
-          let late : nat_le b (tagged_time y) ≡ true = grind (arith, common_steps) in
-          let low : b ≤ tagged_time y = grind (arith, common_steps) in
-          rw (tagged_none b (tagged_time y) ys low o.0, late) (sym (ap (λ (zs : List Tagged). y ∷ zs) (tagged_all b (tagged_time y) ys low o.0)))
-    ]) refl
-
-least_is : (a b : ℕ) → nat_le a b ≡ true → a ≤ b
-least_is a b e = grind (arith, common_steps)
-
-cut_below : (b : ℕ) (ys : List Tagged) → AllByRecursion (LiesBelow b) (cut_tagged b ys)
-cut_below b [] = tt
-cut_below b (y ∷ ys) =
-    (elim (is_below b y.tuple) as (λ c. is_below b y.tuple ≡ c → AllByRecursion (LiesBelow b) (cond c (y ∷ cut_tagged b ys) (cut_tagged b ys))) [
-      | true ↦ λ e. (ltb-true y.tuple.stime b e, cut_below b ys)
-      | false ↦ λ e. cut_below b ys
-    ]) refl
-
-from-inside : (w k : ℕ) (ys : List Tagged) → AllByRecursion (LiesBelow ((k + 1) * w)) ys → AllByRecursion (LiesIn w k) (from_tagged (k * w) ys)
-from-inside w k [] h = tt
-from-inside w k (y ∷ ys) h =
-    (elim (nat_le (k * w) y.tuple.stime) as (λ c. nat_le (k * w) y.tuple.stime ≡ c → AllByRecursion (LiesIn w k) (cond c (y ∷ from_tagged (k * w) ys) (from_tagged (k * w) ys))) [
-      | true ↦ λ e. ((least_is (k * w) y.tuple.stime e, h.0), from-inside w k ys h.1)
-      | false ↦ λ e. from-inside w k ys h.1
-    ]) refl
+-- what a test of the tuples keeps of the inputs of an operator
+pub inputs-kept : (test : Tuple → Bool) (xs : List Tagged) (outs : List (List Tuple)) (ws : List Wire) → kept test (inputs_of xs outs ws) ≡ inputs_of (kept test xs) (kept_each test outs) ws
+inputs-kept test xs outs ws = serial-kept test (map (read_wire xs outs) ws) ∙ ap (λ (yss : List (List Tuple)). serial yss) (reads-kept test xs outs ws)
 
 -- ---- a stage behind these operators
 
@@ -94,12 +55,12 @@ module _ (w k : ℕ) (before inputs : List Tagged) (ops : List OpSpec) (s : Stag
   reads-before = inputs-kept (is_below (k * w)) (before ++ inputs) given s.reads ∙ rw (cut-before w k before inputs below bucket.inside, given-cut) refl
 
   reads-added : from_tagged (k * w) (inputs_of (before ++ inputs) given s.reads) ≡ inputs_of inputs added s.reads
-  reads-added = inputs-kept (λ (t : Tuple). nat_le (k * w) t.stime) (before ++ inputs) given s.reads ∙ rw (from-bucket w k before inputs below bucket.inside) refl
+  reads-added = inputs-kept (λ (t : Tuple). nat_le (k * w) t.stime) (before ++ inputs) given s.reads ∙ rw (after-begin w k before inputs below bucket.inside) refl
 
   pub inputs-split : inputs_of before stood s.reads ++ inputs_of inputs added s.reads ≡ inputs_of (before ++ inputs) given s.reads
   inputs-split =
       rw (← reads-before, ← reads-added)
-      (sym (tagged-split (k * w) (inputs_of (before ++ inputs) given s.reads) (IsOrdered-sort tagged_time (tagged_from 0 (map (read_wire (before ++ inputs) given) s.reads)))))
+      (sym (ordered-split tagged_time (k * w) (inputs_of (before ++ inputs) given s.reads) (IsOrdered-sort tagged_time (tagged_from 0 (map (read_wire (before ++ inputs) given) s.reads)))))
 
   -- all that it reads lies below the end of the bucket
   reads-end : cut_tagged ((k + 1) * w) (inputs_of (before ++ inputs) given s.reads) ≡ inputs_of (before ++ inputs) given s.reads
@@ -112,10 +73,11 @@ module _ (w k : ℕ) (before inputs : List Tagged) (ops : List OpSpec) (s : Stag
   pub added-bucket : IsBucket w k (inputs_of inputs added s.reads)
   added-bucket = record {
     inside =
-        let all = subst (λ (ys : List Tagged). AllByRecursion (LiesBelow ((k + 1) * w)) ys) reads-end (cut_below ((k + 1) * w) (inputs_of (before ++ inputs) given s.reads)) in
-        All-from_recursion (LiesIn w k) (inputs_of inputs added s.reads)
-        (subst (λ (ys : List Tagged). AllByRecursion (LiesIn w k) ys) reads-added (from-inside w k (inputs_of (before ++ inputs) given s.reads) all));
-    ordered = serial-adjacent (map (read_wire inputs added) s.reads);
+        let whole = inputs_of (before ++ inputs) given s.reads in
+        let from : cut_tagged ((k + 1) * w) (from_tagged (k * w) whole) ≡ inputs_of inputs added s.reads =
+        filter-filter (λ (x : Tagged). is_below ((k + 1) * w) x.tuple) (λ (x : Tagged). nat_le (k * w) x.tuple.stime) whole ∙ ap (λ (ys : List Tagged). from_tagged (k * w) ys) reads-end ∙ reads-added in
+        subst (λ (ys : List Tagged). All (LiesIn w k) ys) from (cut-inside w k whole);
+    ordered = serial-adjacent (inputs_of inputs added s.reads) (serial-is (map (read_wire inputs added) s.reads));
   }
 
   -- what the stage adds is what its whole output has from the begin of the bucket on
@@ -138,5 +100,5 @@ module _ (w k : ℕ) (before inputs : List Tagged) (ops : List OpSpec) (s : Stag
       ap (λ (ys : List Tagged). engine_value (operators_of s.operator) ys ((k + 1) * w)) inputs-split ∙ fit.makes ins ((k + 1) * w) (length-map s.reads (read_wire (before ++ inputs) given)) ordered-ins in
       added-fit w k s.operator (inputs_of before stood s.reads) (inputs_of inputs added s.reads) fit.width
       ∙ rw (old, new)
-      (ap (λ (ts : List Tuple). drop (length (cut whole (k * w))) ts) (ordered-split (k * w) whole (output_of-InOrder kind ins ((k + 1) * w) ordered-ins))
+      (ap (λ (ts : List Tuple). drop (length (cut whole (k * w))) ts) (ordered-split time_of (k * w) whole (output_of-InOrder kind ins ((k + 1) * w) ordered-ins))
       ∙ drop-append_seam (cut whole (k * w)) (from_time (k * w) whole))

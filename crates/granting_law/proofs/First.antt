@@ -1,6 +1,7 @@
 -- The batches that a port took are the first ones that its sender sent.
 use Rattle.std.proofs.Common.{◌≡◌, ℕ, zero, suc, ◌+◌, ◌<◌, Bool, true, false, cond, ◌&&◌, ◌||◌, ◌==◌, List, [], ◌∷◌, ◌++◌, map, length, refl, sym, ap, subst, ◌∙◌, arith, Option, Some, None, slice_get, ◌⊎◌, inl, inr}
 use Rattle.std.proofs.lemmas.List.{length-map}
+use Rattle.std.proofs.lemmas.List.FromFn.{length-range_with_len}
 use Rattle.dpc_model.specs.Lists.{nth, range_with_len, list_any, IsPrefixOf}
 use Rattle.dpc_model.specs.Inlets.{same_sess, sess_of}
 use Rattle.dpc_model.specs.Actors.{role_of, nodes_of, inputs_of, reads_from, sends_stream, same_stream}
@@ -21,7 +22,6 @@ use Rattle.world_model.specs.Orderly.{is_fitting, packet_way, carries_fitting}
 use Rattle.world_model.specs.SessionLaw.{Channel}
 use Rattle.world_safety.specs.Plans.{IsCheckedPlan}
 use Rattle.world_safety.proofs.Tests.{both, eq-of, eq-test}
-use Rattle.world_safety.proofs.Closing.{length-range}
 use Rattle.world_safety.proofs.Numbering.{all-at, role-split, source-at as source-number, no-node-source}
 use Rattle.world_safety.proofs.Law.{new_world-fine, new_world-plan, run-fine}
 use Rattle.granting_law.specs.Taken.{index_in, index_of, batches_in, taken_in, line_of, IsBatchAt, IsAnsweredIn, PrefixTaken}
@@ -74,7 +74,7 @@ new-source-order plan a x u k i s role opening =
     let below = source-below plan a u role in
     let zero_on : 0 + u ≡ u = omega arith in
     let here : source_at (new_world plan) u ≡ new_source plan u = ap (λ (xs : List SourceState). nth no_source xs u) (new-sources plan) ∙ sources-at plan 0 (length plan.sources) u below ∙ ap (λ (z : ℕ). new_source plan z) zero_on in
-    let many : length (new_world plan).sources ≡ length plan.sources = ap length (new-sources plan) ∙ length-map (range_with_len 0 (length plan.sources)) (new_source plan) ∙ length-range 0 (length plan.sources) in
+    let many : length (new_world plan).sources ≡ length plan.sources = ap length (new-sources plan) ∙ length-map (range_with_len 0 (length plan.sources)) (new_source plan) ∙ length-range_with_len 0 (length plan.sources) in
     record {
       many = 0;
       order = ap (λ (es : List Envelope). indexes (record { sender = a; reader = x; sess = s }) es) (new_world-none plan);

@@ -2,14 +2,15 @@
 ghost use Rattle.std.specs.Prelude.{◌≡◌, ◌++◌, IfOk, OnOk};
 ghost use Rattle.dpc_model.specs.Lists.{sort_by};
 ghost use Rattle.dpc_model.specs.Streams.{time_of, cut as cut_list};
-ghost use Rattle.dpc_model.specs.Operators.{filtered, mapped, mapped_tuple, united, joined, is_within, keys_agree, paired, pairs_with};
+ghost use Rattle.dpc_model.specs.Operators.{filtered, mapped, united, joined, is_within, keys_agree, paired, pairs_with};
 
 use dpc_model::exact::Exact;
 use dpc_model::expressions::Expr;
 use dpc_model::faults::NoMemory;
 use dpc_model::lists::Listed;
-use dpc_model::tuples::{Tuple, Tuples, Vals};
+use dpc_model::tuples::{Tuple, Tuples};
 use ops_stateless::eval;
+use ops_stateless::map::mapped_one;
 use std::alloc::Global;
 
 /// The tuples below a time.
@@ -36,20 +37,6 @@ pub fn filter(alloc: Global, test: &Expr, tuples: &[Tuple]) -> Result<Tuples, No
         }
     }
     Ok(Listed::from_vec(out))
-}
-
-/// The values of the expressions, at the tuple's time.
-fn mapped_one(alloc: Global, exprs: &[Expr], tuple: &Tuple) -> Result<Tuple, NoMemory>
-    ensures { IfOk result (λ out. out ≡ mapped_tuple exprs.now tuple.now) }
-{
-    let mut vals = Vals::new(alloc);
-    for expr in exprs {
-        vals.push(eval(expr, tuple))?;
-    }
-    Ok(Tuple {
-        stime: tuple.stime,
-        vals,
-    })
 }
 
 /// What each tuple becomes.

@@ -1,4 +1,3 @@
 pub mod Streams
-pub mod Splitting
 pub mod Steps
 pub mod Texts

@@ -1,24 +1,22 @@
 -- A mill over the inputs of a fragment, bucket by bucket.
-use Rattle.std.proofs.Common.{◌≡◌, ℕ, ◌+◌, ◌*◌, ◌/◌, ◌%◌, ◌^◌, ◌<◌, ◌≤◌, true, false, cond, List, [], ◌∷◌, ◌++◌, map, refl, sym, ◌∙◌, ap, arith, nat_le}
+use Rattle.std.proofs.Common.{◌≡◌, ℕ, ◌+◌, ◌*◌, ◌/◌, ◌%◌, ◌^◌, ◌<◌, ◌≤◌, List, [], ◌∷◌, ◌++◌, map, sym, ◌∙◌, ap, arith, nat_le}
 use Rattle.std.proofs.Math.Nat.{le-div_iff_mul-le, mod-eq-sub-div-mul, div-mul-le_self}
 use Rattle.std.proofs.lemmas.Grind.{common_steps}
-use Rattle.std.proofs.lemmas.List.Elements.{All-from_recursion}
-use Rattle.std.specs.List.{AllByRecursion}
-use Rattle.dpc_model.specs.Streams.{IsOrdered, is_below, cut, cut_each}
-use Rattle.dpc_model.specs.Engines.{IsBucket, FitsBucket, LiesIn, from_time, engine_value, added_output, nameless}
+use Rattle.dpc_model.specs.Streams.{IsOrdered, is_below, cut, cut_each, time_of}
+use Rattle.dpc_model.specs.Engines.{IsBucket, FitsBucket, from_time, engine_value, added_output, nameless}
 use Rattle.dpc_model.specs.Fragments.{serial, tagged_from, cut_tagged, fragment_value, AreSoundOps}
 use Rattle.dpc_model.specs.declared.tuples.Tuple.{Tuple}
 use Rattle.dpc_model.specs.declared.tuples.Tagged.{Tagged}
 use Rattle.dpc_model.specs.declared.operators.OpSpec.{OpSpec}
-use Rattle.dpc_model.proofs.Buckets.{tagged_time, from_tagged, value-split, added-is, inputs-ordered, nameless-value}
+use Rattle.dpc_model.proofs.Buckets.{from_tagged, value-split, added-is, inputs-ordered, nameless-value, cut-inside}
 use Rattle.dpc_model.proofs.Causality.{filter-filter, IsOrdered-sort}
-use Rattle.dpc_model.proofs.IdealCausality.{cut-fragment_value, serial-cut}
+use Rattle.dpc_model.proofs.IdealCausality.{cut-fragment_value}
 use Rattle.dpc_model.proofs.WindowCausality.{filter-implied}
-use Rattle.dpc_model.proofs.Order.{IsOrdered-filter}
+use Rattle.dpc_model.proofs.Order.{IsOrdered-filter, tagged_time, fragment-InOrder}
+use Rattle.dpc_model.proofs.Cuts.{none-below, all-from, ordered-split, none_below-zero}
+use Rattle.dpc_model.proofs.Kept.{serial-kept}
+use Rattle.dpc_model.proofs.Serial.{serial-is, serial-adjacent}
 use Rattle.fragment_mill.specs.Mills.{MillState, specs_of, MillAfter}
-use Rattle.fragment_mill.proofs.Outputs.{fragment-InOrder}
-use Rattle.fragment_mill.proofs.Serial.{serial-kept, serial-adjacent}
-use Rattle.ideal_run.proofs.Splitting.{split-inputs}
 
 -- ---- one bucket
 
@@ -34,23 +32,6 @@ output-more m before bucket k h b s =
     ∙ sym (value-split v m.width k before bucket causal ordered h.below b.inside)
 
 -- ---- the inputs of a bucket
-
-lies_in : (w k : ℕ) (xs : List Tagged) → AllByRecursion (LiesIn w k) (cut_tagged ((k + 1) * w) (from_tagged (k * w) xs))
-lies_in w k [] = tt
-lies_in w k (x ∷ xs) =
-    let rest = lies_in w k xs in
-    let others = cut_tagged ((k + 1) * w) (from_tagged (k * w) xs) in
-    (elim (nat_le (k * w) x.tuple.stime) as (λ c. nat_le (k * w) x.tuple.stime ≡ c → AllByRecursion (LiesIn w k) (cut_tagged ((k + 1) * w) (cond c (x ∷ from_tagged (k * w) xs) (from_tagged (k * w) xs)))) [
-      | true ↦ λ e.
-          (elim (is_below ((k + 1) * w) x.tuple) as (λ c. is_below ((k + 1) * w) x.tuple ≡ c → AllByRecursion (LiesIn w k) (cond c (x ∷ others) others)) [
-            | true ↦ λ f.
-                let low : k * w ≤ x.tuple.stime = grind (arith, common_steps, e) in
-                let high : x.tuple.stime < (k + 1) * w = grind (arith, common_steps, f) in
-                ((low, high), rest)
-            | false ↦ λ f. rest
-          ]) refl
-      | false ↦ λ e. rest
-    ]) refl
 
 module _ (w k : ℕ) (ports : List (List Tuple)) where
   abbrev xs : List Tagged
@@ -70,7 +51,7 @@ module _ (w k : ℕ) (ports : List (List Tuple)) where
       ap (λ (ys : List Tagged). cut_tagged ((k + 1) * w) ys) (serial-kept (λ (t : Tuple). nat_le (k * w) t.stime) ports)
       ∙ serial-kept (is_below ((k + 1) * w)) (map (λ (ts : List Tuple). from_time (k * w) ts) ports) in
       record {
-        bucket = record { inside = All-from_recursion (LiesIn w k) _ (lies_in w k xs); ordered = rw kept (serial-adjacent own) };
+        bucket = record { inside = cut-inside w k xs; ordered = rw kept (serial-adjacent (serial own) (serial-is own)) };
         end = fits;
       }
 
@@ -83,7 +64,7 @@ module _ (w k : ℕ) (ports : List (List Tuple)) where
       ap (λ (ys : List Tagged). ys ++ cut_tagged ((k + 1) * w) (from_tagged (k * w) xs)) (sym early)
       ∙ ap (λ (ys : List Tagged). cut_tagged (k * w) (cut_tagged ((k + 1) * w) xs) ++ ys)
       (filter-filter (below ((k + 1) * w)) (λ (x : Tagged). nat_le (k * w) x.tuple.stime) xs)
-      ∙ split-inputs (k * w) (cut_tagged ((k + 1) * w) xs) (IsOrdered-filter tagged_time (below ((k + 1) * w)) xs ordered)
+      ∙ sym (ordered-split tagged_time (k * w) (cut_tagged ((k + 1) * w) xs) (IsOrdered-filter tagged_time (below ((k + 1) * w)) xs ordered))
 
   -- what is left behind them
   pub rest-next : from_tagged ((k + 1) * w) (from_tagged (k * w) xs) ≡ from_tagged ((k + 1) * w) xs
@@ -105,30 +86,18 @@ pub record Milled (w : ℕ) (ops : List OpSpec) (ports : List (List Tuple)) (k :
   pub left : rest ≡ from_tagged (k * w) (serial ports)
   pub given : output ≡ fragment_value ops (cut_tagged (k * w) (serial ports)) (k * w)
 
-none-below_zero : (xs : List Tagged) → cut_tagged 0 xs ≡ []
-none-below_zero [] = refl
-none-below_zero (x ∷ xs) = grind (arith, common_steps, none-below_zero xs)
-
-all-from_zero : (xs : List Tagged) → from_tagged 0 xs ≡ xs
-all-from_zero [] = refl
-all-from_zero (x ∷ xs) = grind (arith, common_steps, all-from_zero xs)
-
-no_output : (ts : List Tuple) → cut ts 0 ≡ []
-no_output [] = refl
-no_output (t ∷ ts) = grind (arith, common_steps, no_output ts)
-
 -- before bucket 0
 pub Milled-none : (w : ℕ) (ops : List OpSpec) (ports : List (List Tuple)) (m : MillState) (rest : List Tagged) (output : List Tuple) → m.width ≡ w → specs_of m.stages ≡ nameless ops →
     MillAfter m [] 0 → AreSoundOps ops → rest ≡ serial ports → output ≡ [] → Milled w ops ports 0 m rest output
 Milled-none w ops ports m rest output e o a s r none =
     let zero : 0 * w ≡ 0 = omega arith in
-    let before = none-below_zero (serial ports) in
-    let nothing : fragment_value ops [] 0 ≡ [] = sym (cut-fragment_value ops [] 0 0 s (omega arith)) ∙ no_output (fragment_value ops [] 0) in
+    let before = none-below tagged_time 0 0 (serial ports) (omega arith) (none_below-zero tagged_time (serial ports)) in
+    let nothing : fragment_value ops [] 0 ≡ [] = sym (cut-fragment_value ops [] 0 0 s (omega arith)) ∙ none-below time_of 0 0 (fragment_value ops [] 0) (omega arith) (none_below-zero time_of (fragment_value ops [] 0)) in
     record {
       width = e;
       operators = o;
       after = rw (zero, before) a;
-      left = r ∙ rw zero (sym (all-from_zero (serial ports)));
+      left = r ∙ rw zero (sym (all-from tagged_time 0 0 (serial ports) (omega arith) (none_below-zero tagged_time (serial ports))));
       given = none ∙ rw (zero, before) (sym nothing);
     }
 
@@ -173,7 +142,7 @@ module _ (w : ℕ) (ops : List OpSpec) (ports : List (List Tuple)) (k : ℕ) (m 
 pub Milled-all : (w : ℕ) (ops : List OpSpec) (ports : List (List Tuple)) (k end : ℕ) (m : MillState) (rest : List Tagged) (output : List Tuple) →
     Milled w ops ports k m rest output → k * w ≡ end → cut_each end ports ≡ ports → output ≡ fragment_value ops (serial ports) end
 Milled-all w ops ports k end m rest output h e whole =
-    h.given ∙ rw e (ap (λ (xs : List Tagged). fragment_value ops xs end) (serial-cut end ports ∙ ap serial whole))
+    h.given ∙ rw e (ap (λ (xs : List Tagged). fragment_value ops xs end) (serial-kept (is_below end) ports ∙ ap serial whole))
 
 -- ---- the buckets below an end
 

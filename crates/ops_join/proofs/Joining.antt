@@ -1,21 +1,24 @@
 -- The rows that a bucket adds to a join's output, by what the join keeps.
-use Rattle.std.proofs.Common.{◌≡◌, ℕ, ◌+◌, ◌*◌, ◌<◌, ◌≤◌, max, Bool, true, false, cond, ◌&&◌, ◌==◌, List, [], ◌∷◌, ◌++◌, map, All, refl, sym, ◌∙◌, ap, arith, nat_le}
+use Rattle.std.proofs.Common.{◌≡◌, ℕ, ◌+◌, ◌*◌, ◌<◌, ◌≤◌, max, Bool, true, false, cond, ◌&&◌, List, [], ◌∷◌, ◌++◌, map, All, refl, sym, ◌∙◌, ap, arith, nat_le}
 use Rattle.std.proofs.lemmas.Grind.{common_steps, flat_map-append}
 use Rattle.std.proofs.lemmas.List.{map-append}
-use Rattle.std.proofs.lemmas.List.Elements.{filter-append, recursion_from_All, All-weaker}
+use Rattle.std.proofs.lemmas.List.Elements.{filter-append, recursion_from_All}
 use Rattle.std.specs.List.{filter, flat_map, AllByRecursion}
 use Rattle.dpc_model.specs.Lists.{sort_by}
-use Rattle.dpc_model.specs.Streams.{NoneBelow, IsOrdered, InOrder, time_of}
+use Rattle.dpc_model.specs.Streams.{InOrder, time_of, is_below}
 use Rattle.dpc_model.specs.Operators.{joined, are_partners, pairs_with, paired}
 use Rattle.dpc_model.specs.Fragments.{at_port}
-use Rattle.dpc_model.specs.Engines.{from_time, engine_value, lone_operator, added_output, LiesBelow, LiesIn, IsBucket}
+use Rattle.dpc_model.specs.Engines.{from_time, engine_value, lone_operator, added_output, LiesBelow, IsBucket}
 use Rattle.dpc_model.specs.declared.tuples.Tuple.{Tuple}
 use Rattle.dpc_model.specs.declared.tuples.Tagged.{Tagged}
 use Rattle.dpc_model.specs.declared.operators.OpKind.TheVariants.{Join}
 use Rattle.dpc_model.proofs.Causality.{filter-sort, IsOrdered-sort, NoneBelow-filter}
 use Rattle.dpc_model.proofs.JoinCausality.{filter-flat_map, cut-joined}
-use Rattle.dpc_model.proofs.IdealCausality.{at_port-cut}
-use Rattle.dpc_model.proofs.Buckets.{IsCausal, added-is, at_port-append, bucket-ordered, ordered-append, tagged_time}
+use Rattle.dpc_model.proofs.Buckets.{IsCausal, added-is, at_port-append, bucket-from, bucket-below, at_port-all}
+use Rattle.dpc_model.proofs.Kept.{at_port-kept}
+use Rattle.dpc_model.proofs.Cuts.{ordered-append}
+use Rattle.dpc_model.proofs.Order.{at_port-InOrder}
+use Rattle.dpc_model.proofs.Serial.{adjacent-ordered}
 use Rattle.ops_join.specs.Joins.{join_value, kept_from}
 use Rattle.ops_join.specs.Sides.{bucket_rows}
 use Rattle.ops_join.specs.Keeping.{IsKept}
@@ -130,47 +133,18 @@ join-value w keys xs b = refl
 pub join-causal : (w : ℕ) (keys : List (ℕ × ℕ)) → IsCausal (join_value w keys)
 join-causal w keys xs b b' h =
     cut-joined w keys (at_port 0 xs) (at_port 1 xs) b
-    ∙ rw (at_port-cut 0 b xs, at_port-cut 1 b xs) refl
+    ∙ rw (at_port-kept (is_below b) 0 xs, at_port-kept (is_below b) 1 xs) refl
 
 -- ---- what came by a port
-
--- what holds of each tuple holds of those of a port
-at_port-all : (P : Tuple → Type 0) (p : ℕ) (xs : List Tagged) → AllByRecursion (λ (x : Tagged). P x.tuple) xs → AllByRecursion P (at_port p xs)
-at_port-all P p [] h = tt
-at_port-all P p (x ∷ xs) h =
-    elim (x.port == p) as (λ c. AllByRecursion P (map (λ (y : Tagged). y.tuple) (cond c (x ∷ filter (λ (y : Tagged). y.port == p) xs) (filter (λ (y : Tagged). y.port == p) xs)))) [
-      | true ↦ (h.0, at_port-all P p xs h.1)
-      | false ↦ at_port-all P p xs h.1
-    ]
 
 port-below : (b p : ℕ) (xs : List Tagged) → All (LiesBelow b) xs → AllByRecursion (λ (t : Tuple). t.stime < b) (at_port p xs)
 port-below b p xs h = at_port-all (λ (t : Tuple). t.stime < b) p xs (recursion_from_All (LiesBelow b) xs h)
 
-bucket-from : (width k p : ℕ) (xs : List Tagged) → IsBucket width k xs → AllByRecursion (λ (t : Tuple). k * width ≤ t.stime) (at_port p xs)
-bucket-from width k p xs h =
-    at_port-all (λ (t : Tuple). k * width ≤ t.stime) p xs
-    (recursion_from_All (λ (x : Tagged). k * width ≤ x.tuple.stime) xs (All-weaker (LiesIn width k) (λ (x : Tagged). k * width ≤ x.tuple.stime) (λ x e. e.0) xs h.inside))
+port-from : (width k p : ℕ) (xs : List Tagged) → IsBucket width k xs → AllByRecursion (λ (t : Tuple). k * width ≤ t.stime) (at_port p xs)
+port-from width k p xs h = at_port-all (λ (t : Tuple). k * width ≤ t.stime) p xs (bucket-from width k xs h.inside)
 
-bucket-below : (width k p : ℕ) (xs : List Tagged) → IsBucket width k xs → AllByRecursion (λ (t : Tuple). t.stime < (k + 1) * width) (at_port p xs)
-bucket-below width k p xs h =
-    at_port-all (λ (t : Tuple). t.stime < (k + 1) * width) p xs
-    (recursion_from_All (LiesBelow ((k + 1) * width)) xs (All-weaker (LiesIn width k) (LiesBelow ((k + 1) * width)) (λ x e. e.1) xs h.inside))
-
-port-none_below : (n p : ℕ) (xs : List Tagged) → NoneBelow tagged_time n xs → NoneBelow time_of n (at_port p xs)
-port-none_below n p [] h = tt
-port-none_below n p (x ∷ xs) h =
-    elim (x.port == p) as (λ c. NoneBelow time_of n (map (λ (y : Tagged). y.tuple) (cond c (x ∷ filter (λ (y : Tagged). y.port == p) xs) (filter (λ (y : Tagged). y.port == p) xs)))) [
-      | true ↦ (h.0, port-none_below n p xs h.1)
-      | false ↦ port-none_below n p xs h.1
-    ]
-
-port-ordered : (p : ℕ) (xs : List Tagged) → IsOrdered tagged_time xs → InOrder (at_port p xs)
-port-ordered p [] h = tt
-port-ordered p (x ∷ xs) h =
-    elim (x.port == p) as (λ c. InOrder (map (λ (y : Tagged). y.tuple) (cond c (x ∷ filter (λ (y : Tagged). y.port == p) xs) (filter (λ (y : Tagged). y.port == p) xs)))) [
-      | true ↦ (port-none_below x.tuple.stime p xs h.0, port-ordered p xs h.1)
-      | false ↦ port-ordered p xs h.1
-    ]
+port-before : (width k p : ℕ) (xs : List Tagged) → IsBucket width k xs → AllByRecursion (λ (t : Tuple). t.stime < (k + 1) * width) (at_port p xs)
+port-before width k p xs h = at_port-all (λ (t : Tuple). t.stime < (k + 1) * width) p xs (bucket-below width k xs h.inside)
 
 -- ---- a bucket
 
@@ -183,14 +157,14 @@ answer-is w keys width k before bucket ls rs rows below inside el er e =
     ≡ bucket_rows w keys (kept_from w b (at_port 0 before)) (kept_from w b (at_port 1 before)) (at_port 0 bucket) (at_port 1 bucket) =
     rw (at_port-append 0 before bucket, at_port-append 1 before bucket)
     (rows-from w keys b (at_port 0 before) (at_port 1 before) (at_port 0 bucket) (at_port 1 bucket) (port-below b 0 before below) (port-below b 1 before below)
-    (bucket-from width k 0 bucket inside) (bucket-from width k 1 bucket inside))
+    (port-from width k 0 bucket inside) (port-from width k 1 bucket inside))
     in
     let added = added-is (join_value w keys) width k before bucket (join-causal w keys) (IsOrdered-sort time_of (flat_map (pairs_with w keys (at_port 1 (before ++ bucket))) (at_port 0 (before ++ bucket)))) below inside.inside in
     rw (e, el, er) (sym (added ∙ whole))
 
 pub taken-ordered : (width k p : ℕ) (ts : List Tuple) (bucket : List Tagged) → InOrder ts → AllByRecursion (λ (t : Tuple). t.stime < k * width) ts → IsBucket width k bucket → InOrder (ts ++ at_port p bucket)
 taken-ordered width k p ts bucket o below inside =
-    ordered-append time_of (k * width) ts (at_port p bucket) o (port-ordered p bucket (bucket-ordered width k bucket inside)) below (bucket-from width k p bucket inside)
+    ordered-append time_of (k * width) ts (at_port p bucket) o (at_port-InOrder p bucket (adjacent-ordered bucket inside.ordered)) below (port-from width k p bucket inside)
 
 -- what is kept at a later time is kept of what was kept
 kept-kept : (w b b' : ℕ) (ts : List Tuple) → b ≤ b' → kept_from w b' (kept_from w b ts) ≡ kept_from w b' ts
@@ -247,5 +221,5 @@ IsKept-next w width k p ts us bucket kept inside e =
       order = filter-ordered keep (ts ++ at_port p bucket) (taken-ordered width k p ts bucket kept.order kept.below inside);
       below =
           all-filter (λ (t : Tuple). t.stime < (k + 1) * width) keep (ts ++ at_port p bucket)
-          (all-append (λ (t : Tuple). t.stime < (k + 1) * width) ts (at_port p bucket) (all-below (k * width) ((k + 1) * width) ts later kept.below) (bucket-below width k p bucket inside));
+          (all-append (λ (t : Tuple). t.stime < (k + 1) * width) ts (at_port p bucket) (all-below (k * width) ((k + 1) * width) ts later kept.below) (port-before width k p bucket inside));
     })

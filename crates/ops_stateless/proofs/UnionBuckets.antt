@@ -1,17 +1,19 @@
 -- The output of a union over a bucket is the bucket's tuples as they stand.
-use Rattle.std.proofs.Common.{◌≡◌, ℕ, zero, suc, ◌+◌, ◌*◌, ◌<◌, ◌≤◌, true, false, cond, ◌==◌, List, [], ◌∷◌, ◌++◌, map, length, get_or, refl, sym, ◌∙◌, ap, arith, nat_lt, nat_le, append_assoc, All}
+use Rattle.std.proofs.Common.{◌≡◌, ℕ, zero, suc, ◌+◌, ◌*◌, ◌<◌, ◌≤◌, true, false, cond, ◌==◌, List, [], ◌∷◌, ◌++◌, map, refl, sym, ◌∙◌, ap, arith, nat_lt, nat_le, append_assoc, All}
 use Rattle.std.proofs.lemmas.Grind.{common_steps}
 use Rattle.std.specs.List.{filter, AllByRecursion}
 use Rattle.dpc_model.specs.Lists.{sort_by, insert_by, range_with_len}
 use Rattle.dpc_model.specs.Streams.{NoneBelow, time_of}
-use Rattle.dpc_model.specs.Engines.{IsBucket, LiesBelow, precedes, from_time, ports_of, engine_value, lone_operator, added_output}
+use Rattle.dpc_model.specs.Engines.{IsBucket, LiesBelow, precedes, from_time, ports_of, engine_value, lone_operator, added_output, is_serial}
 use Rattle.dpc_model.specs.Fragments.{at_port}
 use Rattle.dpc_model.specs.Operators.{united, all_of}
 use Rattle.dpc_model.specs.declared.tuples.Tuple.{Tuple}
 use Rattle.dpc_model.specs.declared.tuples.Tagged.{Tagged}
 use Rattle.dpc_model.specs.declared.operators.OpKind.TheVariants.{Union}
-use Rattle.dpc_model.proofs.Causality.{filter-sort, filter-all_of, IsOrdered-sort, insert_by-first}
-use Rattle.dpc_model.proofs.Buckets.{added-is, operator-causal, lone-added, from-bucket, ports_of-from}
+use Rattle.dpc_model.proofs.Causality.{filter-sort, filter-all_of, IsOrdered-sort, insert_by-first, NoneBelow-append, NoneBelow-sort}
+use Rattle.dpc_model.proofs.Buckets.{added-is, operator-causal, lone-added, after-begin}
+use Rattle.dpc_model.proofs.Serial.{serial-rest, serial-all, adjacent-serial}
+use Rattle.dpc_model.proofs.Kept.{ports_of-kept}
 use Rattle.ops_stateless.specs.Unions.{union_value}
 
 -- the tuples of the first n ports, as they stand
@@ -23,50 +25,17 @@ standing n xs = map (λ (x : Tagged). x.tuple) (filter (λ (x : Tagged). nat_lt 
 abbrev AreLater : ℕ → List Tuple → Type 0
 AreLater n ts = AllByRecursion (λ t. n < time_of t) ts
 
-none_below-insert : (n : ℕ) (t : Tuple) (ts : List Tuple) → n ≤ time_of t → NoneBelow time_of n ts → NoneBelow time_of n (insert_by time_of t ts)
-none_below-insert n t [] h s = (h, tt)
-none_below-insert n t (u ∷ ts) h s =
-    elim (nat_lt (time_of u) (time_of t)) as (λ b. NoneBelow time_of n (cond b (u ∷ insert_by time_of t ts) (t ∷ u ∷ ts))) [
-      | true ↦ (s.0, none_below-insert n t ts h s.1)
-      | false ↦ (h, s)
-    ]
-
-none_below-sort : (n : ℕ) (ts : List Tuple) → NoneBelow time_of n ts → NoneBelow time_of n (sort_by time_of ts)
-none_below-sort n [] s = tt
-none_below-sort n (t ∷ ts) s = none_below-insert n t (sort_by time_of ts) s.0 (none_below-sort n ts s.1)
-
 insert_by-second : (t u : Tuple) (ts : List Tuple) → time_of t < time_of u → insert_by time_of u (t ∷ ts) ≡ t ∷ insert_by time_of u ts
 insert_by-second t u ts h = grind (arith, common_steps, h)
 
 first-sorted : (t : Tuple) (later rest : List Tuple) → AreLater (time_of t) later → NoneBelow time_of (time_of t) rest →
     sort_by time_of (later ++ t ∷ rest) ≡ t ∷ sort_by time_of (later ++ rest)
-first-sorted t [] rest h s = insert_by-first time_of t (sort_by time_of rest) (none_below-sort (time_of t) rest s)
+first-sorted t [] rest h s = insert_by-first time_of t (sort_by time_of rest) (NoneBelow-sort time_of time_of (time_of t) rest s)
 first-sorted t (u ∷ later) rest h s =
     ap (λ (ts : List Tuple). insert_by time_of u ts) (first-sorted t later rest h.1 s) ∙ insert_by-second t u (sort_by time_of (later ++ rest)) h.0
 
--- ---- the order of a bucket, by recursion
-
-precedes-trans : (x y z : Tagged) → precedes x y ≡ true → precedes y z ≡ true → precedes x z ≡ true
-precedes-trans x y z h k = grind (arith, common_steps)
-
 abbrev Precedes : Tagged → List Tagged → Type 0
 Precedes x ys = AllByRecursion (λ y. precedes x y ≡ true) ys
-
-abbrev IsSerial : List Tagged → Type 0
-IsSerial [] = Unit {0}
-IsSerial (x ∷ xs) = Precedes x xs × IsSerial xs
-
-precedes-all : (x y : Tagged) (ys : List Tagged) → precedes x y ≡ true → Precedes y ys → Precedes x ys
-precedes-all x y [] h s = tt
-precedes-all x y (z ∷ ys) h s = (precedes-trans x y z h s.0, precedes-all x y ys h s.1)
-
-serial-from : (xs : List Tagged) → ((k : ℕ) (d : Tagged) → k + 1 < length xs → precedes (get_or xs k d) (get_or xs (k + 1) d) ≡ true) → IsSerial xs
-serial-from [] h = tt
-serial-from (x ∷ []) h = (tt, tt)
-serial-from (x ∷ y ∷ ys) h =
-    let rest = serial-from (y ∷ ys) (λ k d low. let e : suc k + 1 ≡ suc (k + 1) = omega arith in (rw e at (h (suc k) d (omega (arith, low))))) in
-    let first : precedes x y ≡ true = h 0 x (omega arith) in
-    ((first, precedes-all x y ys first rest.0), rest)
 
 -- ---- the tuples of ports from s on
 
@@ -98,14 +67,10 @@ later-port p x (y ∷ ys) l h =
       | false ↦ λ e. later-port p x ys l h.1
     ]) refl
 
-none_below-append : (n : ℕ) (ts us : List Tuple) → NoneBelow time_of n ts → NoneBelow time_of n us → NoneBelow time_of n (ts ++ us)
-none_below-append n [] us s t = t
-none_below-append n (x ∷ ts) us s t = (s.0, none_below-append n ts us s.1 t)
-
 none_below-ports : (s m : ℕ) (x : Tagged) (xs : List Tagged) → Precedes x xs → NoneBelow time_of x.tuple.stime (from_ports s m xs)
 none_below-ports s zero x xs h = tt
 none_below-ports s (suc m) x xs h =
-    none_below-append x.tuple.stime (at_port s xs) (from_ports (s + 1) m xs) (none_below-port s x xs h) (none_below-ports (s + 1) m x xs h)
+    NoneBelow-append time_of x.tuple.stime (at_port s xs) (from_ports (s + 1) m xs) (none_below-port s x xs h) (none_below-ports (s + 1) m x xs h)
 
 later-append : (n : ℕ) (ts us : List Tuple) → AreLater n ts → AreLater n us → AreLater n (ts ++ us)
 later-append n [] us s t = t
@@ -122,7 +87,7 @@ sorted-first s (suc m) later x xs l h a b =
           let behind : x.port < s + 1 = grind (arith, common_steps) in
           rw (here, other_ports (s + 1) m x xs behind)
           (first-sorted x.tuple later (at_port s xs ++ from_ports (s + 1) m xs) l
-          (none_below-append x.tuple.stime (at_port s xs) (from_ports (s + 1) m xs) (none_below-port s x xs h) (none_below-ports (s + 1) m x xs h)))
+          (NoneBelow-append time_of x.tuple.stime (at_port s xs) (from_ports (s + 1) m xs) (none_below-port s x xs h) (none_below-ports (s + 1) m x xs h)))
       | false ↦ λ e.
           let past : s < x.port = grind (arith, common_steps) in
           rw (other_port s x xs e, ← append_assoc later (at_port s xs) (from_ports (s + 1) m (x ∷ xs)), ← append_assoc later (at_port s xs) (from_ports (s + 1) m xs))
@@ -137,7 +102,7 @@ past_port s (suc m) x xs h =
     rw (other_port s x xs other) (ap (λ (ts : List Tuple). at_port s xs ++ ts) (past_port (s + 1) m x xs (omega (arith, h))))
 
 -- tuples in serial order are their union
-united-serial : (n : ℕ) (xs : List Tagged) → IsSerial xs → sort_by time_of (from_ports 0 n xs) ≡ standing n xs
+united-serial : (n : ℕ) (xs : List Tagged) → is_serial xs ≡ true → sort_by time_of (from_ports 0 n xs) ≡ standing n xs
 united-serial n [] h = none 0 n
   where
     none : (s m : ℕ) → sort_by time_of (from_ports s m []) ≡ []
@@ -148,10 +113,10 @@ united-serial n (x ∷ xs) h =
     ≡ map (λ (y : Tagged). y.tuple) (cond b (x ∷ filter (λ (y : Tagged). nat_lt y.port n) xs) (filter (λ (y : Tagged). nat_lt y.port n) xs))) [
       | true ↦ λ e.
           let low : x.port < 0 + n = grind (arith, common_steps) in
-          sorted-first 0 n [] x xs tt h.0 (omega arith) low ∙ ap (λ (ts : List Tuple). x.tuple ∷ ts) (united-serial n xs h.1)
+          sorted-first 0 n [] x xs tt (serial-all x xs h) (omega arith) low ∙ ap (λ (ts : List Tuple). x.tuple ∷ ts) (united-serial n xs (serial-rest x xs h).1)
       | false ↦ λ e.
           let high : 0 + n ≤ x.port = grind (arith, common_steps) in
-          ap (λ (ts : List Tuple). sort_by time_of ts) (past_port 0 n x xs high) ∙ united-serial n xs h.1
+          ap (λ (ts : List Tuple). sort_by time_of ts) (past_port 0 n x xs high) ∙ united-serial n xs (serial-rest x xs h).1
     ]) refl
 
 -- ---- what a bucket adds
@@ -167,6 +132,6 @@ union-added n w k before bucket h b =
     let whole = united (ports_of n (before ++ bucket)) in
     sym
     (added-is (union_value n) w k before bucket (operator-causal Union n tt) (IsOrdered-sort time_of (all_of (ports_of n (before ++ bucket)))) h b.inside
-    ∙ united-from (k * w) (ports_of n (before ++ bucket)) ∙ ap united (ports_of-from (k * w) n (before ++ bucket))
-    ∙ ap (λ (xs : List Tagged). united (ports_of n xs)) (from-bucket w k before bucket h b.inside) ∙ united-serial n bucket (serial-from bucket b.ordered))
+    ∙ united-from (k * w) (ports_of n (before ++ bucket)) ∙ ap united (ports_of-kept (λ (t : Tuple). nat_le (k * w) t.stime) n (before ++ bucket))
+    ∙ ap (λ (xs : List Tagged). united (ports_of n xs)) (after-begin w k before bucket h b.inside) ∙ united-serial n bucket (adjacent-serial bucket b.ordered))
     ∙ sym (lone-added Union n w before bucket k)

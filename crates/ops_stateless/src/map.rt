@@ -51,7 +51,7 @@ impl MapOp {
 }
 
 /// The values of the expressions, at the tuple's time.
-fn mapped_one(alloc: Global, exprs: &[Expr], tuple: &Tuple) -> Result<Tuple, AllocError>
+pub fn mapped_one(alloc: Global, exprs: &[Expr], tuple: &Tuple) -> Result<Tuple, AllocError>
     ensures { IfOk result (λ out. out ≡ mapped_tuple exprs.now tuple.now) }
 {
     let mut vals = Vals::with_capacity(alloc, exprs.len())?;

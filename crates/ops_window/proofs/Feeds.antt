@@ -53,8 +53,8 @@ one_begins step a (suc n) s e =
     ]) refl e
 
 -- a tuple's windows are those that begin at or below its time and end above it
-pub lies_in : (size step time j : ℕ) → 0 < step → (nat_le (window_count size step time) j && nat_lt j (time / step + 1)) ≡ (nat_le (j * step) time && nat_lt time (j * step + size))
-lies_in size step time j positive = by (nat_le (window_count size step time) j) refl
+pub within-window : (size step time j : ℕ) → 0 < step → (nat_le (window_count size step time) j && nat_lt j (time / step + 1)) ≡ (nat_le (j * step) time && nat_lt time (j * step + size))
+within-window size step time j positive = by (nat_le (window_count size step time) j) refl
   where
     by : (b : Bool) → nat_le (window_count size step time) j ≡ b → (b && nat_lt j (time / step + 1)) ≡ (nat_le (j * step) time && nat_lt time (j * step + size))
     by true e =

@@ -14,7 +14,7 @@ use Rattle.ops_window.specs.Windows.{Cell, group_of, begun_count}
 use Rattle.ops_window.specs.Feeding.{cell_cmp, totals_at, take_tuple, take_tuples}
 use Rattle.ops_window.proofs.WindowCells.{totals_over, begins_one, seen, cells_of, cells_of-at}
 use Rattle.ops_window.proofs.CellOrder.{cells_of-sorted, same_cells}
-use Rattle.ops_window.proofs.Feeds.{begins_one-number, one_begins, lies_in, count-begun, belongs, totals-more, windows-sorted, windows-at}
+use Rattle.ops_window.proofs.Feeds.{begins_one-number, one_begins, within-window, count-begun, belongs, totals-more, windows-sorted, windows-at}
 
 -- ---- counts of windows
 
@@ -89,7 +89,7 @@ module _ (size step : ℕ) (group : Option ℕ) (aggs : List Agg) (n m : ℕ) wh
       up_to = let le = count-begun size step t.stime positive in omega (arith, le)
 
       windows : (j : ℕ) → begins_one step first count (j * step) ≡ (nat_le (j * step) t.stime && nat_lt t.stime (j * step + size))
-      windows j = begins_one-number step first count j positive ∙ ap (λ (k : ℕ). nat_le first j && nat_lt j k) up_to ∙ lies_in size step t.stime j positive
+      windows j = begins_one-number step first count j positive ∙ ap (λ (k : ℕ). nat_le first j && nat_lt j k) up_to ∙ within-window size step t.stime j positive
 
       inside : (s : ℕ) (q : ℤ) → begins_one step n m s ≡ true → (begins_one step first count s && int_eq (group_of group t) q) ≡ belongs size step group aggs s q t
       inside s q e =

@@ -3,9 +3,9 @@ use Rattle.std.proofs.Common.{◌≡◌, ℕ, ◌+◌, ◌-◌, ◌*◌, ◌/◌
 use Rattle.std.proofs.lemmas.Grind.{common_steps}
 use Rattle.std.proofs.lemmas.Bool.{eqb-false}
 use Rattle.std.proofs.lemmas.List.{append-nil}
-use Rattle.std.proofs.lemmas.List.Elements.{recursion_from_All}
+use Rattle.std.proofs.lemmas.List.Elements.{recursion_from_All, All-weaker}
 use Rattle.std.proofs.Math.Seq.{drop-append_seam}
-use Rattle.std.specs.List.{AllByRecursion, filter}
+use Rattle.std.specs.List.{AllByRecursion}
 use Rattle.dpc_model.specs.Operators.{aggregated, between, window_count, window_rows, group_rows}
 use Rattle.dpc_model.specs.Fragments.{at_port}
 use Rattle.dpc_model.specs.Engines.{LiesIn, LiesBelow, IsBucket, engine_value, lone_operator, added_output}
@@ -14,7 +14,7 @@ use Rattle.dpc_model.specs.declared.tuples.Tagged.{Tagged}
 use Rattle.dpc_model.specs.declared.operators.Agg.{Agg}
 use Rattle.dpc_model.specs.declared.operators.OpKind.TheVariants.{Aggregate}
 use Rattle.dpc_model.proofs.WindowCausality.{window_before, window_after}
-use Rattle.dpc_model.proofs.Buckets.{at_port-append, LiesBelow-next}
+use Rattle.dpc_model.proofs.Buckets.{at_port-append, LiesBelow-next, lies-from, lies-below, at_port-all}
 use Rattle.ops_window.specs.Windows.{Cell, window_cells, begun_count, open_cells, aggregate_value, AggregateState, AggregateAfter}
 use Rattle.ops_window.specs.Feeding.{take_tuples, ended_cells, kept_cells, cell_row}
 use Rattle.ops_window.proofs.WindowCells.{cells_of}
@@ -26,14 +26,6 @@ use Rattle.ops_window.proofs.Ends.{ended_cells-split, kept_cells-split, cells_of
 pub aggregate-value : (size step : ℕ) (group : Option ℕ) (aggs : List Agg) (xs : List Tagged) (b : ℕ) →
     engine_value (lone_operator (Aggregate size step group aggs) 1) xs b ≡ aggregate_value size step group aggs xs b
 aggregate-value size step group aggs xs b = refl
-
--- what holds of all inputs holds of those of port 0
-port-each : (P : Tuple → Type 0) (xs : List Tagged) → AllByRecursion (λ (x : Tagged). P x.tuple) xs → AllByRecursion P (at_port 0 xs)
-port-each P [] h = tt
-port-each P (x ∷ xs) h = elim (x.port == 0) as (λ b. AllByRecursion P (map (λ (y : Tagged). y.tuple) (cond b (x ∷ filter (λ (y : Tagged). y.port == 0) xs) (filter (λ (y : Tagged). y.port == 0) xs)))) [
-  | true ↦ (h.0, port-each P xs h.1)
-  | false ↦ port-each P xs h.1
-]
 
 each-weaker : (P Q : Tuple → Type 0) → ((t : Tuple) → P t → Q t) → (ts : List Tuple) → AllByRecursion P ts → AllByRecursion Q ts
 each-weaker P Q w [] h = tt
@@ -154,10 +146,11 @@ module _ (a : AggregateState) (k : ℕ) (before bucket : List Tagged) (some : 0 
   later = grind (arith, common_steps)
 
   early : AllByRecursion (λ (t : Tuple). t.stime < begin) (at_port 0 before)
-  early = port-each (λ (t : Tuple). t.stime < begin) before (recursion_from_All (LiesBelow begin) before held.below)
+  early = at_port-all (λ (t : Tuple). t.stime < begin) 0 before (recursion_from_All (LiesBelow begin) before held.below)
 
   inputs : AllByRecursion (λ (t : Tuple). (begin ≤ t.stime) × (t.stime < end)) (at_port 0 bucket)
-  inputs = port-each (λ (t : Tuple). (begin ≤ t.stime) × (t.stime < end)) bucket (recursion_from_All (LiesIn a.width k) bucket fits.inside)
+  inputs = at_port-all (λ (t : Tuple). (begin ≤ t.stime) × (t.stime < end)) 0 bucket (recursion_from_All (λ (x : Tagged). (begin ≤ x.tuple.stime) × (x.tuple.stime < end)) bucket
+      (All-weaker (LiesIn a.width k) (λ (x : Tagged). (begin ≤ x.tuple.stime) × (x.tuple.stime < end)) (λ x h. (lies-from a.width k x h, lies-below a.width k x h)) bucket fits.inside))
 
   from_open : cells-fed ≡ take_tuples a.size a.step a.group a.aggs (open_cells a.size a.step a.group a.aggs (at_port 0 before) begin) (at_port 0 bucket)
   from_open = ap (λ (cs : List Cell). take_tuples a.size a.step a.group a.aggs cs (at_port 0 bucket)) held.cells

@@ -2,6 +2,7 @@
 use Rattle.std.proofs.Common.{◌≡◌, ℕ, ◌+◌, Bool, true, false, cond, not, ◌&&◌, ◌==◌, nat_lt, nat_le, List, [], ◌∷◌, ◌++◌, map, length, drop, refl, sym, ap, subst, ◌∙◌, Option, Some, None, slice_get}
 use Rattle.std.specs.Prelude.{is_some}
 use Rattle.std.proofs.lemmas.List.{append-nil}
+use Rattle.std.proofs.Math.Seq.{drop-length}
 use Rattle.dpc_model.specs.Lists.{nth, changed, push}
 use Rattle.dpc_model.specs.Actors.{role_of}
 use Rattle.dpc_model.specs.declared.actors.Role.{Role}
@@ -34,7 +35,6 @@ use Rattle.session_law.proofs.Noding.{Goes, ticked-goes, milled-goes, server-of}
 use Rattle.session_law.proofs.Delivering.{delivered-takes}
 use Rattle.session_law.proofs.Sources.{SourceGoes, emits-goes, releases-goes, source_delivered-takes, source_ticked-goes}
 use Rattle.session_law.proofs.Worlds.{no_slot, HeldNode, HeldAt, AreHeld, past_next, opened_next, AreHeldNext, untouched, quiet-held, void-held, other-held, other-slot, stepped-slot, StepTakes, node-held, SourceStepTakes, source-held}
-use Rattle.dpc_model.proofs.Elements.{drop-whole}
 
 -- nothing is brought
 abbrev nothing : Channel → Option Subscribe
@@ -88,7 +88,7 @@ gone false xs h = h refl
 -- nothing is sent, and what was sent before is gone
 past-gone : (l : Channel) (items : List Item) (w next : World) → next.envelopes ≡ w.envelopes → (goes_down l w next ≡ false → items ≡ []) → past_next l items w next ≡ []
 past-gone l items w next same h =
-    ap (λ (es : List Envelope). cond (goes_down l w next) [] items ++ carried l es) (ap (λ (es : List Envelope). drop (length w.envelopes) es) same ∙ drop-whole w.envelopes)
+    ap (λ (es : List Envelope). cond (goes_down l w next) [] items ++ carried l es) (ap (λ (es : List Envelope). drop (length w.envelopes) es) same ∙ drop-length w.envelopes)
     ∙ append-nil (cond (goes_down l w next) [] items) ∙ gone (goes_down l w next) items h
 
 -- the slots of one node are changed

@@ -1,7 +1,7 @@
 -- No run invents a tentative tuple.
 use Rattle.std.proofs.Common.{◌≡◌, ℕ, ◌+◌, true, false, cond, List, [], ◌∷◌, ◌++◌, map, length, drop, refl, sym, ap, subst, ◌∙◌, Option, Some, None, slice_get}
 use Rattle.std.specs.Prelude.{All}
-use Rattle.std.proofs.Math.Seq.{drop-append_seam}
+use Rattle.std.proofs.Math.Seq.{drop-append_seam, drop-length}
 use Rattle.std.proofs.lemmas.List.Elements.{All-nil, All-cons}
 use Rattle.dpc_model.specs.Lists.{list_all, push}
 use Rattle.dpc_model.specs.Actors.{role_of}
@@ -30,7 +30,6 @@ use Rattle.session_law.specs.Laws.{TentativesStand, tentative_output, NoneInvent
 use Rattle.session_law.proofs.Keeping.{is_bare}
 use Rattle.session_law.proofs.Noding.{subscriptions-bare}
 use Rattle.session_law.proofs.Worlds.{stepped-slot}
-use Rattle.dpc_model.proofs.Elements.{drop-whole}
 use Rattle.session_law.proofs.Standing.{AreStanding, Stands, bare-standing, ticked-stands, milled-stands, delivered-stands, emits-standing, releases-standing, source_delivered-standing, source_ticked-standing}
 
 -- what a world sent anew stands
@@ -40,7 +39,7 @@ AllStand w next = All (λ (x : Envelope). TentativesStand (tentative_output next
 none-sent : (w next : World) → next.envelopes ≡ w.envelopes → AllStand w next
 none-sent w next same =
     subst (λ (es : List Envelope). All (λ (x : Envelope). TentativesStand (tentative_output next x.sender (role_of next.plan x.sender)) (items_carried x.packet)) es)
-    (sym (ap (λ (es : List Envelope). drop (length w.envelopes) es) same ∙ drop-whole w.envelopes)) (All-nil (λ (x : Envelope). TentativesStand (tentative_output next x.sender (role_of next.plan x.sender)) (items_carried x.packet)))
+    (sym (ap (λ (es : List Envelope). drop (length w.envelopes) es) same ∙ drop-length w.envelopes)) (All-nil (λ (x : Envelope). TentativesStand (tentative_output next x.sender (role_of next.plan x.sender)) (items_carried x.packet)))
 
 mails-sent : (w next : World) (a : ℕ) (ms : List Mail) → next.envelopes ≡ w.envelopes ++ map (from a) ms → AreStanding (tentative_output next a (role_of next.plan a)) ms → AllStand w next
 mails-sent w next a ms same h =

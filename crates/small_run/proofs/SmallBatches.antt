@@ -1,17 +1,14 @@
 -- What a reader that holds stable tuples alone makes of a batch, and batches as items.
-use Rattle.std.proofs.Common.{◌≡◌, ℕ, zero, suc, ◌+◌, ◌-◌, ◌≤◌, ◌<◌, Bool, false, cond, List, [], ◌∷◌, ◌++◌, length, drop, get_or, refl, ap, arith, nat_lt, max, Some, None, inl, inr}
-use Rattle.std.proofs.lemmas.Grind.{common_steps}
+use Rattle.std.proofs.Common.{◌≡◌, ℕ, suc, ◌+◌, ◌-◌, ◌≤◌, ◌<◌, Bool, false, cond, List, [], ◌∷◌, ◌++◌, length, drop, refl, ap, arith, nat_lt, max, Some, None, inl, inr}
 use Rattle.std.proofs.lemmas.Bool.{cases_lt, lt-ltb, le-ltb, le-leb, lt-leb, eq-eqb, ne_eqb}
 use Rattle.std.proofs.lemmas.List.{append-nil, append_assoc, length_push, drop_all}
 use Rattle.std.proofs.Math.Nat.{sub_self}
 use Rattle.dpc_model.specs.Lists.{is_nil}
-use Rattle.dpc_model.specs.Streams.{NoneBelow, time_of, InOrder, count_below}
 use Rattle.dpc_model.specs.Reading.{fold_items, tuples_in, stable_reader}
 use Rattle.dpc_model.specs.Sessions.{given_items, stable_items, boundary_item}
 use Rattle.dpc_model.specs.declared.tuples.Tuple.{Tuple}
 use Rattle.dpc_model.specs.declared.tuples.Item.{Item}
 use Rattle.dpc_model.specs.declared.tuples.Item.TheVariants.{Stable, Tentative, Passed, Boundary, Undo, RecDone}
-use Rattle.dpc_model.proofs.Prefixes.{none_cut}
 use Rattle.small_run.specs.SmallWorlds.{SmallWorld, sends}
 use Rattle.small_run.specs.SmallSides.{batch_items}
 
@@ -115,38 +112,3 @@ pub sends-batch : (to_client : Bool) (first : ℕ) (tuples : List Tuple) (bound 
     sends to_client (batch_items first tuples bound) w
     ≡ record w { sent = w.sent ++ record { to_client = to_client; items = batch_items first tuples bound } ∷ [] }
 sends-batch to_client first tuples bound w = rw (is_nil-batch first tuples bound) refl
-
--- ---- how many tuples in order lie below a time
-
--- such tuples read by number
-NoneBelow-get : (n i : ℕ) (ts : List Tuple) (d : Tuple) → NoneBelow time_of n ts → i < length ts → n ≤ (get_or ts i d).stime
-NoneBelow-get n i [] d s h = absurd (omega arith)
-NoneBelow-get n zero (t ∷ ts) d s h = s.0
-NoneBelow-get n (suc i) (t ∷ ts) d s h = NoneBelow-get n i ts d s.1 (omega (arith, h))
-
--- no more tuples than there are
-pub count_below-length : (ts : List Tuple) (b : ℕ) → count_below ts b ≤ length ts
-count_below-length [] b = omega arith
-count_below-length (t ∷ ts) b = grind (arith, common_steps, count_below-length ts b)
-
--- below a later time lie no fewer
-pub count_below-later : (ts : List Tuple) (b e : ℕ) → b ≤ e → count_below ts b ≤ count_below ts e
-count_below-later [] b e h = omega arith
-count_below-later (t ∷ ts) b e h = grind (arith, common_steps, count_below-later ts b e h)
-
--- a tuple below the time is counted, with all those before it
-pub count_below-more : (ts : List Tuple) (i b : ℕ) (d : Tuple) → InOrder ts → i < length ts → (get_or ts i d).stime < b → i + 1 ≤ count_below ts b
-count_below-more [] i b d o h k = absurd (omega arith)
-count_below-more (t ∷ ts) zero b d o h k = rw (lt-ltb t.stime b k) (omega arith)
-count_below-more (t ∷ ts) (suc i) b d o h k =
-    let within : i < length ts = omega (arith, h) in
-    let first : t.stime < b = omega (arith, NoneBelow-get t.stime i ts d o.0 within, k) in
-    rw (lt-ltb t.stime b first) (omega (arith, count_below-more ts i b d o.1 within k))
-
--- no tuple is counted from one on that isn't below the time
-pub count_below-end : (ts : List Tuple) (i b : ℕ) (d : Tuple) → InOrder ts → i < length ts → b ≤ (get_or ts i d).stime → count_below ts b ≤ i
-count_below-end [] i b d o h k = absurd (omega arith)
-count_below-end (t ∷ ts) zero b d o h k = rw (le-ltb t.stime b k, none_cut b t.stime ts k o.0) (omega arith)
-count_below-end (t ∷ ts) (suc i) b d o h k =
-    let rest = count_below-end ts i b d o.1 (omega (arith, h)) k in
-    grind (arith, common_steps, rest)

@@ -1,24 +1,23 @@
 -- Milling by a filter: what lies below a time in an ordered list, the output of buckets, and the world after them.
-use Rattle.std.proofs.Common.{◌≡◌, ℕ, ◌+◌, ◌-◌, ◌*◌, ◌/◌, ◌^◌, ◌≤◌, ◌<◌, true, false, List, [], ◌∷◌, ◌++◌, map, length, take, drop, refl, sym, ◌∙◌, ap, subst, arith, append_assoc, append-nil, length-append, nat_le, Some, None}
+use Rattle.std.proofs.Common.{◌≡◌, ℕ, ◌+◌, ◌-◌, ◌*◌, ◌/◌, ◌^◌, ◌≤◌, ◌<◌, true, false, List, [], ◌∷◌, ◌++◌, length, take, drop, refl, sym, ◌∙◌, ap, subst, arith, append_assoc, append-nil, length-append, nat_le, Some, None}
 use Rattle.std.specs.List.{filter}
-use Rattle.std.proofs.Math.Seq.{take-append_seam, drop-append_seam}
+use Rattle.std.proofs.Math.Seq.{drop-append_seam}
 use Rattle.std.proofs.Math.Nat.{le-div_iff_mul-le}
 use Rattle.std.proofs.lemmas.List.{take-append-drop, take-take, drop-take}
 use Rattle.std.proofs.lemmas.List.Elements.{filter-append}
-use Rattle.dpc_model.specs.Lists.{sort_by}
 use Rattle.dpc_model.specs.Streams.{NoneBelow, time_of, InOrder, is_below, cut, count_below}
-use Rattle.dpc_model.specs.Fragments.{tag, serial, at_port, fragment_value}
+use Rattle.dpc_model.specs.Fragments.{serial, fragment_value}
 use Rattle.dpc_model.specs.Formula.{Formula}
 use Rattle.dpc_model.specs.Operators.{filtered}
 use Rattle.dpc_model.specs.Values.{value_of, is_true}
 use Rattle.dpc_model.specs.declared.tuples.Tuple.{Tuple}
-use Rattle.dpc_model.specs.declared.tuples.Tagged.{Tagged}
 use Rattle.dpc_model.specs.declared.operators.OpSpec.{OpSpec}
 use Rattle.dpc_model.specs.declared.operators.OpKind.TheVariants.{Filter}
 use Rattle.dpc_model.specs.declared.operators.Wire.TheVariants.{Port}
-use Rattle.dpc_model.proofs.Causality.{sort_by-ordered}
-use Rattle.dpc_model.proofs.Prefixes.{cut-beginning, length-filter_le, length-cut_le}
-use Rattle.dpc_model.proofs.Order.{IsOrdered-filter, IsOrdered-map}
+use Rattle.dpc_model.proofs.Prefixes.{length-filter_le, length-cut_le}
+use Rattle.dpc_model.proofs.Order.{IsOrdered-filter}
+use Rattle.dpc_model.proofs.Cuts.{below-take}
+use Rattle.dpc_model.proofs.Serial.{at_port-serial}
 use Rattle.dpc_model.specs.Sessions.{given_items}
 use Rattle.dpc_model.specs.declared.tuples.Item.{Item}
 use Rattle.small_run.specs.SmallWorlds.{Sent, SmallWorld, operators, sends, output_below, ready, mill_given, milled}
@@ -33,22 +32,11 @@ use Rattle.small_run.proofs.SmallBatches.{given-batch, sends-batch}
 
 -- ---- ordered lists
 
--- what lies below a time is so long a beginning
-cut-take : (ts : List Tuple) (b : ℕ) → InOrder ts → cut ts b ≡ take (count_below ts b) ts
-cut-take ts b o =
-    let p = cut-beginning b ts o in
-    sym (ap (λ (us : List Tuple). take (count_below ts b) us) p.1 ∙ take-append_seam (cut ts b) p.0)
-
 -- the elements from one number on and below another
 pub drop-take_part : {X : Type 0} (m n : ℕ) (xs : List X) → m ≤ n → take (n - m) (drop m xs) ≡ drop m (take n xs)
 drop-take_part m n xs h = let whole : n ≡ m + (n - m) = omega (arith, h) in sym (ap (λ (k : ℕ). drop m (take k xs)) whole ∙ drop-take m (n - m) xs)
 
 -- ---- what a filter gives
-
--- the tuples of a port, tagged and untagged
-pub at_port-tagged : (ts : List Tuple) → at_port 0 (map (tag 0) ts) ≡ ts
-at_port-tagged [] = refl
-at_port-tagged (t ∷ ts) = ap (λ (us : List Tuple). t ∷ us) (at_port-tagged ts)
 
 -- no more than it reads
 pub length-filtered : (e : Formula) (ts : List Tuple) → length (filtered e ts) ≤ length ts
@@ -60,11 +48,7 @@ lone_filter name e = record { name = name; kind = Filter e; reads = Port 0 ∷ [
 
 -- what a filter gives of an ordered list
 filter-value : (name : List ℕ) (e : Formula) (ts : List Tuple) (b : ℕ) → InOrder ts → fragment_value (lone_filter name e) (serial (ts ∷ [])) b ≡ filtered e ts
-filter-value name e ts b o =
-    let tagged : serial (ts ∷ []) ≡ map (tag 0) ts =
-    ap (λ (xs : List Tagged). sort_by (λ (x : Tagged). x.tuple.stime) xs) (append-nil (map (tag 0) ts))
-    ∙ sort_by-ordered (λ (x : Tagged). x.tuple.stime) (map (tag 0) ts) (IsOrdered-map time_of (λ (x : Tagged). x.tuple.stime) (tag 0) (λ t. refl) ts o) in
-    ap (λ (us : List Tuple). filtered e us) (ap (at_port 0) tagged ∙ at_port-tagged ts)
+filter-value name e ts b o = ap (λ (us : List Tuple). filtered e us) (at_port-serial (ts ∷ []) 0 (o, tt))
 
 -- the output of what was milled, and then of what is milled next
 pub filtered-next : (e : Formula) (ts : List Tuple) (m n : ℕ) → m ≤ n → filtered e (take m ts) ++ filtered e (drop m (take n ts)) ≡ filtered e (take n ts)
@@ -82,7 +66,7 @@ output_below-filtered c w name e o ops =
     let held = w.node.stable in
     let b = c * w.plan.width in
     ap (λ (os : List OpSpec). fragment_value os (serial (cut held b ∷ [])) b) ops
-    ∙ filter-value name e (cut held b) b (IsOrdered-filter time_of (is_below b) held o) ∙ ap (λ (us : List Tuple). filtered e us) (cut-take held b o)
+    ∙ filter-value name e (cut held b) b (IsOrdered-filter time_of (is_below b) held o) ∙ ap (λ (us : List Tuple). filtered e us) (sym (below-take time_of b held o))
 
 -- what milling makes of the world, where the new output stands behind the old
 pub milled-is : (count : ℕ) (w : SmallWorld) (tuples : List Tuple) → output_below w.cursor w ++ tuples ≡ output_below (w.cursor + count) w →

@@ -5,7 +5,7 @@ ghost use Rattle.small_run.specs.OrderProps.{InOrder-prop};
 
 use crate::batch::Batch;
 use crate::counting::number_below;
-use dpc_model::exact::Exact;
+use dpc_model::exact::copied;
 use dpc_model::faults::NoMemory;
 use dpc_model::tuples::Tuple;
 use std::alloc::Global;
@@ -18,17 +18,6 @@ pub struct SmallSource<'a> {
     pub released: u64,
     ghost ordered: { InOrder log.now } by { InOrder-prop log.now },
     ghost below: { emitted ≡ count_below log.now released },
-}
-
-/// The same tuples again.
-fn copies(alloc: Global, tuples: &[Tuple]) -> Result<Vec<Tuple>, NoMemory>
-    ensures { IfOk result (λ copies. copies.items ≡ tuples.now) }
-{
-    let mut copies = Vec::with_capacity(alloc, tuples.len())?;
-    for tuple in tuples {
-        copies.push(tuple.copy(alloc)?)?;
-    }
-    Ok(copies)
 }
 
 impl<'a> SmallSource<'a> {
@@ -60,7 +49,7 @@ impl<'a> SmallSource<'a> {
         }
         let first = self.emitted;
         let upto = number_below(self.log, first, time);
-        let tuples = copies(alloc, &self.log[first..upto])?;
+        let tuples = copied(alloc, &self.log[first..upto])?;
         self.emitted = upto;
         self.released = time;
         Ok(Some(Batch {

@@ -18,11 +18,12 @@ use Rattle.dpc_model.specs.declared.operators.OpKind.TheVariants.{Filter}
 use Rattle.dpc_model.specs.declared.operators.Wire.TheVariants.{Port as from_port}
 use Rattle.dpc_model.specs.declared.messages.NodeState.TheVariants.{Stable}
 use Rattle.dpc_model.specs.declared.tuples.Tagged.{Tagged}
+use Rattle.dpc_model.specs.Engines.{lies_in, is_serial}
 use Rattle.node_model.specs.Nodes.{Home, PlainNode, view_cursor, buckets_of, out_stable, out_view, out_tentative, ready}
 use Rattle.node_model.specs.NodeSteps.{tick_step, enter_step}
 use Rattle.world_model.specs.Worlds.{from}
 use Rattle.world_model.specs.Safe.{IsSafeNode}
-use Rattle.world_model.specs.Orderly.{is_tentative_past, has_state_of_closed, recovers_empty, stamps_in_place, base_follows, has_shape, lies_in, is_serial, is_fitting}
+use Rattle.world_model.specs.Orderly.{is_tentative_past, has_state_of_closed, recovers_empty, stamps_in_place, base_follows, has_shape, is_fitting}
 
 -- a source with one column, a filter that lets everything pass, and a client
 abbrev plan : Plan

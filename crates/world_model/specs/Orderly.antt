@@ -1,10 +1,10 @@
 -- What every event keeps beside what is safe: without it a step could break what is safe.
-use Rattle.std.specs.Prelude.{◌≡◌, ℕ, ◌+◌, ◌*◌, Bool, true, false, not, ◌&&◌, ◌||◌, ◌==◌, nat_lt, nat_le, min, if◌then◌else◌, List, [], ◌∷◌, length, map, IfSome}
+use Rattle.std.specs.Prelude.{◌≡◌, ℕ, ◌+◌, Bool, true, false, not, ◌&&◌, ◌||◌, ◌==◌, nat_lt, nat_le, min, if◌then◌else◌, List, [], ◌∷◌, length, map, IfSome}
 use Rattle.dpc_model.specs.Lists.{nth, is_nil, least, list_all, numbered}
 use Rattle.dpc_model.specs.Streams.{count_below}
 use Rattle.dpc_model.specs.Fragments.{log_of}
 use Rattle.dpc_model.specs.Columns.{stream_columns}
-use Rattle.dpc_model.specs.Engines.{precedes}
+use Rattle.dpc_model.specs.Engines.{lies_in, is_serial}
 use Rattle.dpc_model.specs.Reading.{Reader, is_sure}
 use Rattle.dpc_model.specs.Inlets.{InletState}
 use Rattle.dpc_model.specs.Actors.{role_of, reads_from, are_peers, senders_of}
@@ -118,16 +118,6 @@ recovers_empty n =
     || (is_stabilization n.state && list_all (λ (p : Port). waits_to_ask p.inlet && holds_nothing p.inlet.held) n.ports
     && is_nil n.stamps && is_nil n.closed && n.cursor == 0 && n.base == 0 && list_all (λ (a : Acked). a.0 == 0 && a.1 == 0) n.acks
     && list_all (λ (sub : Sub). not sub.is_open) n.subs && not n.grants.running)
-
--- a tagged tuple lies in a bucket
-abbrev pub lies_in : ℕ → ℕ → Tagged → Bool
-lies_in width k x = nat_le (k * width) x.tuple.stime && nat_lt x.tuple.stime ((k + 1) * width)
-
--- each tuple may stand before the next one
-abbrev pub is_serial : List Tagged → Bool
-is_serial [] = true
-is_serial (x ∷ []) = true
-is_serial (x ∷ y ∷ xs) = precedes x y && is_serial (y ∷ xs)
 
 abbrev pub has_columns : ℕ → Tuple → Bool
 has_columns c t = length t.vals == c

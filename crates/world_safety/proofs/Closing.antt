@@ -1,16 +1,19 @@
 -- Closing buckets and moving the cursor leaves the closed buckets and the stamps in place.
-use Rattle.std.proofs.Common.{◌≡◌, ℕ, zero, suc, ◌+◌, ◌≤◌, Bool, true, false, cond, ◌&&◌, nat_lt, nat_le, List, [], ◌∷◌, ◌++◌, map, length, refl, ap, ◌∙◌, arith, length-append}
+use Rattle.std.proofs.Common.{◌≡◌, ℕ, zero, suc, ◌+◌, ◌≤◌, Bool, true, false, cond, ◌&&◌, nat_lt, nat_le, List, [], ◌∷◌, ◌++◌, map, length, refl, ◌∙◌, arith, length-append}
 use Rattle.std.proofs.lemmas.List.{length-map}
+use Rattle.std.proofs.lemmas.List.FromFn.{length-range_with_len}
 use Rattle.std.specs.List.{filter, enumerate_from}
 use Rattle.dpc_model.specs.Lists.{list_all, range_with_len}
 use Rattle.dpc_model.specs.Fragments.{serial}
 use Rattle.dpc_model.specs.Reading.{Reader}
 use Rattle.dpc_model.specs.Due.{Stamps}
 use Rattle.dpc_model.specs.declared.tuples.Tagged.{Tagged}
+use Rattle.dpc_model.specs.Engines.{lies_in, is_serial}
+use Rattle.dpc_model.proofs.Serial.{serial-is}
 use Rattle.node_model.specs.Nodes.{Home, PlainNode, view_cursor, bucket_at, buckets_of}
-use Rattle.world_model.specs.Orderly.{lies_in, is_serial, fits_port, port_columns, closed_in_place}
+use Rattle.world_model.specs.Orderly.{fits_port, port_columns, closed_in_place}
 use Rattle.world_safety.proofs.Tests.{both, both-of, le-of, le-test}
-use Rattle.world_safety.proofs.Serials.{serial-is, bucket-lies, AreColumns, bucket-columns}
+use Rattle.world_safety.proofs.Serials.{bucket-lies, AreColumns, bucket-columns}
 
 -- a numbered bucket lies behind the cursor by its number, in serial order, with the columns of the ports
 abbrev pub is_placed : ℕ → List ℕ → ℕ → ℕ × List Tagged → Bool
@@ -41,10 +44,6 @@ numbered-append q i (x ∷ xs) ys h k =
     let more : i + suc (length xs) ≡ i + 1 + length xs = omega arith in
     both-of (q (i, x)) (list_all q (enumerate_from (i + 1) (xs ++ ys))) p.0 (numbered-append q (i + 1) xs ys p.1 (rw more at k))
 
-pub length-range : (a n : ℕ) → length (range_with_len a n) ≡ n
-length-range a zero = refl
-length-range a (suc n) = ap suc (length-range (a + 1) n)
-
 -- what a list of closed buckets is to be
 pub record AreClosed (home : Home) (c : ℕ) (closed : List (List Tagged)) : Type 0 where
   pub placed : list_all (is_placed home.plan.width (port_columns home) c) (enumerate_from 0 closed) ≡ true
@@ -65,7 +64,7 @@ pub closed-more : (home : Home) (c count : ℕ) (rs : List Reader) (closed : Lis
     AreClosed home c (closed ++ map (bucket_by home.plan.width rs) (range_with_len (c + length closed) count))
 closed-more home c count rs closed fits h few =
     let more = map (bucket_by home.plan.width rs) (range_with_len (c + length closed) count) in
-    let many : length more ≡ count = length-map (range_with_len (c + length closed) count) (bucket_by home.plan.width rs) ∙ length-range (c + length closed) count in
+    let many : length more ≡ count = length-map (range_with_len (c + length closed) count) (bucket_by home.plan.width rs) ∙ length-range_with_len (c + length closed) count in
     record {
       placed = numbered-append (is_placed home.plan.width (port_columns home) c) 0 closed more h.placed
           (buckets-placed home.plan.width (port_columns home) c (0 + length closed) (c + length closed) count rs fits (omega arith));

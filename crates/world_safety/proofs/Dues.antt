@@ -2,6 +2,7 @@
 use Rattle.std.proofs.Common.{◌≡◌, ℕ, zero, suc, ◌+◌, ◌-◌, ◌*◌, ◌<◌, ◌≤◌, Bool, true, false, not, cond, ◌&&◌, ◌||◌, ◌==◌, nat_le, List, [], ◌∷◌, ◌++◌, map, length, refl, ap, ◌∙◌, arith, length-append, ◌⊎◌, inl, inr, Option, Some, None}
 use Rattle.std.proofs.lemmas.Grind.{common_steps}
 use Rattle.std.proofs.lemmas.List.{length-map}
+use Rattle.std.proofs.lemmas.List.FromFn.{length-range_with_len}
 use Rattle.std.specs.List.{filter}
 use Rattle.dpc_model.specs.Lists.{list_all, last_below, is_nil, range_with_len}
 use Rattle.dpc_model.specs.Reading.{Reader}
@@ -12,7 +13,6 @@ use Rattle.node_model.specs.NodeSteps.{stably, after_stable_buckets, with_closed
 use Rattle.world_model.specs.Safe.{EachReaches}
 use Rattle.world_safety.specs.Plans.{IsPlace}
 use Rattle.world_safety.proofs.Tests.{both, le-of, le-test}
-use Rattle.world_safety.proofs.Closing.{length-range}
 use Rattle.world_safety.proofs.Processing.{least-reached}
 
 -- ---- the last number that passes a test
@@ -184,7 +184,7 @@ closing-processed home n last low =
     let r = stably home n count in
     let m = after_stable_buckets home r n in
     let more = map (bucket_of home m) (range_with_len (view_cursor m) (count - r)) in
-    let many : length more ≡ count - r = length-map (range_with_len (view_cursor m) (count - r)) (bucket_of home m) ∙ length-range (view_cursor m) (count - r) in
+    let many : length more ≡ count - r = length-map (range_with_len (view_cursor m) (count - r)) (bucket_of home m) ∙ length-range_with_len (view_cursor m) (count - r) in
     record {
       held = refl;
       view = omega (arith, many, length-append n.closed more, low);

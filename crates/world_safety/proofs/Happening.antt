@@ -1,7 +1,7 @@
 -- Every event keeps a world safe and orderly, sends RecDone surely, and a tick serves.
 use Rattle.std.proofs.Common.{◌≡◌, ℕ, ◌+◌, ◌-◌, ◌≤◌, Bool, true, false, cond, ◌&&◌, ◌==◌, nat_lt, nat_le, List, [], ◌∷◌, ◌++◌, map, length, drop, refl, sym, ap, subst, ◌∙◌, arith, Option, Some, None, slice_get, unwrap_or}
 use Rattle.std.specs.Prelude.{IsTrue, IfSome}
-use Rattle.std.proofs.Math.Seq.{drop-append_seam}
+use Rattle.std.proofs.Math.Seq.{drop-append_seam, drop-length}
 use Rattle.std.proofs.lemmas.Grind.{common_steps}
 use Rattle.dpc_model.specs.Lists.{nth, changed, list_all, is_nil, push}
 use Rattle.dpc_model.specs.Streams.{count_below}
@@ -30,7 +30,6 @@ use Rattle.world_safety.proofs.Frames.{IsGood}
 use Rattle.world_safety.proofs.Emptied.{later-good}
 use Rattle.world_safety.proofs.Starting.{restarted-good}
 use Rattle.world_safety.proofs.Pointwise.{get-changed}
-use Rattle.dpc_model.proofs.Elements.{drop-whole}
 use Rattle.world_safety.proofs.Numbering.{node-at, source-at, all-at}
 use Rattle.world_safety.proofs.Mailing.{AreMails, mails-true, mails-fit, mails-weaker}
 use Rattle.world_safety.proofs.Giving.{IsGoodStep, IsDoneNode, milled-good}
@@ -61,7 +60,7 @@ pub record IsNext (w : World) (most : ℕ) (next : World) : Type 0 where
 
 -- one that sends nothing
 sends-nothing : (w next : World) → next.envelopes ≡ w.envelopes → SendsDoneSurely next (drop (length w.envelopes) next.envelopes)
-sends-nothing w next same = subst (λ (es : List Envelope). SendsDoneSurely next es) (sym (ap (λ (es : List Envelope). drop (length w.envelopes) es) same ∙ drop-whole w.envelopes)) tt
+sends-nothing w next same = subst (λ (es : List Envelope). SendsDoneSurely next es) (sym (ap (λ (es : List Envelope). drop (length w.envelopes) es) same ∙ drop-length w.envelopes)) tt
 
 later-fine : (w : World) (most : ℕ) → IsFine w most → IsFine w (most + 1)
 later-fine w most h =

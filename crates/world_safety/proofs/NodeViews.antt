@@ -3,6 +3,7 @@ use Rattle.std.proofs.Common.{◌≡◌, ℕ, zero, suc, ◌+◌, ◌-◌, ◌*�
 use Rattle.std.proofs.lemmas.Grind.{common_steps}
 use Rattle.std.proofs.lemmas.List.{append-nil, length-map}
 use Rattle.std.proofs.Math.Seq.{drop-append_seam}
+use Rattle.std.proofs.lemmas.List.FromFn.{length-range_with_len}
 use Rattle.dpc_model.specs.Lists.{is_nil, IsPrefixOf, range_with_len}
 use Rattle.dpc_model.specs.Fragments.{ideal, ideal_upto}
 use Rattle.dpc_model.specs.declared.sessions.Sub.{Sub}
@@ -20,7 +21,7 @@ use Rattle.world_model.specs.SessionLaw.{bound_of}
 use Rattle.world_safety.proofs.Outputs.{ideal-InOrder}
 use Rattle.world_safety.specs.Plans.{IsChecked, IsPlace}
 use Rattle.world_safety.proofs.Tests.{lt-of, eq-of, not-lt}
-use Rattle.world_safety.proofs.Closing.{closed-of, length-range}
+use Rattle.world_safety.proofs.Closing.{closed-of}
 use Rattle.world_safety.proofs.Processing.{stably-open}
 use Rattle.world_safety.proofs.Frames.{IsGood, inputs_done-held, out_stable-held}
 use Rattle.world_safety.proofs.OutFits.{cursor-within}
@@ -210,7 +211,7 @@ processed-step home most last n place up g good =
     let new = with_failure m in
     let more = map (bucket_of home (after_stable_buckets home r n)) (range_with_len (view_cursor (after_stable_buckets home r n)) (count - r)) in
     let many : length more ≡ count - r =
-    length-map (range_with_len (view_cursor (after_stable_buckets home r n)) (count - r)) (bucket_of home (after_stable_buckets home r n)) ∙ length-range (view_cursor (after_stable_buckets home r n)) (count - r) in
+    length-map (range_with_len (view_cursor (after_stable_buckets home r n)) (count - r)) (bucket_of home (after_stable_buckets home r n)) ∙ length-range_with_len (view_cursor (after_stable_buckets home r n)) (count - r) in
     let gone : HasGone home n new r more = record { held = refl; cursor = refl; closed = refl; none = stably-open home n count } in
     let same : nat_lt 0 (length more) ≡ nat_lt r count = ap (λ (l : ℕ). nat_lt 0 l) many ∙ sym (lt-gap r count) in
     subst (λ (b : Bool). IsViewStep home.plan (Frag home.frag) (shown home n) (shown home new) (given_by home n new (nat_lt 0 r) b)) same

@@ -1,6 +1,7 @@
 -- The numbers of actors: which place a replica has among all nodes and among those of its fragment, and who passes a test.
 use Rattle.std.proofs.Common.{◌≡◌, ℕ, zero, suc, ◌+◌, ◌-◌, ◌<◌, ◌≤◌, Bool, true, false, cond, ◌||◌, ◌==◌, List, [], ◌∷◌, ◌++◌, map, length, refl, sym, ap, subst, append_assoc, ◌∙◌, arith, Option, Some, None, slice_get}
 use Rattle.std.proofs.lemmas.Grind.{common_steps}
+use Rattle.std.proofs.lemmas.List.FromFn.{length-range_with_len}
 use Rattle.std.specs.List.{filter, enumerate_from}
 use Rattle.dpc_model.specs.Lists.{nth, list_all, list_any, range_with_len, place_of}
 use Rattle.dpc_model.specs.Actors.{role_of, roles_of, nodes_from, nodes_of, is_replica_of, replicas_of, actors_where, same_stream, sends_stream, inputs_of, senders_of, readers_of, reads_from}
@@ -13,7 +14,6 @@ use Rattle.dpc_model.specs.declared.plans.StreamRef.TheVariants.{Source, Frag}
 use Rattle.node_model.specs.Nodes.{Home, no_fragment, streams_of}
 use Rattle.world_model.specs.Worlds.{node_place}
 use Rattle.world_safety.proofs.Tests.{both, both-of, eq-of, eq-test}
-use Rattle.world_safety.proofs.Closing.{length-range}
 
 -- the actors that pass a test, of these roles from number k on
 abbrev numbers_where : (Role → Bool) → ℕ → List Role → List ℕ
@@ -281,7 +281,7 @@ sources-skip (s ∷ ss) rest (suc a) f r e = let same : suc a - suc (length ss) 
 pub node-at : (plan : Plan) (a f r : ℕ) → role_of plan a ≡ IsNode f r → slice_get (nodes_of plan) (node_place plan a) ≡ Some (f, r)
 node-at plan a f r e =
     node-among (nodes_of plan) (range_with_len 0 (length plan.clients)) (a - length plan.sources) f r
-    (rw (length-range 0 (length plan.sources)) at (sources-skip (range_with_len 0 (length plan.sources)) (map (λ (n : ℕ × ℕ). IsNode n.0 n.1) (nodes_of plan) ++ map IsClient (range_with_len 0 (length plan.clients))) a f r (sym (role-split plan a) ∙ e)))
+    (rw (length-range_with_len 0 (length plan.sources)) at (sources-skip (range_with_len 0 (length plan.sources)) (map (λ (n : ℕ × ℕ). IsNode n.0 n.1) (nodes_of plan) ++ map IsClient (range_with_len 0 (length plan.clients))) a f r (sym (role-split plan a) ∙ e)))
 
 -- ---- the place of a source
 

@@ -1,5 +1,5 @@
 -- What a node puts out, also tentatively, fits its stream.
-use Rattle.std.proofs.Common.{◌≡◌, ℕ, zero, suc, ◌+◌, ◌*◌, ◌<◌, ◌≤◌, Bool, true, false, ◌&&◌, nat_lt, nat_le, List, [], ◌∷◌, ◌++◌, map, length, drop, refl, sym, ap, ◌∙◌, arith, add-zero}
+use Rattle.std.proofs.Common.{◌≡◌, ℕ, zero, suc, ◌+◌, ◌*◌, ◌<◌, ◌≤◌, Bool, true, false, ◌&&◌, List, [], ◌∷◌, ◌++◌, map, length, drop, refl, sym, ap, ◌∙◌, arith, add-zero}
 use Rattle.std.proofs.lemmas.Grind.{common_steps}
 use Rattle.std.specs.List.{filter, enumerate_from}
 use Rattle.dpc_model.specs.Lists.{nth, push, list_all}
@@ -16,9 +16,11 @@ use Rattle.dpc_model.specs.declared.plans.StreamRef.{StreamRef}
 use Rattle.dpc_model.specs.declared.plans.StreamRef.TheVariants.{Source, Frag}
 use Rattle.dpc_model.proofs.FragmentValues.{nth-push, nth-pushed, length-push}
 use Rattle.dpc_model.proofs.IdealCausality.{cut-fragment_value}
+use Rattle.dpc_model.proofs.Buckets.{lies-below}
+use Rattle.dpc_model.specs.Engines.{lies_in, is_serial}
 use Rattle.node_model.specs.Nodes.{Home, PlainNode, no_fragment, spec_of, streams_of, held_by, inputs_done, view_cursor, buckets_of, out_stable, out_view, out_tentative}
 use Rattle.world_model.specs.Safe.{IsSafeNode}
-use Rattle.world_model.specs.Orderly.{IsOrderlyNode, has_columns, fits_port, fits_stream, port_columns, lies_in, is_serial}
+use Rattle.world_model.specs.Orderly.{IsOrderlyNode, has_columns, fits_port, fits_stream, port_columns}
 use Rattle.world_safety.proofs.Milling.{reaches-end}
 use Rattle.world_safety.specs.Plans.{IsPlace, are_even_ops, are_even_frags}
 use Rattle.world_safety.proofs.Tests.{both, both-of, lt-of, lt-test, all-append, all-sort, all-part, all-filter, all-weaker}
@@ -145,7 +147,7 @@ closed-lies width cs c i top (b ∷ closed) few h =
     lies-append (top * width) cs b (all_of closed)
     (record {
       below = all-weaker (is_below_tag (top * width)) (lies_in width (c + i)) b (λ x k.
-          let high = lt-of x.tuple.stime ((c + i + 1) * width) (both (nat_le ((c + i) * width) x.tuple.stime) (nat_lt x.tuple.stime ((c + i + 1) * width)) k).1 in
+          let high = lies-below width (c + i) x k in
           let low : c + i + 1 ≤ top = omega (arith, few) in
           let grown : (c + i + 1) * width ≤ top * width = grind (arith, common_steps) in
           lt-test x.tuple.stime (top * width) (omega (arith, high, grown))) inside;

@@ -4,6 +4,8 @@ use Rattle.std.specs.Prelude.{IfSome, is_none}
 use Rattle.std.proofs.lemmas.Grind.{common_steps}
 use Rattle.std.proofs.lemmas.List.{length-map}
 use Rattle.std.proofs.lemmas.List.Elements.{Contains-append_left, Contains-append_right}
+use Rattle.std.proofs.Math.Seq.{drop-length}
+use Rattle.std.proofs.lemmas.List.FromFn.{length-range_with_len}
 use Rattle.dpc_model.specs.Lists.{nth, list_all, range_with_len}
 use Rattle.dpc_model.specs.Replicas.{is_silent}
 use Rattle.dpc_model.specs.Granting.{with_ask, own_key}
@@ -19,7 +21,6 @@ use Rattle.node_model.specs.Nodes.{Home, PlainNode, streams_of, own_readers, hel
 use Rattle.node_model.specs.NodeSteps.{stably, silent_step, then_do, given_by, peers_of, peer_watches, after_clock, may_start_afresh, choice_step, ask_step, enter_step, after_stable_buckets, with_closed, with_failure, processing_upto, processing_step, announcing_step, serving_step, snapshot_ask_step, rest_of_tick, with_fresh_start, with_marks_ended, tick_step}
 use Rattle.world_model.specs.Safe.{CarriesLast, Serves, IsSafeNode}
 use Rattle.world_safety.specs.Plans.{IsPlace}
-use Rattle.world_safety.proofs.Closing.{length-range}
 use Rattle.world_safety.proofs.Processing.{holds-length}
 use Rattle.world_safety.proofs.Dues.{processed_upto-none}
 use Rattle.world_safety.proofs.Carried.{IsGivenIn, give-given}
@@ -27,7 +28,6 @@ use Rattle.world_safety.proofs.Frames.{IsGood, out_stable-held, out_tentative-he
 use Rattle.world_safety.proofs.Emptied.{emptied-of}
 use Rattle.world_safety.proofs.Starting.{fresh-good}
 use Rattle.world_safety.proofs.Ticked.{chosen-held}
-use Rattle.dpc_model.proofs.Elements.{drop-whole}
 
 -- ---- what sessions leave
 
@@ -46,7 +46,7 @@ lt-self c = grind (arith, common_steps)
 
 -- a node that did nothing gives nothing
 none-given : (home : Home) (x : PlainNode) (count : ℕ) → given_items count (given_by home x x false false) ≡ []
-none-given home x count = rw (drop-whole (out_stable home x), drop-whole (out_tentative home x)) refl
+none-given home x count = rw (drop-length (out_stable home x), drop-length (out_tentative home x)) refl
 
 -- ---- the step that processes buckets
 
@@ -69,7 +69,7 @@ processed-items home x last =
     let s = processing_upto home last x in
     let more = map (bucket_of home (after_stable_buckets home r x)) (range_with_len (view_cursor (after_stable_buckets home r x)) (count - r)) in
     let many : length more ≡ count - r =
-    length-map (range_with_len (view_cursor (after_stable_buckets home r x)) (count - r)) (bucket_of home (after_stable_buckets home r x)) ∙ length-range (view_cursor (after_stable_buckets home r x)) (count - r) in
+    length-map (range_with_len (view_cursor (after_stable_buckets home r x)) (count - r)) (bucket_of home (after_stable_buckets home r x)) ∙ length-range_with_len (view_cursor (after_stable_buckets home r x)) (count - r) in
     let cursor : nat_lt x.cursor s.after.cursor ≡ nat_lt 0 r = lt-shift x.cursor r in
     let long : length m.closed ≡ length x.closed + (count - r) = length-append x.closed more ∙ ap (λ (l : ℕ). length x.closed + l) many in
     let closed : nat_lt (length x.closed) (length s.after.closed) ≡ nat_lt r count =
