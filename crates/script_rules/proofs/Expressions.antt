@@ -27,7 +27,7 @@ abbrev pub AreSpelled : List Formula → Type 0
 AreSpelled [] = ⊤
 AreSpelled (e ∷ es) = IsSpelled e × AreSpelled es
 
-symbol_of-binary : (op : BinOp) → symbol_of (binary_word op) ≡ Two op
+pub symbol_of-binary : (op : BinOp) → symbol_of (binary_word op) ≡ Two op
 symbol_of-binary Add = refl
 symbol_of-binary Sub = refl
 symbol_of-binary Mul = refl
@@ -43,10 +43,10 @@ symbol_of-binary And = refl
 symbol_of-binary Or = refl
 
 -- the words of two expressions, and of three
-two_parts : (d e ws : List Word) → (d ++ e) ++ ws ≡ d ++ (e ++ ws)
+pub two_parts : (d e ws : List Word) → (d ++ e) ++ ws ≡ d ++ (e ++ ws)
 two_parts d e ws = append_assoc d e ws
 
-three_parts : (c d e ws : List Word) → ((c ++ d) ++ e) ++ ws ≡ c ++ (d ++ (e ++ ws))
+pub three_parts : (c d e ws : List Word) → ((c ++ d) ++ e) ++ ws ≡ c ++ (d ++ (e ++ ws))
 three_parts c d e ws = append_assoc (c ++ d) e ws ∙ append_assoc c d (e ++ ws)
 
 -- an expression's words are read as that expression

@@ -62,7 +62,7 @@ source_names_in_range (s ∷ sources) h =
     let q = and_parts (is_name s.name && is_between 1 8 s.columns) (list_all is_log_in_range s.log) p.0 in
     rw ((and_parts (is_name s.name) (is_between 1 8 s.columns) q.0).0, source_names_in_range sources p.1) refl
 
-op_names_in_range : (plan : Plan) (ops : List OpSpec) → list_all (is_op_in_range plan) ops ≡ true → list_all is_name (map (λ (op : OpSpec). op.name) ops) ≡ true
+pub op_names_in_range : (plan : Plan) (ops : List OpSpec) → list_all (is_op_in_range plan) ops ≡ true → list_all is_name (map (λ (op : OpSpec). op.name) ops) ≡ true
 op_names_in_range plan [] h = refl
 op_names_in_range plan (op ∷ ops) h =
     let p = and_parts (is_op_in_range plan op) (list_all (is_op_in_range plan) ops) h in

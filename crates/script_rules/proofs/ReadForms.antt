@@ -36,11 +36,11 @@ use Rattle.script_rules.proofs.Fitted.{IsFitted, fitted}
 
 -- ---- every line keeps the form
 
-abbrev Tests : Type 0
+abbrev pub Tests : Type 0
 Tests = List (Bool × ℕ)
 
 -- none of those that do not hold is found
-none_found : (tests : Tests) → NoneHolds tests → first_of_tests tests ≡ None
+pub none_found : (tests : Tests) → NoneHolds tests → first_of_tests tests ≡ None
 none_found [] h = refl
 none_found ((true, n) ∷ tests) h = absurd cc
 none_found ((false, n) ∷ tests) h = none_found tests h.1
@@ -63,7 +63,7 @@ with_its_words : (d : Draft) (words : List Word) → first_of_tests (tests_of_wo
 with_its_words d [] none h = absurd cc
 with_its_words d (w ∷ words) none h = with_first d w words (keyword_of (version_of d) w) refl none h
 
-further_tests : (b : Bool) (n : ℕ) (tests : Tests) → first_of_tests ((b, n) ∷ tests) ≡ None → first_of_tests tests ≡ None
+pub further_tests : (b : Bool) (n : ℕ) (tests : Tests) → first_of_tests ((b, n) ∷ tests) ≡ None → first_of_tests tests ≡ None
 further_tests true n tests e = absurd cc
 further_tests false n tests e = e
 
@@ -92,7 +92,7 @@ lines_fitted n d e (line ∷ lines) read h =
       | Some r ↦ λ is read. absurd cc
     ]) refl read
 
-nothing_fitted : IsFitted nothing_yet
+pub nothing_fitted : IsFitted nothing_yet
 nothing_fitted =
     record {
       form = record {
@@ -113,12 +113,12 @@ pub record HasNumbers (w e : ℕ) : Type 0 where
   pub width : 1 ≤ w
   pub end : IsEnd w e
 
-few_of : (wide : Bool) (n : ℕ) → (n == (if wide then 5 else 4)) ≡ true → n ≤ 3 → ⊥
+pub few_of : (wide : Bool) (n : ℕ) → (n == (if wide then 5 else 4)) ≡ true → n ≤ 3 → ⊥
 few_of true n whole few = let five : n ≡ 5 = eqb-true n 5 whole in omega (arith, five, few)
 few_of false n whole few = let four : n ≡ 4 = eqb-true n 4 whole in omega (arith, four, few)
 
 -- a whole header names a width and an end
-numbers_of : (wide : Bool) (h : List ℕ) (d : ℕ) → (length h == (if wide then 5 else 4)) ≡ true → IsHeader h → HasNumbers (nth 1 h 1) (nth d h 3)
+pub numbers_of : (wide : Bool) (h : List ℕ) (d : ℕ) → (length h == (if wide then 5 else 4)) ≡ true → IsHeader h → HasNumbers (nth 1 h 1) (nth d h 3)
 numbers_of wide [] d whole k = absurd (few_of wide 0 whole (omega arith))
 numbers_of wide (v ∷ []) d whole k = absurd (few_of wide 1 whole (omega arith))
 numbers_of wide (v ∷ w ∷ []) d whole k = absurd (few_of wide 2 whole (omega arith))
@@ -126,7 +126,7 @@ numbers_of wide (v ∷ w ∷ dl ∷ []) d whole k = absurd (few_of wide 3 whole 
 numbers_of wide (v ∷ w ∷ dl ∷ e ∷ rest) d whole k = record { width = k.0; end = k.1 }
 
 -- the end of input lacks nothing only behind `begin`
-begun_at_end : (begun waiting : Bool) (n : ℕ) → (if not begun || waiting then Some n else None) ≡ None → begun ≡ true
+pub begun_at_end : (begun waiting : Bool) (n : ℕ) → (if not begun || waiting then Some n else None) ≡ None → begun ≡ true
 begun_at_end true waiting n e = refl
 begun_at_end false waiting n e = absurd cc
 

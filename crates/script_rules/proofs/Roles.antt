@@ -33,10 +33,10 @@ use Rattle.script_rules.proofs.Recalled.{place-nth}
 -- ---- the names of nodes
 
 -- a fragment's name, a dot and a replica's number, for n replicas from number k on
-abbrev dots : Word → ℕ → ℕ → List Word
+abbrev pub dots : Word → ℕ → ℕ → List Word
 dots w k n = map (λ r. w ++ 46 ∷ decimal r) (range_with_len k n)
 
-abbrev dotted : List FragSpec → List Word
+abbrev pub dotted : List FragSpec → List Word
 dotted [] = []
 dotted (f ∷ fs) = dots f.name 0 f.replicas ++ dotted fs
 
@@ -53,7 +53,7 @@ before_first (b ∷ w) u h =
     let p = and_parts (may_stand_in_name b) (list_all may_stand_in_name w) h in
     rw (no_dot b p.0, before_first w u p.1) refl
 
-letters : (w : Word) → is_name w ≡ true → list_all may_stand_in_name w ≡ true
+pub letters : (w : Word) → is_name w ≡ true → list_all may_stand_in_name w ≡ true
 letters [] h = refl
 letters (b ∷ w) h =
     let p = and_parts (is_letter b && list_all may_stand_in_name w) (nat_lt (length w) 16) h in
@@ -150,7 +150,7 @@ pub record HasActorNames (plan : Plan) : Type 0 where
   pub clients : list_all is_name (named_clients plan) ≡ true
   pub sizes : list_all has_sizes plan.frags ≡ true
 
-abbrev actor_names : Plan → List Word
+abbrev pub actor_names : Plan → List Word
 actor_names plan = (named_sources plan ++ dotted plan.frags) ++ named_clients plan
 
 actors_apart : (plan : Plan) → HasActorNames plan → has_twice (actor_names plan) ≡ false
@@ -207,7 +207,7 @@ nodes_named plan before (f ∷ fs) k parts count =
     ∙ ap (λ l. l ++ map (role_name plan) (map node (nodes_from (k + 1) fs))) first
     ∙ ap (λ l. dots f.name 0 f.replicas ++ l) (nodes_named plan (before ++ f ∷ []) fs (k + 1) (parts ∙ sym (append_assoc before (f ∷ []) fs)) (omega (arith, more, count)))
 
-roles_named : (plan : Plan) → map (role_name plan) (roles_of plan) ≡ actor_names plan
+pub roles_named : (plan : Plan) → map (role_name plan) (roles_of plan) ≡ actor_names plan
 roles_named plan =
     let sources = map IsSource (range_with_len 0 (length plan.sources)) in
     let nodes = map (λ (n : ℕ × ℕ). IsNode n.0 n.1) (nodes_of plan) in
@@ -219,7 +219,7 @@ roles_named plan =
     map-map (role_name plan) IsClient (range_with_len 0 (length plan.clients)) ∙ by_number [] (named_clients plan) (named_clients plan) 0 (length plan.clients) refl refl (length-map plan.clients (λ (c : ClientSpec). c.name)) in
     map-append (role_name plan) (sources ++ nodes) clients ∙ ap (λ l. l ++ map (role_name plan) clients) (map-append (role_name plan) sources nodes) ∙ rw (named_1, named_2, named_3) refl
 
-nth-map : {X : Type 0} (g : X → Word) (d : X) (xs : List X) (i : ℕ) → g d ≡ [] → nth [] (map g xs) i ≡ g (nth d xs i)
+pub nth-map : {X : Type 0} (g : X → Word) (d : X) (xs : List X) (i : ℕ) → g d ≡ [] → nth [] (map g xs) i ≡ g (nth d xs i)
 nth-map g d [] i h = sym h
 nth-map g d (x ∷ xs) zero h = refl
 nth-map g d (x ∷ xs) (suc i) h = nth-map g d xs i h

@@ -50,11 +50,11 @@ record DirectiveSaid (plan : Plan) (ps : List Phase) (xs : List Directive) (s : 
   said : and_then (running plan ps xs) s ≡ running plan ps (xs ++ x ∷ [])
   fits : directive_fits plan x ≡ true
 
-is_known : (o : Option ℕ) (g : ℕ → Bool) → not (unwrap_or (option_map g o) false) ≡ false → is_none o ≡ false
+pub is_known : (o : Option ℕ) (g : ℕ → Bool) → not (unwrap_or (option_map g o) false) ≡ false → is_none o ≡ false
 is_known None g h = absurd cc
 is_known (Some x) g h = refl
 
-both_known : (plan : Plan) (a b : Option ℕ) → not (unwrap_or (option_map (λ x. unwrap_or (option_map (λ y. are_linked plan x y) b) false) a) false) ≡ false → (is_none a ≡ false) × (is_none b ≡ false)
+pub both_known : (plan : Plan) (a b : Option ℕ) → not (unwrap_or (option_map (λ x. unwrap_or (option_map (λ y. are_linked plan x y) b) false) a) false) ≡ false → (is_none a ≡ false) × (is_none b ≡ false)
 both_known plan None b h = absurd cc
 both_known plan (Some x) None h = absurd cc
 both_known plan (Some x) (Some y) h = (refl, refl)

@@ -13,7 +13,7 @@ use Rattle.script_rules.specs.declared.places.Sort.{Sort}
 use Rattle.script_rules.specs.declared.places.Sort.TheVariants.{Expression}
 
 -- an operator with its operands is one expression
-one_more : (s : Symbol) (n : ℕ) (es : List Formula) → length es ≡ operands s + n → is_foreign_symbol s ≡ false → length (applied s es) ≡ suc n
+pub one_more : (s : Symbol) (n : ℕ) (es : List Formula) → length es ≡ operands s + n → is_foreign_symbol s ≡ false → length (applied s es) ≡ suc n
 one_more (Whole e) n es h k = ap suc (h ∙ omega arith)
 one_more (One make) n [] h k = absurd (omega arith)
 one_more (One make) n (e ∷ es) h k = omega arith
@@ -31,7 +31,7 @@ abbrev pub has_foreign : List Place → List Word → Bool
 has_foreign places ws = list_any (λ (x : Sort × Word). is_foreign x.0 x.1) (placed places ws)
 
 -- the places behind a word
-behind : (w : Word) (n : ℕ) → replicate (operands (symbol_of w)) (must Expression) ++ replicate n (must Expression) ≡ replicate (operands (symbol_of w) + n) (must Expression)
+pub behind : (w : Word) (n : ℕ) → replicate (operands (symbol_of w)) (must Expression) ++ replicate n (must Expression) ≡ replicate (operands (symbol_of w) + n) (must Expression)
 behind w n = replicate-append-replicate (operands (symbol_of w)) n (must Expression)
 
 -- words that fill n places, each by one of an expression's words, are n expressions
