@@ -2,7 +2,8 @@
 use Rattle.std.specs.Prelude.{ℕ, ◌+◌, ◌*◌, Bool, not, ◌&&◌, ◌==◌, if◌then◌else◌, List, ◌++◌, map, length, drop, Option, Some, None}
 use Rattle.dpc_model.specs.Lists.{is_nil}
 use Rattle.dpc_model.specs.Streams.{cut}
-use Rattle.dpc_model.specs.Operators.{all_of}
+use Rattle.dpc_model.specs.Operators.{between, all_of}
+use Rattle.dpc_model.specs.Reading.{Reader}
 use Rattle.dpc_model.specs.Fragments.{serial}
 use Rattle.dpc_model.specs.Engines.{Value}
 use Rattle.dpc_model.specs.Inlets.{InletState}
@@ -37,6 +38,10 @@ processed width x = serial (done_in width x)
 
 abbrev pub processed_view : ℕ → Inputs → List Tagged
 processed_view width x = processed width x ++ all_of x.closed
+
+-- the tuples of bucket k at one port: the stable ones and then the tentative ones
+abbrev pub bucket_at : ℕ → ℕ → Reader → List Tuple
+bucket_at width k r = between (k * width) ((k + 1) * width) (r.stable ++ r.tentative)
 
 -- ---- the output
 

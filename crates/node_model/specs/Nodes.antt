@@ -2,7 +2,8 @@
 use Rattle.std.specs.Prelude.{ℕ, ◌+◌, ◌-◌, ◌*◌, ◌/◌, Bool, true, false, not, ◌&&◌, ◌==◌, if◌then◌else◌, List, [], ◌++◌, map, length, drop, Option, Some, None, replicate}
 use Rattle.dpc_model.specs.Lists.{nth, least, is_nil}
 use Rattle.dpc_model.specs.Streams.{cut}
-use Rattle.dpc_model.specs.Operators.{between, all_of}
+use Rattle.dpc_model.specs.Operators.{all_of}
+use Rattle.dpc_model.specs.Parts.{bucket_at}
 use Rattle.dpc_model.specs.Fragments.{serial, fragment_value}
 use Rattle.dpc_model.specs.Reading.{Reader, stable_reader}
 use Rattle.dpc_model.specs.Inlets.{new_inlet, restarted_inlet, sess_of}
@@ -158,10 +159,6 @@ shown home n =
 -- the readers' states, by port
 abbrev pub held_by : PlainNode → List Reader
 held_by n = map held_at n.ports
-
--- the tuples of a bucket, by port: the stable ones and then the tentative ones
-abbrev pub bucket_at : ℕ → ℕ → Reader → List Tuple
-bucket_at width k r = between (k * width) ((k + 1) * width) (r.stable ++ r.tentative)
 
 -- the bucket as it stands
 abbrev pub bucket_of : Home → PlainNode → ℕ → List Tagged

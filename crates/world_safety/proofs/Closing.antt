@@ -10,7 +10,8 @@ use Rattle.dpc_model.specs.Due.{Stamps}
 use Rattle.dpc_model.specs.declared.tuples.Tagged.{Tagged}
 use Rattle.dpc_model.specs.Engines.{lies_in, is_serial}
 use Rattle.dpc_model.proofs.Serial.{serial-is}
-use Rattle.node_model.specs.Nodes.{Home, PlainNode, view_cursor, bucket_at, buckets_of}
+use Rattle.dpc_model.specs.Parts.{bucket_at}
+use Rattle.node_model.specs.Nodes.{Home, PlainNode, view_cursor, buckets_of}
 use Rattle.world_model.specs.Orderly.{fits_port, port_columns, closed_in_place}
 use Rattle.world_safety.proofs.Tests.{both, both-of, le-of, le-test}
 use Rattle.world_safety.proofs.Serials.{bucket-lies, AreColumns, bucket-columns}

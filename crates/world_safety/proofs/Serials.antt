@@ -8,7 +8,7 @@ use Rattle.dpc_model.specs.Fragments.{tag, tagged_from, serial}
 use Rattle.dpc_model.specs.Reading.{Reader}
 use Rattle.dpc_model.specs.declared.tuples.Tuple.{Tuple}
 use Rattle.dpc_model.proofs.Order.{tagged_time}
-use Rattle.node_model.specs.Nodes.{bucket_at}
+use Rattle.dpc_model.specs.Parts.{bucket_at}
 use Rattle.world_model.specs.Orderly.{has_columns, fits_port}
 use Rattle.world_safety.proofs.Tests.{both-of, all-append, all-sort, all-part}
 use Rattle.world_safety.proofs.Columns.{AllColumns, serial-columns}
