@@ -8,7 +8,7 @@ use Rattle.dpc_model.specs.Engines.{from_time}
 use Rattle.dpc_model.specs.Inlets.{InletState}
 use Rattle.dpc_model.specs.PartStands.{InletValue, StandsForInlet}
 use Rattle.dpc_model.specs.declared.tuples.Tuple.{Tuple}
-use Rattle.dpc_model.proofs.Prefixes.{none_cut}
+use Rattle.dpc_model.proofs.Cuts.{none-below, all-from}
 use Rattle.inlet.specs.Forgotten.{from_first}
 use Rattle.inlet.proofs.Standing.{splits, lacks-some}
 
@@ -52,7 +52,7 @@ drop_below-past b c v x o h = from_first-past c v.state.held.stable (kept-InOrde
 cut-kept : (b : ℕ) (gone kept : List Tuple) → InOrder kept → All (λ (t : Tuple). t.stime < b) gone → length (cut (gone ++ kept) b) + length (from_first b kept) ≡ length (gone ++ kept)
 cut-kept b gone kept o low =
     let s = splits b kept in
-    let past = none_cut b b (from_first b kept) (omega arith) (from_first-past b kept o) in
+    let past = none-below time_of b b (from_first b kept) (omega arith) (from_first-past b kept o) in
     let below : cut kept b ≡ s.first = ap (λ (ts : List Tuple). cut ts b) s.all ∙ filter-append (is_below b) s.first (from_first b kept) ∙ rw (cut-below b s.first s.below, past) (append-nil s.first) in
     let whole : cut (gone ++ kept) b ≡ gone ++ s.first = filter-append (is_below b) gone kept ∙ rw (cut-below b gone low, below) refl in
     let counted = ap (λ (ts : List Tuple). length ts) whole ∙ length-append gone s.first in
@@ -67,17 +67,13 @@ from_time-none b (t ∷ ts) low =
     let rest = from_time-none b ts (All-tail (λ (u : Tuple). u.stime < b) t ts low) in
     grind (arith, common_steps, first, rest)
 
-from_time-all : (b : ℕ) (ts : List Tuple) → NoneBelow time_of b ts → from_time b ts ≡ ts
-from_time-all b [] s = refl
-from_time-all b (t ∷ ts) s = grind (arith, common_steps, s.0, from_time-all b ts s.1)
-
 -- what is left of a stream in order of time is what it has from b on
 pub drop_below-leaves : (b : ℕ) (v : InletValue) (x : InletState) → InOrder x.held.stable → StandsForInlet b v x → from_first b v.state.held.stable ≡ from_time b x.held.stable
 drop_below-leaves b v x o h =
     let gone = lacks-some b v x h in
     let kept = v.state.held.stable in
     let s = splits b kept in
-    let past = from_time-all b (from_first b kept) (drop_below-past b b v x o h) in
+    let past = all-from time_of b b (from_first b kept) (omega arith) (drop_below-past b b v x o h) in
     let from_kept : from_time b kept ≡ from_first b kept =
     ap (λ (ts : List Tuple). from_time b ts) s.all ∙ filter-append (λ (t : Tuple). nat_le b t.stime) s.first (from_first b kept) ∙ rw (from_time-none b s.first s.below) past in
     let whole : from_time b (gone.0 ++ kept) ≡ from_first b kept =
