@@ -14,7 +14,7 @@ use Rattle.dpc_model.specs.declared.messages.Message.TheVariants as message
 use Rattle.dpc_model.specs.declared.plans.Plan.{Plan}
 use Rattle.dpc_model.specs.declared.plans.StreamRef.{StreamRef}
 use Rattle.dpc_model.specs.declared.plans.StreamRef.TheVariants.{Source}
-use Rattle.node_model.specs.Mails.{Stepped, Mail, mails, Packet, Plain, SnapFor}
+use Rattle.node_model.specs.Mails.{Stepped, mails, Packet, Plain, SnapFor}
 
 -- its port, the items that it took, and the clock
 pub record ClientState : Type 0 where

@@ -1,6 +1,6 @@
 -- A source: it logs its tuples, and sends them as they are emitted.
-use Rattle.std.specs.Prelude.{ℕ, true, false, ◌==◌, nat_lt, max, if◌then◌else◌, List, [], ◌∷◌, map, take, drop, zip, Option, Some, None}
-use Rattle.dpc_model.specs.Lists.{nth, changed, place_of}
+use Rattle.std.specs.Prelude.{ℕ, true, false, ◌==◌, nat_lt, max, if◌then◌else◌, List, [], map, take, drop, zip, Option, Some, None}
+use Rattle.dpc_model.specs.Lists.{place_of}
 use Rattle.dpc_model.specs.Streams.{count_below}
 use Rattle.dpc_model.specs.Fragments.{log_of}
 use Rattle.dpc_model.specs.Actors.{readers_of}
@@ -13,7 +13,7 @@ use Rattle.dpc_model.specs.declared.plans.Plan.{Plan}
 use Rattle.dpc_model.specs.declared.plans.StreamRef.TheVariants.{Source}
 use Rattle.dpc_model.specs.Sessions.{opening_session, link_of, Shown, Given, given_items}
 use Rattle.dpc_model.specs.declared.sessions.Sub.{Sub}
-use Rattle.node_model.specs.Mails.{Stepped, Mail, mail, Packet, Plain, SnapFor, to_sessions, to_subscriber}
+use Rattle.node_model.specs.Mails.{Stepped, mail, Packet, Plain, SnapFor, to_sessions, to_subscriber}
 
 -- how many tuples of its log were emitted, its last boundary (0 where none was released), the readers' sessions, and the clock
 pub record SourceState : Type 0 where
