@@ -1,5 +1,5 @@
 //! The output of a sender.
-ghost use Rattle.std.specs.Prelude.{◌≡◌, ◌+◌, ◌^◌, ◌<◌, ◌≤◌, ℕ, List, [], ◌∷◌, ◌++◌, true, false, nat_lt, length, drop, map, IfOk, OnOk, OnErr, None, Some, ◌&&◌, ◌==◌, if◌then◌else◌};
+ghost use Rattle.std.specs.Prelude.{◌≡◌, ◌+◌, ◌^◌, ◌<◌, ◌≤◌, ℕ, List, [], ◌∷◌, ◌++◌, true, false, nat_lt, length, drop, map, IfOk, OnOk, OnErr, IsTrue, None, Some, ◌&&◌, ◌==◌, if◌then◌else◌};
 ghost use Rattle.dpc_model.specs.Lists.{nth, changed, list_all, list_any};
 ghost use Rattle.dpc_model.specs.Parts.{shown_of};
 ghost use Rattle.dpc_model.specs.declared.tuples.Tuple.{Tuple};
@@ -186,6 +186,13 @@ fn batches(alloc: Global, items: Vec<Item>, sessions: &[Sub]) -> Result<Sends, N
     Ok(sends)
 }
 
+/// Whether each session can count one batch more.
+fn can_count(sessions: &[Sub]) -> bool
+    ensures { result ≡ list_all (λ (s : Sub). nat_lt (s.batches + 1) (2 ^ 64)) sessions.now }
+{
+    sessions.iter().all(|session| session.batches < u64::MAX)
+}
+
 /// Counts one batch more in each open session.
 fn count_batches(sessions: &mut [Sub])
     requires { list_all (λ (s : Sub). nat_lt (s.batches + 1) (2 ^ 64)) sessions.old ≡ true }
@@ -243,6 +250,15 @@ impl SOutput {
             self.count_batch();
         }
         Ok(sends)
+    }
+
+    /// Whether no number passes its range by one batch and so many tuples more. It takes no memory.
+    pub fn has_room(&self, tuples: usize) -> bool
+        ensures yes { IsTrue result → HasRoom self.now tuples }
+        ensures no { HasRoom self.now tuples → IsTrue result }
+    {
+        let count = self.buffer.count().checked_add(tuples as u64);
+        count.is_some() && can_count(self.sessions.as_slice())
     }
 
     /// Gives stable tuples, with how far they go.
