@@ -204,6 +204,13 @@ impl OutputBuffer {
         self.base
     }
 
+    /// The tuples from the base on. It takes no memory.
+    pub fn kept(&self) -> &VecDeque<Tuple>
+        ensures { result.now.items ≡ self.now.kept }
+    {
+        &self.kept
+    }
+
     /// How many tuples there were. It takes no memory.
     pub fn count(&self) -> u64
         ensures { result ≡ count_of self.now }

@@ -252,6 +252,13 @@ impl SOutput {
         Ok(sends)
     }
 
+    /// How many readers there are. It takes no memory.
+    pub fn readers(&self) -> usize
+        ensures { result ≡ length self.now.subs }
+    {
+        self.sessions.len()
+    }
+
     /// Whether no number passes its range by one batch and so many tuples more. It takes no memory.
     pub fn has_room(&self, tuples: usize) -> bool
         ensures yes { IsTrue result → HasRoom self.now tuples }
