@@ -38,12 +38,12 @@ fn what_every_reader_acknowledged_goes(rt: HostRuntime) -> Result<(), Fail> {
     let alloc = rt.alloc();
     let mut buffer = OutputBuffer::new(alloc, 2)?;
     buffer.append(tuples(alloc, &[3, 5, 9])?)?;
-    buffer.ack(0, 1, 3);
+    buffer.ack(0, 1, 2);
     assert_eq!(rt; buffer.base(), 0);
-    buffer.ack(1, 1, 2);
-    assert_eq!(rt; (buffer.base(), buffer.count()), (2, 3));
-    assert!(rt; gives(alloc, &buffer, 2, &items(alloc, 2, &[9])?));
-    assert!(rt; matches!(buffer.from(alloc, 1), Err(FromFault::Truncated { base: 2 })));
+    buffer.ack(1, 1, 1);
+    assert_eq!(rt; (buffer.base(), buffer.count()), (1, 3));
+    assert!(rt; matches!(buffer.from(alloc, 0), Err(FromFault::Truncated { base: 1 })));
+    assert!(rt; gives(alloc, &buffer, 1, &items(alloc, 1, &[5, 9])?));
     Ok(())
 }
 
