@@ -1,0 +1,13 @@
+use Rattle.std.proofs.Common.{◌<◌, ◌∙◌, ap, sym, subst, List, length}
+use Rattle.dpc_model.specs.Lists.{changed}
+use Rattle.dpc_model.specs.Replicas.{Watch, after_beat}
+use Rattle.input_monitor.proofs.Mapped.{refill-changed}
+use Rattle.input_monitor.proofs.monitor.Monitor.note_beat.Goals as goal
+
+pub returns : goal.returns
+returns c =
+    let low = subst (λ (ws : List Watch). c.args.r < length ws) (sym c.self.view_is) c.requires in
+    refill-changed c.self.inside.watches.items c.deref_mut.result.now c.args.r (after_beat c.args.inc c.args.state c.args.recovering) c.index-deref_mut-r.result c.note_beat.new.self
+    c.deref_mut.ensures.value low c.index-deref_mut-r.is
+    (c.note_beat.ensures ∙ ap (after_beat c.args.inc c.args.state c.args.recovering) (sym c.index-deref_mut-r.is))
+    ∙ ap (λ (ws : List Watch). changed c.args.r (after_beat c.args.inc c.args.state c.args.recovering) ws) c.self.view_is

@@ -1,0 +1,8 @@
+//! What a reader knows of the replicas that send its stream.
+#![tactic(auto)]
+
+pub mod monitor;
+pub mod ranks;
+#[cfg(test)]
+mod tests;
+mod watch;

@@ -1,0 +1,6 @@
+//! Which replica of a stream a reader reads.
+#![tactic(auto)]
+
+pub mod choice;
+#[cfg(test)]
+mod tests;
