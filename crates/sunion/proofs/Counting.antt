@@ -1,0 +1,132 @@
+-- Numbers over all ports, and all ports changed, one port more.
+use Rattle.std.proofs.Common.{◌≡◌, ℕ, zero, suc, ◌+◌, ◌*◌, ◌/◌, ◌<◌, ◌≤◌, Bool, true, false, nat_lt, nat_le, ◌&&◌, ◌||◌, not, ◌-◌, max, if◌then◌else◌, Some, None, List, [], ◌∷◌, ◌++◌, map, take, drop, length, min, refl, sym, ap, ◌∙◌, arith, slice_index_or, slice_set}
+use Rattle.std.proofs.lemmas.Bool.{ltb-true, ltb-false, lt-ltb, le-leb, leb-true}
+use Rattle.std.proofs.lemmas.Grind.{common_steps}
+use Rattle.std.proofs.Math.Nat.{le-div_iff_mul-le}
+use Rattle.std.proofs.lemmas.Nat.{le-div}
+use Rattle.dpc_model.specs.Lists.{last_below, list_all}
+use Rattle.dpc_model.specs.Due.{reach, is_passed}
+use Rattle.dpc_model.specs.Reading.{Reader}
+use Rattle.dpc_model.specs.PartStands.{InletValue}
+use Rattle.sunion.specs.Ports.{least_over, forgetting, passed_at, complete_at, passing_view}
+
+pub least_over-more : (f : InletValue → ℕ) (most : ℕ) (ports : List InletValue) (i : ℕ) (port : InletValue) → i < length ports → port ≡ slice_index_or ports i port →
+    least_over f most (take (i + 1) ports) ≡ min (least_over f most (take i ports)) (f port)
+least_over-more f most [] i port low e = absurd (omega (arith, low))
+least_over-more f most (p ∷ ports) zero port low e = let same = ap f e in omega (arith, same)
+least_over-more f most (p ∷ ports) (suc i) port low e =
+    let next : suc i + 1 ≡ suc (i + 1) = omega arith in
+    let rest = least_over-more f most ports i port (omega (arith, low)) e in
+    rw next (omega (arith, rest))
+
+pub least_over-within : (f : InletValue → ℕ) (most : ℕ) (ports : List InletValue) → least_over f most ports ≤ most
+least_over-within f most [] = omega arith
+least_over-within f most (p ∷ ports) = let rest = least_over-within f most ports in omega (arith, rest)
+
+-- ---- so many ports changed
+
+abbrev pub forgetting_to : ℕ → ℕ → List InletValue → List InletValue
+forgetting_to time i ports = map (forgetting time) (take i ports) ++ drop i ports
+
+pub forgetting-more : (time i : ℕ) (ports : List InletValue) (port d : InletValue) → i < length ports → port ≡ forgetting time (slice_index_or (forgetting_to time i ports) i d) →
+    slice_set (forgetting_to time i ports) i port ≡ forgetting_to time (i + 1) ports
+forgetting-more time i [] port d low e = absurd (omega (arith, low))
+forgetting-more time zero (p ∷ ports) port d low e = rw e refl
+forgetting-more time (suc i) (p ∷ ports) port d low e =
+    let next : suc i + 1 ≡ suc (i + 1) = omega arith in
+    rw next (ap (λ (ps : List InletValue). forgetting time p ∷ ps) (forgetting-more time i ports port d (omega (arith, low)) e))
+
+-- one that did not forget yet is as it was
+pub forgetting-yet : (time i : ℕ) (ports : List InletValue) (d : InletValue) → slice_index_or (forgetting_to time i ports) i d ≡ slice_index_or ports i d
+forgetting-yet time zero ports d = refl
+forgetting-yet time (suc i) [] d = refl
+forgetting-yet time (suc i) (p ∷ ports) d = forgetting-yet time i ports d
+
+pub forgetting-all : (time i : ℕ) (ports : List InletValue) → length ports ≤ i → forgetting_to time i ports ≡ map (forgetting time) ports
+forgetting-all time zero [] h = refl
+forgetting-all time (suc i) [] h = refl
+forgetting-all time zero (p ∷ ports) h = absurd (omega (arith, h))
+forgetting-all time (suc i) (p ∷ ports) h = ap (λ (ps : List InletValue). forgetting time p ∷ ps) (forgetting-all time i ports (omega (arith, h)))
+
+-- ---- the last number that passes a test
+
+pub last-none : (test : ℕ → Bool) (n : ℕ) → ((k : ℕ) → k < n → test k ≡ false) → last_below test n ≡ None
+last-none test zero h = refl
+last-none test (suc n) h = rw (h n (omega arith)) (last-none test n (λ k low. h k (omega (arith, low))))
+
+pub last-some : (test : ℕ → Bool) (n k : ℕ) → k < n → test k ≡ true → ((j : ℕ) → k < j → j < n → test j ≡ false) → last_below test n ≡ Some k
+last-some test zero k low e h = absurd (omega (arith, low))
+last-some test (suc n) k low e h =
+    (elim (nat_lt k n) as (λ b. nat_lt k n ≡ b → last_below test (suc n) ≡ Some k) [
+      | true ↦ λ more. let less = ltb-true k n more in rw (h n less (omega arith)) (last-some test n k less e (λ j up down. h j up (omega (arith, down))))
+      | false ↦ λ more. let last : n ≡ k = let past = ltb-false k n more in omega (arith, past, low) in rw (last, e) refl
+    ]) refl
+
+-- ---- buckets that every port passes
+
+below-div : (width k n : ℕ) → 0 < width → nat_le ((k + 1) * width) n ≡ nat_lt k (n / width)
+below-div width k n some =
+    (elim (nat_le ((k + 1) * width) n) as (λ b. nat_le ((k + 1) * width) n ≡ b → b ≡ nat_lt k (n / width)) [
+      | true ↦ λ e. let more = le-div (k + 1) n width some (leb-true ((k + 1) * width) n e) in sym (lt-ltb k (n / width) (omega (arith, more)))
+      | false ↦ λ e.
+          (elim (nat_lt k (n / width)) as (λ b. nat_lt k (n / width) ≡ b → false ≡ b) [
+            | true ↦ λ low.
+                let less = ltb-true k (n / width) low in
+                let all : (k + 1) * width ≤ n = (le-div_iff_mul-le {k = width} {x = k + 1} {y = n} some).0 (omega (arith, less)) in
+                sym e ∙ le-leb ((k + 1) * width) n all
+            | false ↦ λ low. refl
+          ]) refl
+    ]) refl
+
+all-below : (f : InletValue → ℕ) (most k : ℕ) (ports : List InletValue) → k < most → list_all (λ (p : InletValue). nat_lt k (f p)) ports ≡ nat_lt k (least_over f most ports)
+all-below f most k [] low = sym (lt-ltb k most low)
+all-below f most k (p ∷ ports) low = let rest = all-below f most k ports low in rw rest (both (f p) (least_over f most ports))
+  where
+    both : (a b : ℕ) → (nat_lt k a && nat_lt k b) ≡ nat_lt k (min a b)
+    both a b = grind (arith, common_steps)
+
+reaching : (width k : ℕ) → 0 < width → (ports : List InletValue) → (f : Reader → ℕ) →
+    list_all (λ (r : Reader). nat_le ((k + 1) * width) (f r)) (map (λ (i : InletValue). i.state.held) ports) ≡ list_all (λ (p : InletValue). nat_lt k (f p.state.held / width)) ports
+reaching width k some [] f = refl
+reaching width k some (p ∷ ports) f = rw (below-div width k (f p.state.held) some, reaching width k some ports f) refl
+
+-- whether a bucket is passed, by the two counts
+pub passed-by : (width buckets view : ℕ) (any_closed : Bool) (ports : List InletValue) (k : ℕ) → 0 < width → k < buckets →
+    is_passed (passing_view width ports view any_closed) k
+    ≡ (nat_le view k && nat_lt k (least_over (passed_at width) buckets ports) && (any_closed || not (nat_lt k (least_over (complete_at width) buckets ports))))
+passed-by width buckets view any_closed ports k some low =
+    rw (reaching width k some ports reach, reaching width k some ports (λ (r : Reader). r.bound), all-below (passed_at width) buckets k ports low, all-below (complete_at width) buckets k ports low) refl
+
+-- the first bucket that can be the last passed one
+abbrev pub passing_from : ℕ → ℕ → ℕ → Bool → List InletValue → ℕ
+passing_from width buckets view any_closed ports = if any_closed then view else max view (least_over (complete_at width) buckets ports)
+
+pub passed-last : (width buckets view : ℕ) (any_closed : Bool) (ports : List InletValue) → 0 < width →
+    passing_from width buckets view any_closed ports < least_over (passed_at width) buckets ports →
+    last_below (is_passed (passing_view width ports view any_closed)) buckets ≡ Some (least_over (passed_at width) buckets ports - 1)
+passed-last width buckets view any_closed ports some h =
+    let end = least_over (passed_at width) buckets ports in
+    let complete = least_over (complete_at width) buckets ports in
+    let within : end ≤ buckets = least_over-within (passed_at width) buckets ports in
+    last-some (is_passed (passing_view width ports view any_closed)) buckets (end - 1) (omega (arith, within, h))
+    (passed-by width buckets view any_closed ports (end - 1) some (omega (arith, within, h)) ∙ here end complete view any_closed h)
+    (λ j up down. passed-by width buckets view any_closed ports j some down ∙ past end complete view j any_closed (omega (arith, up)))
+  where
+    here : (end complete view : ℕ) (any : Bool) → (if any then view else max view complete) < end →
+        (nat_le view (end - 1) && nat_lt (end - 1) end && (any || not (nat_lt (end - 1) complete))) ≡ true
+    here end complete view true h = grind (arith, common_steps, h)
+    here end complete view false h = grind (arith, common_steps, h)
+
+    past : (end complete view j : ℕ) (any : Bool) → end ≤ j → (nat_le view j && nat_lt j end && (any || not (nat_lt j complete))) ≡ false
+    past end complete view j any h = grind (arith, common_steps, h)
+
+pub passed-none : (width buckets view : ℕ) (any_closed : Bool) (ports : List InletValue) → 0 < width →
+    least_over (passed_at width) buckets ports ≤ passing_from width buckets view any_closed ports →
+    last_below (is_passed (passing_view width ports view any_closed)) buckets ≡ None
+passed-none width buckets view any_closed ports some h =
+    last-none (is_passed (passing_view width ports view any_closed)) buckets
+    (λ k low. passed-by width buckets view any_closed ports k some low ∙ none (least_over (passed_at width) buckets ports) (least_over (complete_at width) buckets ports) view k any_closed h)
+  where
+    none : (end complete view k : ℕ) (any : Bool) → end ≤ (if any then view else max view complete) → (nat_le view k && nat_lt k end && (any || not (nat_lt k complete))) ≡ false
+    none end complete view k true h = grind (arith, common_steps, h)
+    none end complete view k false h = grind (arith, common_steps, h)

@@ -1,0 +1,75 @@
+-- The laws of how inputs go on to stand for the plain ones.
+use Rattle.std.proofs.Common.{ℕ, zero, suc, ◌*◌, ◌<◌, List, [], ◌∷◌, map, length, replicate, refl, arith, length-append}
+use Rattle.std.proofs.lemmas.List.Elements.{All-head, All-tail}
+use Rattle.std.specs.List.{All, AllZip}
+use Rattle.dpc_model.specs.Inlets.{InletState, new_inlet, restarted_inlet, sess_of, with_next_session, after_link}
+use Rattle.dpc_model.specs.Parts.{view_of}
+use Rattle.dpc_model.specs.PartStands.{InletValue, StandsForInlet}
+use Rattle.dpc_model.specs.Reading.{stable_reader}
+use Rattle.dpc_model.specs.declared.tuples.Tuple.{Tuple}
+use Rattle.inlet.proofs.Standing.{new-stands, start_at-stands, reopen-stands, heard-stands, heard-tells, renumber-stands}
+use Rattle.sunion.specs.Laws.{StartStands, ClosingStands, UndoingStands, SessionsStand, HearingTells}
+use Rattle.sunion.specs.Ports.{at_opening, behind_snapshot}
+use Rattle.sunion.specs.Unions.{bucket_in, no_inlet, no_value}
+use Rattle.dpc_model.specs.Lists.{nth}
+use Rattle.sunion.proofs.Standing.{stands-at, stands-changed}
+
+new-each : (b inc n : ℕ) → AllZip (StandsForInlet b) (replicate n (at_opening inc)) (replicate n (new_inlet inc))
+new-each b inc zero = tt
+new-each b inc (suc n) = (new-stands b inc, new-each b inc n)
+
+restarted-each : (b inc : ℕ) (streams : List (List Tuple)) → All (λ (ts : List Tuple). All (λ (t : Tuple). t.stime < b) ts) streams →
+    AllZip (StandsForInlet b) (map (behind_snapshot inc b) (map (λ (ts : List Tuple). length ts) streams)) (map (λ (ts : List Tuple). restarted_inlet (stable_reader ts b) (sess_of inc 0)) streams)
+restarted-each b inc [] low = tt
+restarted-each b inc (ts ∷ streams) low = (
+  start_at-stands b b (sess_of inc 0) ts (All-head (λ (ts : List Tuple). All (λ (t : Tuple). t.stime < b) ts) ts streams low),
+  restarted-each b inc streams (All-tail (λ (ts : List Tuple). All (λ (t : Tuple). t.stime < b) ts) ts streams low),
+)
+
+pub start-stands : StartStands
+start-stands = (
+  λ ports width end delay inc. record { inlets = new-each (0 * width) inc ports; stamps = λ k. refl; cursor = refl; closed = refl },
+  λ width end delay inc cursor streams low. record { inlets = restarted-each (cursor * width) inc streams low; stamps = λ k. refl; cursor = refl; closed = refl },
+)
+
+pub closing-stands : ClosingStands
+closing-stands v x h = record {
+  inlets = h.inlets;
+  stamps = h.stamps;
+  cursor = h.cursor;
+  closed = let more = length-append x.closed (bucket_in v.width x (view_of x) ∷ []) in let closed = h.closed in omega (arith, more, closed);
+}
+
+pub undoing-stands : UndoingStands
+undoing-stands v x h = record { inlets = h.inlets; stamps = h.stamps; cursor = h.cursor; closed = refl }
+
+pub sessions-stand : SessionsStand
+sessions-stand v x port h =
+    let b = x.cursor * v.width in (
+      record {
+        inlets = stands-changed b port (λ (i : InletValue). record i { state = with_next_session i.state }) with_next_session v.union.inlets x.inlets (λ i y s. reopen-stands b i y s) h.inlets;
+        stamps = h.stamps;
+        cursor = h.cursor;
+        closed = h.closed;
+      },
+      λ link. record {
+        inlets =
+            stands-changed b port (λ (i : InletValue). record i { state = after_link i.state link }) (λ (y : InletState). after_link y link) v.union.inlets x.inlets
+            (λ i y s. heard-stands b i y link s) h.inlets;
+        stamps = h.stamps;
+        cursor = h.cursor;
+        closed = h.closed;
+      },
+      λ number. record {
+        inlets =
+            stands-changed b port (λ (i : InletValue). record i { state = record i.state { sess = sess_of i.state.sess.inc number } }) (λ (y : InletState). record y { sess = sess_of y.sess.inc number })
+            v.union.inlets x.inlets (λ i y s. renumber-stands b i y number s) h.inlets;
+        stamps = h.stamps;
+        cursor = h.cursor;
+        closed = h.closed;
+      },
+    )
+
+pub hearing-tells : HearingTells
+hearing-tells v x port link low h =
+    let b = x.cursor * v.width in heard-tells b (nth no_value v.union.inlets port) (nth no_inlet x.inlets port) link (stands-at b port v.union.inlets x.inlets low h.inlets)

@@ -1,0 +1,79 @@
+-- The places for buckets' stamps, step by step.
+use Rattle.std.proofs.Common.{◌≡◌, ℕ, zero, suc, ◌+◌, ◌-◌, ◌/◌, ◌<◌, ◌≤◌, Bool, true, false, nat_le, ◌&&◌, List, [], ◌∷◌, ◌++◌, take, drop, length, refl, sym, ap, ◌∙◌, arith, Option, Some, None, slice_index_or}
+use Rattle.std.proofs.lemmas.List.{take_more}
+use Rattle.std.proofs.lemmas.List.Elements.{All-append, All-weaker}
+use Rattle.std.proofs.lemmas.Grind.{common_steps}
+use Rattle.std.specs.List.{All}
+use Rattle.std.specs.Prelude.{is_some}
+use Rattle.dpc_model.specs.Lists.{nth, changed, last_below}
+use Rattle.dpc_model.specs.Due.{Stamps, waited_long}
+use Rattle.dpc_model.specs.Reading.{tuples_in}
+use Rattle.dpc_model.specs.declared.tuples.Tuple.{Tuple}
+use Rattle.dpc_model.specs.declared.tuples.Item.{Item}
+use Rattle.dpc_model.specs.declared.tuples.Item.TheVariants.{Stable, Tentative, Passed, Boundary, Undo, RecDone}
+use Rattle.sunion.specs.Clocks.{stamps_from, first_stamp}
+
+-- a place from this one on waited too long
+abbrev pub is_waiting : List (Option ℕ) → ℕ → ℕ → ℕ → ℕ → Bool
+is_waiting clocks from delay now place = nat_le from place && waited_long (nth None clocks place) delay now
+
+-- a place more that says nothing
+pub stamps_from-push : (k : ℕ) (clocks : List (Option ℕ)) → stamps_from k (clocks ++ None ∷ []) ≡ stamps_from k clocks
+stamps_from-push k [] = refl
+stamps_from-push k (None ∷ clocks) = stamps_from-push (k + 1) clocks
+stamps_from-push k (Some at ∷ clocks) = ap (λ (ss : Stamps). (k, at) ∷ ss) (stamps_from-push (k + 1) clocks)
+
+-- ---- a change that changes nothing
+
+pub changed-past : {X : Type 0} (i : ℕ) (f : X → X) (xs : List X) → length xs ≤ i → changed i f xs ≡ xs
+changed-past i f [] h = refl
+changed-past zero f (x ∷ xs) h = absurd (omega (arith, h))
+changed-past {X = X} (suc i) f (x ∷ xs) h = ap (λ (ys : List X). x ∷ ys) (changed-past i f xs (omega (arith, h)))
+
+pub changed-fixed : {X : Type 0} (i : ℕ) (f : X → X) (xs : List X) (x : X) → x ≡ slice_index_or xs i x → f x ≡ x → changed i f xs ≡ xs
+changed-fixed i f [] x e k = refl
+changed-fixed {X = X} zero f (y ∷ xs) x e k = ap (λ (z : X). z ∷ xs) (ap f (sym e) ∙ k ∙ e)
+changed-fixed {X = X} (suc i) f (y ∷ xs) x e k = ap (λ (ys : List X). y ∷ ys) (changed-fixed i f xs x e k)
+
+pub no_stamp : (now : ℕ) (stamp : Option ℕ) → is_some stamp ≡ false → first_stamp now None ≡ first_stamp now stamp
+no_stamp now None e = refl
+no_stamp now (Some at) e = absurd (cc)
+
+pub stamp-kept : (now : ℕ) (stamp : Option ℕ) → is_some stamp ≡ true → first_stamp now stamp ≡ stamp
+stamp-kept now None e = absurd (cc)
+stamp-kept now (Some at) e = refl
+
+-- no place before the first one is asked for
+pub none-waiting : (clocks : List (Option ℕ)) (from delay now n : ℕ) → n ≤ from → last_below (is_waiting clocks from delay now) n ≡ None
+none-waiting clocks from delay now zero h = refl
+none-waiting clocks from delay now (suc n) h =
+    let early : nat_le from n ≡ false = grind (arith, common_steps, h) in
+    rw early (none-waiting clocks from delay now n (omega (arith, h)))
+
+-- ---- the tuples of items, one item more
+
+tuples_in-append : (items more : List Item) → tuples_in (items ++ more) ≡ tuples_in items ++ tuples_in more
+tuples_in-append [] more = refl
+tuples_in-append (Stable k t ∷ items) more = ap (λ (ts : List Tuple). t ∷ ts) (tuples_in-append items more)
+tuples_in-append (Tentative t ∷ items) more = ap (λ (ts : List Tuple). t ∷ ts) (tuples_in-append items more)
+tuples_in-append (Passed b ∷ items) more = tuples_in-append items more
+tuples_in-append (Boundary b m ∷ items) more = tuples_in-append items more
+tuples_in-append (Undo n ∷ items) more = tuples_in-append items more
+tuples_in-append (RecDone ∷ items) more = tuples_in-append items more
+
+pub farthest-more : (width cursor i : ℕ) (items : List Item) (item : Item) (old here new : ℕ) → i < length items → item ≡ slice_index_or items i item →
+    All (λ (t : Tuple). t.stime / width - cursor ≤ old) (tuples_in (take i items)) → All (λ (t : Tuple). t.stime / width - cursor ≤ here) (tuples_in (item ∷ [])) →
+    old ≤ new → here ≤ new → All (λ (t : Tuple). t.stime / width - cursor ≤ new) (tuples_in (take (i + 1) items))
+farthest-more width cursor i items item old here new low e far one more up =
+    let taken : take (i + 1) items ≡ take i items ++ item ∷ [] = take_more items i item low ∙ ap (λ (x : Item). take i items ++ x ∷ []) (sym e) in
+    rw (taken, tuples_in-append (take i items) (item ∷ []))
+    (All-append (λ (t : Tuple). t.stime / width - cursor ≤ new) (tuples_in (take i items)) (tuples_in (item ∷ []))
+    (All-weaker (λ (t : Tuple). t.stime / width - cursor ≤ old) (λ (t : Tuple). t.stime / width - cursor ≤ new) (λ t h. omega (arith, h, more)) (tuples_in (take i items)) far)
+    (All-weaker (λ (t : Tuple). t.stime / width - cursor ≤ here) (λ (t : Tuple). t.stime / width - cursor ≤ new) (λ t h. omega (arith, h, up)) (tuples_in (item ∷ [])) one))
+
+-- ---- lists from a place on
+
+pub drop-at : {X : Type 0} (i : ℕ) (xs : List X) (x : X) → i < length xs → x ≡ slice_index_or xs i x → drop i xs ≡ x ∷ drop (i + 1) xs
+drop-at i [] x low e = absurd (omega (arith, low))
+drop-at {X = X} zero (y ∷ xs) x low e = ap (λ (z : X). z ∷ xs) (sym e)
+drop-at (suc i) (y ∷ xs) x low e = let next : suc i + 1 ≡ suc (i + 1) = omega arith in rw next (drop-at i xs x (omega (arith, low)) e)

@@ -1,0 +1,7 @@
+use Rattle.std.proofs.Common.{◌≡◌, take}
+use Rattle.sunion.specs.Ports.{least_over, complete_at}
+use Rattle.sunion.proofs.spans.count_complete.Given as goal
+
+-- the least so far
+abbrev pub invariant-loop-port : goal.invariant-loop-port
+invariant-loop-port l = l.least ≡ least_over (complete_at l.width) l.most (take l.port-index l.ports)

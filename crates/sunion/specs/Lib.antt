@@ -1,0 +1,5 @@
+pub mod Clocks
+pub mod Laws
+pub mod Ports
+pub mod Unions
+pub mod Values

@@ -1,0 +1,114 @@
+//! When the first tuple of each bucket came: a place for each bucket, from the cursor's on.
+ghost use Rattle.std.specs.Prelude.{◌≡◌, ◌≤◌, ◌<◌, ◌-◌, ◌/◌, ℕ, length, drop, OnOk, All, [], ◌∷◌, nat_le, ◌&&◌, None};
+ghost use Rattle.dpc_model.specs.Lists.{changed, last_below, nth};
+ghost use Rattle.dpc_model.specs.Due.{waited_long};
+ghost use Rattle.dpc_model.specs.Reading.{tuples_in};
+ghost use Rattle.dpc_model.specs.declared.tuples.Tuple.{Tuple};
+ghost use Rattle.sunion.specs.Clocks.{stamps_from, first_stamp, stamped};
+
+use dpc_model::faults::NoMemory;
+use dpc_model::tuples::Item;
+use std::collections::VecDeque;
+
+/// The clock at which the first tuple of each bucket came.
+pub type Clocks = VecDeque<Option<u64>>;
+
+/// How far from the cursor's bucket on an item's tuple lies; 0 where there is none.
+fn distance(width: u64, cursor: u64, item: &Item) -> u64
+    requires { 0 < width }
+    ensures { All (λ (t : Tuple). t.stime / width - cursor ≤ result) (tuples_in (item.now ∷ [])) }
+{
+    match item {
+        Item::Stable(_, tuple) | Item::Tentative(tuple) => {
+            (tuple.stime / width).saturating_sub(cursor)
+        }
+        _ => 0,
+    }
+}
+
+/// The farthest place among the buckets of the items' tuples; 0 where there is none.
+pub fn farthest(width: u64, cursor: u64, items: &[Item]) -> u64
+    requires { 0 < width }
+    ensures { All (λ (t : Tuple). t.stime / width - cursor ≤ result) (tuples_in items.now) }
+{
+    let mut farthest: u64 = 0;
+    for item in items {
+        farthest = farthest.max(distance(width, cursor, item));
+    }
+    farthest
+}
+
+/// Makes places up to this one. They say nothing yet, also where there is no memory for all of them.
+pub fn make_places(clocks: &mut Clocks, place: u64) -> Result<(), NoMemory>
+    ensures ok { OnOk result (place < length clocks.new.items) }
+    ensures same { (first : ℕ) → stamps_from first clocks.new.items ≡ stamps_from first clocks.old.items }
+{
+    let len = clocks.len() as u64;
+    if place < len {
+        return Ok(());
+    }
+    clocks.reserve((place - len) as usize)?;
+    while clocks.len() as u64 <= place {
+        clocks.push_back(None)?;
+    }
+    Ok(())
+}
+
+/// A place gets a stamp, where it is there and has none.
+fn stamp_place(clocks: &mut Clocks, place: u64, now: u64)
+    ensures { clocks.new.items ≡ changed place (first_stamp now) clocks.old.items }
+{
+    if let Some(stamp) = clocks.get(place as usize) {
+        if stamp.is_none() {
+            clocks[place as usize] = Some(now);
+        }
+    }
+}
+
+/// Tuples of these times came.
+pub fn stamp(clocks: &mut Clocks, width: u64, cursor: u64, times: &[u64], now: u64)
+    requires { 0 < width }
+    ensures { clocks.new.items ≡ stamped width cursor now clocks.old.items times.now }
+{
+    for time in times {
+        if let Some(place) = (*time / width).checked_sub(cursor) {
+            stamp_place(clocks, place, now);
+        }
+    }
+}
+
+/// Whether the stamp of a place is there, and `delay` old or older.
+fn waits(clocks: &Clocks, place: u64, delay: u64, now: u64) -> bool
+    ensures { result ≡ waited_long (nth None clocks.now.items place) delay now }
+{
+    match clocks.get(place as usize) {
+        Some(Some(at)) => *at <= now && now - *at >= delay,
+        _ => false,
+    }
+}
+
+/// The last of the places from `from` on and below `end` whose stamp is `delay` old or older.
+pub fn last_waiting(clocks: &Clocks, from: u64, end: u64, delay: u64, now: u64) -> Option<u64>
+    requires { end ≤ length clocks.now.items }
+    ensures { result ≡ last_below (λ place. nat_le from place && waited_long (nth None clocks.now.items place) delay now) end }
+{
+    let mut end = end;
+    while end > from {
+        end -= 1;
+        if waits(clocks, end, delay, now) {
+            return Some(end);
+        }
+    }
+    None
+}
+
+/// Lets the first places go.
+pub fn drop_places(clocks: &mut Clocks, count: u64)
+    ensures { clocks.new.items ≡ drop count clocks.old.items }
+{
+    let mut left = count;
+    while left > 0 && !clocks.is_empty() {
+        clocks.pop_front();
+        left -= 1;
+    }
+}
