@@ -1,0 +1,10 @@
+pub mod Judging
+pub mod Logs
+pub mod Places
+pub mod AllSources
+pub mod Standing
+pub mod Operating
+pub mod Clienting
+pub mod Running
+pub mod Looking
+pub mod Wholes

@@ -1,0 +1,4 @@
+pub mod Judging
+pub mod Locals
+pub mod Rooms
+pub mod Behind

@@ -1,0 +1,20 @@
+//! What a script's value must keep: the ranges of its names, numbers and counts, and the reasons 7 to 14 of each line of its
+//! canonical text. No function takes memory.
+#![tactic(auto)]
+
+mod clients;
+mod directives;
+mod first_fault;
+mod fragments;
+mod headers;
+mod links;
+mod names;
+mod operator_ranges;
+mod operators;
+mod ranges;
+mod sources;
+#[cfg(test)]
+mod tests;
+
+pub use first_fault::check;
+pub use ranges::is_in_range;
