@@ -104,9 +104,11 @@ module _ (plan : Plan) (before : List FragSpec) (columns : List ℕ) (f : FragSp
       let g = operator_statement plan f in
       let whole = take_all i ops far in
       let inside = h.inside d x in
-      let ends = fragment_ends plan before columns f (take i ops) outs inside.front inside.last inside.stand inside.stands (whole ∙ all) in
-      (subst (λ l. Judges (Ok next) n d (map g l)) whole (h.judged n d at x), subst (λ l. IsBehind plan (before ++ f ∷ []) (columns ++ unwrap_or (last_or None outs) 0 ∷ []) (all_said d (map g l))) whole
-      (subst (IsBehind plan (before ++ f ∷ []) (columns ++ unwrap_or (last_or None outs) 0 ∷ [])) (sym inside.draft) ends))
+      let ends = fragment_ends plan before columns f (take i ops) outs inside.front inside.last inside.stand inside.stands (whole ∙ all) in (
+        subst (λ l. Judges (Ok next) n d (map g l)) whole (h.judged n d at x),
+        subst (λ l. IsBehind plan (before ++ f ∷ []) (columns ++ unwrap_or (last_or None outs) 0 ∷ []) (all_said d (map g l))) whole
+            (subst (IsBehind plan (before ++ f ∷ []) (columns ++ unwrap_or (last_or None outs) 0 ∷ [])) (sym inside.draft) ends),
+      )
 
   -- ---- a fragment
 
@@ -134,9 +136,10 @@ module _ (plan : Plan) (before : List FragSpec) (columns : List ℕ) (f : FragSp
       let s = FragmentLine f.name f.replicas (map (stream_name plan) f.inputs) in
       let first = first_judged line next n d none at more b in
       let x = first.1 in
-      let second : Judges (Ok (told (next + 1))) (n + 1) (and_then d s) (PatienceLine delay ∷ []) = judges_one next (told (next + 1)) (n + 1) (and_then d s) (PatienceLine delay) first.0.0 refl refl in
-      (judges_then (Ok (told (next + 1))) next n d (s ∷ []) (PatienceLine delay ∷ []) first.0 second,
-      subst (λ e. IsInside plan before columns f [] [] (and_then e (PatienceLine delay))) (sym x.draft) (patience_inside plan before columns f [] [] x.front x.last x.stand x.stands delay))
+      let second : Judges (Ok (told (next + 1))) (n + 1) (and_then d s) (PatienceLine delay ∷ []) = judges_one next (told (next + 1)) (n + 1) (and_then d s) (PatienceLine delay) first.0.0 refl refl in (
+        judges_then (Ok (told (next + 1))) next n d (s ∷ []) (PatienceLine delay ∷ []) first.0 second,
+        subst (λ e. IsInside plan before columns f [] [] (and_then e (PatienceLine delay))) (sym x.draft) (patience_inside plan before columns f [] [] x.front x.last x.stand x.stands delay),
+      )
 
   pub fragment_judged : (r : Result (ℕ × ℕ) PlanFault) (line next begin n : ℕ) (d : Draft) → first_of_tests (against_fragment plan before f) ≡ None → line ≡ told n → next ≡ told (line + 1) → begin ≡ behind_delay f.delay next →
       ((m : ℕ) (e : Draft) → begin ≡ told m → IsInside plan before columns f [] [] e → JudgesFragment r m plan before columns f e (map (operator_statement plan f) f.ops)) →
@@ -148,9 +151,10 @@ module _ (plan : Plan) (before : List FragSpec) (columns : List ℕ) (f : FragSp
     where
       both : (r : Result (ℕ × ℕ) PlanFault) (begin n : ℕ) (d : Draft) → IsInside plan before columns f [] [] (all_said d (head_of f.delay)) → Judges (Ok begin) n d (head_of f.delay) →
           JudgesFragment r (n + length (head_of f.delay)) plan before columns f (all_said d (head_of f.delay)) (map (operator_statement plan f) f.ops) → JudgesFragment r n plan before columns f d (frag_statements plan f)
-      both (Ok x) begin n d inside h k =
-          (judges_then (Ok x.0) begin n d (head_of f.delay) (map (operator_statement plan f) f.ops) h k.0,
-          subst (IsBehind plan (before ++ f ∷ []) (columns ++ x.1 ∷ [])) (sym (said-append d (head_of f.delay) (map (operator_statement plan f) f.ops))) k.1)
+      both (Ok x) begin n d inside h k = (
+        judges_then (Ok x.0) begin n d (head_of f.delay) (map (operator_statement plan f) f.ops) h k.0,
+        subst (IsBehind plan (before ++ f ∷ []) (columns ++ x.1 ∷ [])) (sym (said-append d (head_of f.delay) (map (operator_statement plan f) f.ops))) k.1,
+      )
       both (Err fault) begin n d inside h k = judges_then (Err fault) begin n d (head_of f.delay) (map (operator_statement plan f) f.ops) h k
 
 -- ---- all fragments
@@ -183,10 +187,11 @@ frags_go_on plan line fs i columns next x f low is h judges =
       long = let sum = length-append columns (x.1 ∷ []) in let before_long = h.long in omega (arith, sum, before_long);
       judged = λ n at.
           let so_far = h.judged n at in
-          let one = judges (n + length done) (all_said d done) so_far.0.0 so_far.1 in
-          (subst (Judges (Ok x.0) n d) (sym lines) (judges_then (Ok x.0) next n d done (g f) so_far.0 one.0),
-          subst (λ l. IsBehind plan l (columns ++ x.1 ∷ []) (all_said d (flat_map g (take (i + 1) fs)))) whole
-          (subst (IsBehind plan (take i fs ++ f ∷ []) (columns ++ x.1 ∷ [])) (sym (ap (all_said d) lines ∙ said-append d done (g f))) one.1));
+          let one = judges (n + length done) (all_said d done) so_far.0.0 so_far.1 in (
+            subst (Judges (Ok x.0) n d) (sym lines) (judges_then (Ok x.0) next n d done (g f) so_far.0 one.0),
+            subst (λ l. IsBehind plan l (columns ++ x.1 ∷ []) (all_said d (flat_map g (take (i + 1) fs)))) whole
+                (subst (IsBehind plan (take i fs ++ f ∷ []) (columns ++ x.1 ∷ [])) (sym (ap (all_said d) lines ∙ said-append d done (g f))) one.1),
+          );
     }
 
 pub frags_fail : (plan : Plan) (line : ℕ) (fs : List FragSpec) (i : ℕ) (columns : List ℕ) (next : ℕ) (fault : PlanFault) (f : FragSpec) → i < length fs → f ≡ get_or fs i f → fs ≡ plan.frags →

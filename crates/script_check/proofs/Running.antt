@@ -89,14 +89,17 @@ module _ (plan : Plan) (good : IsGood plan) where
         | false ↦ λ e. inl (actor_back plan a good.names e)
         | true ↦ λ e.
             let none = none_is (place_of_name w ws) e in
-            inr (none, (elim (nat_lt a (length (roles_of plan))) as (λ b. nat_lt a (length (roles_of plan)) ≡ b → role_of plan a ≡ Nobody) [
-              | false ↦ λ far. nth-past Nobody (roles_of plan) a (ltb-false a (length (roles_of plan)) far)
-              | true ↦ λ low.
-                  let here : a < length ws = let l = ltb-true a (length (roles_of plan)) low in omega (arith, l, many) in
-                  let there : is_some (place_of_name w ws) ≡ true = among-place w ws ∙ ap (λ v. is_among v ws) (sym (nth-map (role_name plan) Nobody (roles_of plan) a refl)) ∙ nth-among ws a here in
-                  let lost : is_some (place_of_name w ws) ≡ false = ap is_some none in
-                  absurd (not_both (is_some (place_of_name w ws)) there lost)
-            ]) refl)
+            inr (
+              none,
+              (elim (nat_lt a (length (roles_of plan))) as (λ b. nat_lt a (length (roles_of plan)) ≡ b → role_of plan a ≡ Nobody) [
+                | false ↦ λ far. nth-past Nobody (roles_of plan) a (ltb-false a (length (roles_of plan)) far)
+                | true ↦ λ low.
+                    let here : a < length ws = let l = ltb-true a (length (roles_of plan)) low in omega (arith, l, many) in
+                    let there : is_some (place_of_name w ws) ≡ true = among-place w ws ∙ ap (λ v. is_among v ws) (sym (nth-map (role_name plan) Nobody (roles_of plan) a refl)) ∙ nth-among ws a here in
+                    let lost : is_some (place_of_name w ws) ≡ false = ap is_some none in
+                    absurd (not_both (is_some (place_of_name w ws)) there lost)
+              ]) refl,
+            )
       ]) refl
 
   source_at : (s : ℕ) → place_of_name (source_name plan s) (named_sources plan.sources) ≡ (elim (nat_lt s (length plan.sources)) as (λ b. Option ℕ) [ true ↦ Some s | false ↦ None ])
@@ -127,12 +130,12 @@ module _ (plan : Plan) (good : IsGood plan) where
     send_tested : (s : ℕ) → first_of_tests ((is_none (place_of_name (source_name plan s) (named_sources plan.sources)), 8) ∷ []) ≡ first_of_tests ((not (nat_lt s (length plan.sources)), 8) ∷ [])
     send_tested s =
         ap (λ o. first_of_tests ((is_none o, 8) ∷ [])) (source_at s)
-        ∙ (elim (nat_lt s (length plan.sources)) as (λ b. first_of_tests ((is_none (elim b as (λ b. Option ℕ) [ true ↦ Some s | false ↦ None ]), 8) ∷ []) ≡ first_of_tests ((not b, 8) ∷ [])) [ | true ↦ refl | false ↦ refl ])
+        ∙ (elim (nat_lt s (length plan.sources)) as (λ b. first_of_tests ((is_none (elim b as (λ b. Option ℕ) [ true ↦ Some s | false ↦ None ]), 8) ∷ []) ≡ first_of_tests ((not b, 8) ∷ [])) [ true ↦ refl | false ↦ refl ])
 
     source_found : (s : ℕ) → not (nat_lt s (length plan.sources)) ≡ false → place_of_name (source_name plan s) (named_sources plan.sources) ≡ Some s
     source_found s h =
         source_at s
-        ∙ (elim (nat_lt s (length plan.sources)) as (λ b. not b ≡ false → (elim b as (λ b. Option ℕ) [ true ↦ Some s | false ↦ None ]) ≡ Some s) [ | true ↦ λ h. refl | false ↦ λ h. absurd cc ]) h
+        ∙ (elim (nat_lt s (length plan.sources)) as (λ b. not b ≡ false → (elim b as (λ b. Option ℕ) [ true ↦ Some s | false ↦ None ]) ≡ Some s) [ true ↦ λ h. refl | false ↦ λ h. absurd cc ]) h
 
     -- ---- links
 

@@ -123,9 +123,10 @@ module _ (plan : Plan) where
       all_parts = append_assoc ((h ++ s) ++ f) c b ∙ append_assoc (h ++ s) f (c ++ b) ∙ append_assoc h s (f ++ (c ++ b))
   begun_at line (Ok next) j x =
       let p = ((h ++ s) ++ f) ++ c in
-      let same : p ++ b ≡ statements_of (bare plan) = append_assoc ((h ++ s) ++ f) c b ∙ append_assoc (h ++ s) f (c ++ b) ∙ append_assoc h s (f ++ (c ++ b)) ∙ sym whole in
-      (subst (Judges (Ok next) 1 nothing_yet) same j,
-      record { fs = x.fs; clients = x.clients; draft = ap (all_said nothing_yet) (sym same) ∙ said-append nothing_yet p b ∙ ap (λ d. and_then d BeginLine) x.draft })
+      let same : p ++ b ≡ statements_of (bare plan) = append_assoc ((h ++ s) ++ f) c b ∙ append_assoc (h ++ s) f (c ++ b) ∙ append_assoc h s (f ++ (c ++ b)) ∙ sym whole in (
+        subst (Judges (Ok next) 1 nothing_yet) same j,
+        record { fs = x.fs; clients = x.clients; draft = ap (all_said nothing_yet) (sym same) ∙ said-append nothing_yet p b ∙ ap (λ d. and_then d BeginLine) x.draft },
+      )
 
   pub begin_judged : (line next : ℕ) (r : Result ℕ PlanFault) → UpToFrags line → ((n : ℕ) (d : Draft) → line ≡ told n → IsBehindClients plan [] d → JudgesClients (Ok next) n plan d) →
       ((n : ℕ) (d : Draft) → next ≡ told n → IsBehindClients plan plan.clients d → Judges r n d b) → JudgesPlan r plan

@@ -30,7 +30,11 @@ fn fault_of_client(plan: &Plan, before: &[ClientSpec], client: &ClientSpec) -> O
     let Some(_) = stream_of(name_of_stream(plan, client.input), sources, frags) else {
         return Some(11);
     };
-    if before.len() >= MOST_CLIENTS { Some(14) } else { None }
+    if before.len() >= MOST_CLIENTS {
+        Some(14)
+    } else {
+        None
+    }
 }
 
 /// The line behind all clients, or the first fault.

@@ -17,20 +17,8 @@ fn change_of(directive: Directive, node: u64) -> Option<bool>
     ensures { (down : Bool) → down_after node down directive ≡ unwrap_or result down }
 {
     match directive {
-        Directive::Crash(other) => {
-            if node == other {
-                Some(true)
-            } else {
-                None
-            }
-        }
-        Directive::Restart(other) => {
-            if node == other {
-                Some(false)
-            } else {
-                None
-            }
-        }
+        Directive::Crash(other) => { if node == other { Some(true) } else { None } }
+        Directive::Restart(other) => { if node == other { Some(false) } else { None } }
         _ => None,
     }
 }

@@ -82,7 +82,7 @@ fn check_fragment(place: Place<'_>, line: u64) -> Result<(u64, u64), PlanFault>
     ensures judged { (n : ℕ) → (d : Draft) → line ≡ told n
         → IsBehind place.entry.plan.now place.entry.before.now place.entry.columns.now d
         → JudgesFragment result n place.entry.plan.now place.entry.before.now place.entry.columns.now place.entry.frag.now d
-            (frag_statements place.entry.plan.now place.entry.frag.now) }
+        (frag_statements place.entry.plan.now place.entry.frag.now) }
     ensures room { OnOk result (length place.entry.before.now < 16) }
 {
     if let Some(reason) = fault_of_fragment(place.plan, place.before, place.frag) {

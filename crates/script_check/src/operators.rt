@@ -345,7 +345,7 @@ impl<'a> Place<'a> {
         ensures { (n : ℕ) → (d : Draft) → line ≡ told n
             → IsInside self.entry.plan.now self.entry.before.now self.entry.columns.now self.entry.frag.now [] [] d
             → JudgesFragment result n self.entry.plan.now self.entry.before.now self.entry.columns.now self.entry.frag.now d
-                (map (operator_statement self.entry.plan.now self.entry.frag.now) self.entry.frag.now.ops) }
+            (map (operator_statement self.entry.plan.now self.entry.frag.now) self.entry.frag.now.ops) }
     {
         let ops = self.frag.ops.as_slice();
         let mut outs: ArrayVec<u64, 16> = ArrayVec::new();

@@ -109,8 +109,26 @@ fn small_scripts(rt: HostRuntime) -> Result<(), Fail> {
     let no_link = script(alloc, 0, Directive::Cut(0, 3), crash)?;
     let crashed_twice = script(alloc, 0, crash, crash)?;
     assert_eq!(rt; fault_of(&good), None);
-    assert_eq!(rt; fault_of(&no_column), Some(PlanFault { line: 8, reason: 10 }));
-    assert_eq!(rt; fault_of(&no_link), Some(PlanFault { line: 11, reason: 8 }));
-    assert_eq!(rt; fault_of(&crashed_twice), Some(PlanFault { line: 12, reason: 13 }));
+    assert_eq!(rt;
+        fault_of(&no_column),
+        Some(PlanFault {
+            line: 8,
+            reason: 10
+        })
+    );
+    assert_eq!(rt;
+        fault_of(&no_link),
+        Some(PlanFault {
+            line: 11,
+            reason: 8
+        })
+    );
+    assert_eq!(rt;
+        fault_of(&crashed_twice),
+        Some(PlanFault {
+            line: 12,
+            reason: 13
+        })
+    );
     Ok(())
 }
