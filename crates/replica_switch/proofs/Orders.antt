@@ -10,9 +10,6 @@ use Rattle.dpc_model.specs.declared.messages.Rank.TheVariants.{Stable, UpFailure
 abbrev pub least_to : ℕ → List Rank → ℕ
 least_to i ranks = min 3 (least 3 (map rank_order (take i ranks)))
 
-min-behind : (a b c : ℕ) → min 3 (min a b) ≡ min a (min 3 b)
-min-behind a b c = omega arith
-
 least-more : (x : ℕ) (xs : List ℕ) → min 3 (least 3 (xs ++ x ∷ [])) ≡ min (min 3 (least 3 xs)) x
 least-more x [] = refl
 least-more x (y ∷ []) = omega arith
