@@ -1,5 +1,5 @@
 -- Sources are judged one behind another.
-use Rattle.std.proofs.Common.{◌≡◌, ℕ, ◌+◌, ◌-◌, ◌<◌, ◌≤◌, Bool, true, false, List, [], ◌∷◌, ◌++◌, map, take, drop, length, Option, Some, None, refl, sym, ap, subst, ◌∙◌, arith, get_or}
+use Rattle.std.proofs.Common.{◌≡◌, ℕ, ◌+◌, ◌-◌, ◌<◌, ◌≤◌, false, List, [], ◌∷◌, ◌++◌, map, take, drop, length, Some, None, refl, sym, ap, subst, ◌∙◌, arith, get_or}
 use Rattle.std.specs.Prelude.{Result, Ok, Err, flat_map, sum_by}
 use Rattle.std.proofs.lemmas.List.{append-nil, append_assoc, take_more, take_all}
 use Rattle.std.proofs.lemmas.List.Sums.{sum_by-append}
@@ -7,7 +7,7 @@ use Rattle.dpc_model.specs.declared.tuples.Tuple.{Tuple}
 use Rattle.dpc_model.specs.declared.plans.SourceSpec.{SourceSpec}
 use Rattle.dpc_model.specs.declared.plans.Plan.{Plan}
 use Rattle.dpc_model.specs.declared.scripts.PlanFault.{PlanFault}
-use Rattle.script_rules.specs.Statements.{Statement, SourceLine}
+use Rattle.script_rules.specs.Statements.{SourceLine}
 use Rattle.script_rules.specs.Drafts.{Draft}
 use Rattle.script_rules.specs.Reasons.{first_of_tests, tests_said, is_among, is_full}
 use Rattle.script_rules.specs.Checking.{check_from, source_statements}
@@ -17,9 +17,6 @@ use Rattle.script_check.specs.Judging.{told, Judges, declaring, header_numbers}
 use Rattle.script_check.specs.Locals.{named_sources, against_source}
 use Rattle.script_check.specs.Rooms.{room_behind, with_source, entry_of, BeginsLog}
 use Rattle.script_check.proofs.Judging.{judges_none, judges_then, judges_stop, judges_one, judges_fault, told_next, flat-more, flat-parted}
-
-line_of : SourceSpec → Statement
-line_of s = SourceLine s.name s.columns
 
 pub source_tested : (plan : Plan) (before : List SourceSpec) (s : SourceSpec) → first_of_tests (tests_said (declaring plan before [] []) (SourceLine s.name s.columns)) ≡ first_of_tests (against_source before s)
 source_tested plan before s =

@@ -1,19 +1,17 @@
 -- Clients, and `begin`, are judged behind all fragments.
-use Rattle.std.proofs.Common.{◌≡◌, ℕ, ◌+◌, ◌<◌, ◌≤◌, Bool, true, false, List, [], ◌∷◌, ◌++◌, map, take, drop, length, Option, Some, None, refl, sym, ap, subst, ◌∙◌, arith, get_or}
-use Rattle.std.specs.Prelude.{Result, Ok, Err, ◌||◌, not, nat_lt, flat_map, is_none, unwrap_or, bytes_eq}
+use Rattle.std.proofs.Common.{◌≡◌, ℕ, ◌+◌, ◌<◌, ◌≤◌, true, false, List, [], ◌∷◌, ◌++◌, map, take, drop, length, Some, None, refl, sym, ap, subst, ◌∙◌, get_or}
+use Rattle.std.specs.Prelude.{Ok, Err, ◌||◌, not, nat_lt, flat_map, is_none, unwrap_or, bytes_eq}
 use Rattle.std.proofs.lemmas.List.{map_push, length-map, take_more, take_all}
 use Rattle.std.proofs.lemmas.List.Folds.{list_any-append}
 use Rattle.dpc_model.specs.Lists.{list_any, is_nil}
 use Rattle.dpc_model.specs.Words.{Word}
 use Rattle.dpc_model.specs.ScriptText.{stream_name}
 use Rattle.dpc_model.specs.declared.operators.OpSpec.{OpSpec}
-use Rattle.dpc_model.specs.declared.plans.SourceSpec.{SourceSpec}
 use Rattle.dpc_model.specs.declared.plans.FragSpec.{FragSpec}
 use Rattle.dpc_model.specs.declared.plans.ClientSpec.{ClientSpec}
 use Rattle.dpc_model.specs.declared.plans.Plan.{Plan}
 use Rattle.dpc_model.specs.declared.plans.StreamRef.TheVariants.{Source}
-use Rattle.dpc_model.specs.declared.scripts.PlanFault.{PlanFault}
-use Rattle.script_rules.specs.Statements.{Statement, BeginLine}
+use Rattle.script_rules.specs.Statements.{BeginLine}
 use Rattle.script_rules.specs.Drafts.{Draft, and_then, op_names, stream_named}
 use Rattle.script_rules.specs.Reasons.{first_of_tests, tests_said, is_among, is_full}
 use Rattle.script_rules.specs.Checking.{client_statement}

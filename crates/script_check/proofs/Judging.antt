@@ -1,7 +1,7 @@
 -- What is judged one behind another.
-use Rattle.std.proofs.Common.{◌≡◌, ℕ, zero, suc, ◌+◌, ◌-◌, ◌^◌, ◌<◌, ◌≤◌, List, [], ◌∷◌, ◌++◌, map, take, drop, length, Option, Some, None, refl, sym, ap, subst, ◌∙◌, arith, get_or}
-use Rattle.std.specs.Prelude.{Result, Ok, Err, option_map, flat_map, min}
-use Rattle.std.proofs.lemmas.List.{length-append, take_more, append_assoc}
+use Rattle.std.proofs.Common.{◌≡◌, ℕ, zero, suc, ◌+◌, ◌-◌, ◌^◌, ◌<◌, List, [], ◌∷◌, ◌++◌, map, take, drop, length, Option, Some, None, refl, sym, ap, ◌∙◌, arith, get_or}
+use Rattle.std.specs.Prelude.{Result, Ok, Err, option_map, flat_map}
+use Rattle.std.proofs.lemmas.List.{length-append, take_more}
 use Rattle.std.proofs.lemmas.Grind.{flat_map-append}
 use Rattle.dpc_model.specs.declared.scripts.PlanFault.{PlanFault}
 use Rattle.script_rules.specs.Statements.{Statement}
@@ -92,3 +92,13 @@ map-parted g zero x (y ∷ xs) low is = ap (λ z. g z ∷ map g xs) (sym is)
 map-parted g (suc i) x (y ∷ xs) low is =
     let next : suc i + 1 ≡ suc (i + 1) = omega arith in
     rw next (ap (λ l. g y ∷ l) (map-parted g i x xs (omega (arith, low)) is))
+
+-- a line that is told below the greatest number is that line
+pub told_exactly : (o : Option PlanFault) (fault : PlanFault) → option_map told_fault o ≡ Some fault → fault.line < 2 ^ 64 - 1 → o ≡ Some fault
+told_exactly None fault h low = absurd cc
+told_exactly (Some f) fault h low =
+    let same : told_fault f ≡ fault = cc in
+    let line : told f.line ≡ fault.line = ap (λ (x : PlanFault). x.line) same in
+    let exact : f.line ≡ fault.line = omega (arith, line, low) in
+    let reason : f.reason ≡ fault.reason = ap (λ (x : PlanFault). x.reason) same in
+    ap (λ l. Some (record { line = l; reason = f.reason })) exact ∙ ap (λ r. Some (record { line = fault.line; reason = r })) reason

@@ -1,28 +1,23 @@
 -- The entries of a log are judged by what stands before them.
-use Rattle.std.proofs.Common.{◌≡◌, ℕ, ◌+◌, ◌-◌, ◌<◌, ◌≤◌, Bool, true, false, List, [], ◌∷◌, ◌++◌, map, take, drop, length, Option, Some, None, refl, sym, ap, subst, ◌∙◌, arith, get_or}
-use Rattle.std.specs.Prelude.{Result, Ok, Err, not, ◌||◌, ◌==◌, nat_lt, nat_le, is_none, unwrap_or, sum_by, flat_map}
-use Rattle.std.proofs.lemmas.Bool.{ltb-true, ltb-false, lt-ltb, le-leb, leb-true}
-use Rattle.std.proofs.lemmas.List.{append-nil, map_push, length-append, length-map, length-take-le, take_more, take_all}
+use Rattle.std.proofs.Common.{◌≡◌, ℕ, ◌+◌, ◌-◌, ◌<◌, ◌≤◌, true, false, List, [], ◌∷◌, ◌++◌, map, take, drop, length, Option, Some, None, refl, sym, ap, subst, ◌∙◌, arith, get_or}
+use Rattle.std.specs.Prelude.{Ok, Err, not, ◌||◌, ◌==◌, nat_lt, nat_le, is_none, unwrap_or, sum_by}
+use Rattle.std.proofs.lemmas.Bool.{ltb-true, ltb-false, le-leb, leb-true}
+use Rattle.std.proofs.lemmas.List.{map_push, length-map, length-take-le, take_more, take_all}
 use Rattle.std.proofs.lemmas.List.Sums.{sum_by-append}
 use Rattle.dpc_model.specs.Lists.{nth, last_or}
 use Rattle.dpc_model.specs.declared.tuples.Tuple.{Tuple}
 use Rattle.dpc_model.specs.declared.plans.SourceSpec.{SourceSpec}
 use Rattle.dpc_model.specs.declared.plans.Plan.{Plan}
-use Rattle.dpc_model.specs.declared.scripts.PlanFault.{PlanFault}
-use Rattle.script_rules.specs.Statements.{Statement, SourceLine, LogLine}
-use Rattle.script_rules.specs.Drafts.{Draft, and_then, source_named, place_of_name}
+use Rattle.script_rules.specs.Statements.{Statement}
+use Rattle.script_rules.specs.Drafts.{Draft, source_named, place_of_name}
 use Rattle.script_rules.specs.Reasons.{first_of_tests, tests_said, is_among, source_at, last_time, log_entries}
-use Rattle.script_rules.specs.Checking.{source_statements}
 use Rattle.script_rules.proofs.Lasts.{place-last, nth-last}
 use Rattle.script_rules.proofs.Passing.{all_said}
 use Rattle.script_rules.proofs.Sources.{logs_said}
 use Rattle.script_check.specs.Judging.{told, Judges, declaring, header_numbers}
-use Rattle.script_check.specs.Locals.{named_sources, against_source, against_entry}
+use Rattle.script_check.specs.Locals.{named_sources, against_entry}
 use Rattle.script_check.specs.Rooms.{room_behind, with_source, entry_of, BeginsLog}
-use Rattle.script_check.proofs.Judging.{judges_none, judges_then, judges_stop, judges_one, judges_fault, map-more, map-parted}
-
-name_of : SourceSpec → List ℕ
-name_of s = s.name
+use Rattle.script_check.proofs.Judging.{judges_none, judges_then, judges_one, judges_fault, map-more, map-parted}
 
 found : (plan : Plan) (before : List SourceSpec) (source : SourceSpec) (log : List Tuple) → is_among source.name (named_sources before) ≡ false →
     source_named (declaring plan (with_source before source log) [] []) source.name ≡ Some (length before)

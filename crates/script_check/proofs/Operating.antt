@@ -1,44 +1,24 @@
 -- Operators and fragments are judged one behind another.
-use Rattle.std.proofs.Common.{◌≡◌, ℕ, ◌+◌, ◌-◌, ◌<◌, ◌≤◌, Bool, true, false, List, [], ◌∷◌, ◌++◌, map, take, drop, length, Option, Some, None, refl, sym, ap, subst, ◌∙◌, arith, get_or}
-use Rattle.std.specs.Prelude.{Result, Ok, Err, ◌||◌, not, nat_lt, flat_map, unwrap_or, fold}
-use Rattle.std.proofs.lemmas.Bool.{or_parts, not-false, ltb-true, ltb-false}
-use Rattle.std.proofs.lemmas.List.{append-nil, append_assoc, take_more, take_all, length-append, length-take-le}
+use Rattle.std.proofs.Common.{◌≡◌, ℕ, ◌+◌, ◌<◌, ◌≤◌, List, [], ◌∷◌, ◌++◌, map, take, drop, length, Option, Some, None, refl, sym, ap, subst, ◌∙◌, arith, get_or}
+use Rattle.std.specs.Prelude.{Result, Ok, Err, flat_map, unwrap_or}
+use Rattle.std.proofs.lemmas.List.{append_assoc, take_more, take_all, length-append}
 use Rattle.dpc_model.specs.Lists.{last_or}
 use Rattle.dpc_model.specs.ScriptText.{stream_name}
 use Rattle.dpc_model.specs.Columns.{kind_columns}
 use Rattle.dpc_model.specs.declared.operators.OpSpec.{OpSpec}
-use Rattle.dpc_model.specs.declared.plans.SourceSpec.{SourceSpec}
 use Rattle.dpc_model.specs.declared.plans.FragSpec.{FragSpec}
 use Rattle.dpc_model.specs.declared.plans.Plan.{Plan}
 use Rattle.dpc_model.specs.declared.scripts.PlanFault.{PlanFault}
 use Rattle.script_rules.specs.Statements.{Statement, FragmentLine, PatienceLine}
 use Rattle.script_rules.specs.Drafts.{Draft, and_then}
-use Rattle.script_rules.specs.Reasons.{first_of_tests, tests_said, is_full, is_too_large}
+use Rattle.script_rules.specs.Reasons.{first_of_tests, tests_said}
 use Rattle.script_rules.specs.Checking.{operator_statement, patience_statements, frag_statements}
-use Rattle.script_rules.proofs.Passing.{none_holds, all_said, said-append}
+use Rattle.script_rules.proofs.Passing.{all_said, said-append}
 use Rattle.script_check.specs.Judging.{told, Judges, declaring}
-use Rattle.script_check.specs.Locals.{behind_delay, port_columns, read_columns, misses_column, against_fragment, against_operator}
-use Rattle.script_check.specs.Behind.{StandFor, IsBehind, IsInside, JudgesFragment, JudgesFragments}
-use Rattle.script_check.proofs.Judging.{judges_none, judges_then, judges_stop, judges_one, judges_fault, told_next, map-more, map-parted, flat-more, flat-parted}
+use Rattle.script_check.specs.Locals.{behind_delay, port_columns, read_columns, against_fragment, against_operator}
+use Rattle.script_check.specs.Behind.{IsBehind, IsInside, JudgesFragment, JudgesFragments}
+use Rattle.script_check.proofs.Judging.{judges_none, judges_then, judges_stop, judges_one, judges_fault, map-more, map-parted, flat-more, flat-parted}
 use Rattle.script_check.proofs.Standing.{fragment_tested, fragment_inside, operator_tested, operator_inside, patience_inside, fragment_ends}
-
--- what a fault does not stand against leaves room, and few columns
-pub few_columns : (plan : Plan) (before : List FragSpec) (f : FragSpec) (done : List OpSpec) (ports outs : List ℕ) (op : OpSpec) → first_of_tests (against_operator plan before f done ports outs op) ≡ None →
-    kind_columns op.kind (read_columns plan f done ports outs op.reads) ≤ 8
-few_columns plan before f done ports outs op none =
-    let tests = none_holds (against_operator plan before f done ports outs op) none in
-    ltb-false 8 _ (or_parts _ (nat_lt 8 (kind_columns op.kind (read_columns plan f done ports outs op.reads))) tests.1.1.0).1
-
-pub some_room : {X : Type 0} (xs : List X) → is_full 16 xs ≡ false → length xs < 16
-some_room xs h = ltb-true (length xs) 16 (not-false (nat_lt (length xs) 16) h)
-
-pub operators_left : (plan : Plan) (before : List FragSpec) (f : FragSpec) (done : List OpSpec) (ports outs : List ℕ) (op : OpSpec) → first_of_tests (against_operator plan before f done ports outs op) ≡ None → length done < 16
-operators_left plan before f done ports outs op none =
-    let tests = none_holds (against_operator plan before f done ports outs op) none in
-    some_room done (or_parts (is_full 16 done) (is_too_large op.kind) tests.1.1.1.0).0
-
-pub fragments_left : (plan : Plan) (before : List FragSpec) (f : FragSpec) → first_of_tests (against_fragment plan before f) ≡ None → length before < 16
-fragments_left plan before f none = some_room before (none_holds (against_fragment plan before f) none).1.1.0
 
 -- ---- operators
 

@@ -1,24 +1,21 @@
 -- Directives and phases are judged behind a plan without a fault.
 use Rattle.std.proofs.Common.{◌≡◌, ℕ, zero, suc, ◌+◌, ◌<◌, ◌≤◌, Bool, true, false, List, [], ◌∷◌, ◌++◌, map, take, drop, length, Option, Some, None, refl, sym, ap, subst, ◌∙◌, arith, get_or, inl, inr, ◌⊎◌}
 use Rattle.std.specs.Prelude.{Result, Ok, Err, ◌||◌, not, nat_lt, flat_map, is_none, is_some, unwrap_or, option_map, fold}
-use Rattle.std.proofs.lemmas.Bool.{ltb-true, ltb-false, lt-ltb}
-use Rattle.std.proofs.lemmas.List.{append-nil, append_assoc, take_more, take_all, length-map}
-use Rattle.dpc_model.specs.Lists.{nth, list_any, list_all}
-use Rattle.dpc_model.specs.Words.{Word}
+use Rattle.std.proofs.lemmas.Bool.{ltb-true, ltb-false}
+use Rattle.std.proofs.lemmas.List.{append-nil, append_assoc, take_all, length-map}
+use Rattle.dpc_model.specs.Lists.{list_any}
 use Rattle.dpc_model.specs.ScriptText.{source_name, role_name, actor_name}
 use Rattle.dpc_model.specs.Actors.{roles_of, role_of, reads_from, sends_stream, are_peers, inputs_of, are_linked}
 use Rattle.dpc_model.specs.declared.actors.Role.{Role}
 use Rattle.dpc_model.specs.declared.actors.Role.TheVariants.{Source as IsSource, Node as IsNode, Client as IsClient, Nobody}
 use Rattle.dpc_model.specs.declared.plans.SourceSpec.{SourceSpec}
-use Rattle.dpc_model.specs.declared.plans.FragSpec.{FragSpec}
-use Rattle.dpc_model.specs.declared.plans.ClientSpec.{ClientSpec}
 use Rattle.dpc_model.specs.declared.plans.StreamRef.{StreamRef}
 use Rattle.dpc_model.specs.declared.plans.Plan.{Plan}
 use Rattle.dpc_model.specs.declared.scripts.Directive.{Directive}
 use Rattle.dpc_model.specs.declared.scripts.Directive.TheVariants.{Emit, Release, Cut, Heal, Lose, Repeat, Crash, Restart}
 use Rattle.dpc_model.specs.declared.scripts.Phase.{Phase}
 use Rattle.dpc_model.specs.declared.scripts.PlanFault.{PlanFault}
-use Rattle.script_rules.specs.Statements.{Statement, SendLine, LinkLine, NodeLine, TickLine}
+use Rattle.script_rules.specs.Statements.{Statement, LinkLine, TickLine}
 use Rattle.script_rules.specs.Drafts.{Draft, and_then, plan_of, place_of_name, actor_named, op_names}
 use Rattle.script_rules.specs.Reasons.{first_of_tests, tests_said, is_among, is_node, down_after, names_link, names_node}
 use Rattle.script_rules.specs.Checking.{IsChecked, check_from, directive_statement, phase_statements}
@@ -32,7 +29,7 @@ use Rattle.script_rules.proofs.Headers.{plan_said}
 use Rattle.script_rules.proofs.Roles.{HasActorNames, actor_back, nth-map}
 use Rattle.script_rules.proofs.Forms.{checked_has_form}
 use Rattle.script_rules.proofs.Passing.{IsFine, Passes, passes, passes_first, passes_then, all_said, said-append}
-use Rattle.script_check.specs.Judging.{told, Judges, bare, declaring, running}
+use Rattle.script_check.specs.Judging.{told, Judges, bare, running}
 use Rattle.script_check.specs.Locals.{named_sources, named_frags, named_clients, is_down, against_directive, against_tick}
 use Rattle.script_check.proofs.Judging.{judges_none, judges_then, judges_stop, judges_one, judges_fault, map-more, map-parted, flat-more, flat-parted}
 use Rattle.script_check.proofs.Places.{among-place}

@@ -1,5 +1,5 @@
 -- What is said behind some fragments stands for them, line by line.
-use Rattle.std.proofs.Common.{◌≡◌, ℕ, ◌+◌, ◌<◌, ◌≤◌, Bool, true, false, List, [], ◌∷◌, ◌++◌, map, length, Option, Some, None, refl, sym, ap, subst, ◌∙◌, arith}
+use Rattle.std.proofs.Common.{◌≡◌, ℕ, ◌<◌, Bool, true, false, List, [], ◌∷◌, ◌++◌, map, length, Option, Some, None, refl, sym, ap, subst, ◌∙◌}
 use Rattle.std.specs.Prelude.{◌||◌, not, nat_lt, flat_map, is_none, unwrap_or, option_map, bytes_eq}
 use Rattle.std.proofs.lemmas.Bool.{or_parts, ltb-true}
 use Rattle.std.proofs.lemmas.List.{append-nil, map_push, length-map}
@@ -10,23 +10,23 @@ use Rattle.dpc_model.specs.Words.{Word}
 use Rattle.dpc_model.specs.ScriptText.{stream_name, wire_word}
 use Rattle.dpc_model.specs.Columns.{kind_columns, wire_columns, columns_after, fragment_columns, columns_by, frags_columns, stream_columns}
 use Rattle.dpc_model.specs.declared.operators.Wire.{Wire}
-use Rattle.dpc_model.specs.declared.operators.Wire.TheVariants.{Port, Op}
+use Rattle.dpc_model.specs.declared.operators.Wire.TheVariants.{Port}
 use Rattle.dpc_model.specs.declared.operators.OpSpec.{OpSpec}
 use Rattle.dpc_model.specs.declared.plans.SourceSpec.{SourceSpec}
 use Rattle.dpc_model.specs.declared.plans.FragSpec.{FragSpec}
 use Rattle.dpc_model.specs.declared.plans.Plan.{Plan}
 use Rattle.dpc_model.specs.declared.plans.StreamRef.{StreamRef}
 use Rattle.dpc_model.specs.declared.plans.StreamRef.TheVariants.{Source, Frag}
-use Rattle.script_rules.specs.Statements.{Statement, FragmentLine, PatienceLine, OperatorLine}
+use Rattle.script_rules.specs.Statements.{FragmentLine, PatienceLine}
 use Rattle.script_rules.specs.Drafts.{Draft, and_then, names, op_names, plan_of, last_frag, wire_named, with_op, with_delay}
-use Rattle.script_rules.specs.Reasons.{first_of_tests, tests_said, is_among, has_twice, is_full, is_too_large, input_columns, fits_inputs}
+use Rattle.script_rules.specs.Reasons.{first_of_tests, tests_said, is_among, has_twice, is_full, is_too_large, input_columns}
 use Rattle.script_rules.specs.Checking.{operator_statement}
 use Rattle.script_rules.proofs.Streams.{stream_at, is_within, name_at}
 use Rattle.script_rules.proofs.Found.{found, found_is, found_within}
 use Rattle.script_rules.proofs.Lasts.{nth-first}
 use Rattle.script_rules.proofs.Recalled.{wire_at}
 use Rattle.script_rules.proofs.Passing.{none_holds}
-use Rattle.script_rules.proofs.Fitting.{columns_in, columns_of, columns_behind, all_columns, ports_are, last_one, change-last}
+use Rattle.script_rules.proofs.Fitting.{columns_in, columns_of, all_columns, ports_are, last_one, change-last}
 use Rattle.script_check.specs.Judging.{declaring}
 use Rattle.script_check.specs.Locals.{named_sources, named_frags, names_before, stream_of, found_stream, port_columns, name_columns, read_columns, wire_of, takes_name, misses_column, against_fragment, against_operator}
 use Rattle.script_check.specs.Behind.{StandFor, IsBehind, StandsFor, IsInside}

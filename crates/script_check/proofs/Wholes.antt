@@ -1,25 +1,20 @@
 -- A plan is judged part by part, and a script behind its plan.
-use Rattle.std.proofs.Common.{◌≡◌, ℕ, ◌+◌, Bool, true, false, List, [], ◌∷◌, ◌++◌, map, length, Option, Some, None, refl, sym, ap, subst, ◌∙◌}
-use Rattle.std.specs.Prelude.{Result, Ok, Err, ◌&&◌, flat_map, option_map, fold}
-use Rattle.std.proofs.lemmas.List.{append-nil, append_assoc}
-use Rattle.dpc_model.specs.Lists.{list_all}
-use Rattle.dpc_model.specs.declared.plans.SourceSpec.{SourceSpec}
-use Rattle.dpc_model.specs.declared.plans.FragSpec.{FragSpec}
-use Rattle.dpc_model.specs.declared.plans.ClientSpec.{ClientSpec}
+use Rattle.std.proofs.Common.{◌≡◌, ℕ, ◌+◌, Bool, true, false, List, [], ◌∷◌, ◌++◌, length, Some, None, refl, sym, ap, subst, ◌∙◌}
+use Rattle.std.specs.Prelude.{Result, Ok, Err, flat_map, option_map}
+use Rattle.std.proofs.lemmas.List.{append_assoc}
 use Rattle.dpc_model.specs.declared.plans.Plan.{Plan}
-use Rattle.dpc_model.specs.declared.scripts.Phase.{Phase}
 use Rattle.dpc_model.specs.declared.scripts.Script.{Script}
 use Rattle.dpc_model.specs.declared.scripts.PlanFault.{PlanFault}
 use Rattle.script_rules.specs.Statements.{Statement, BeginLine}
 use Rattle.script_rules.specs.Drafts.{Draft, nothing_yet, and_then, script_of}
-use Rattle.script_rules.specs.Checking.{check, check_from, is_in_range, IsChecked, header_statements, source_statements, frag_statements, client_statement, phase_statements, statements_of}
+use Rattle.script_rules.specs.Checking.{check, check_from, is_in_range, IsChecked, header_statements, phase_statements, statements_of}
 use Rattle.script_rules.proofs.Parts.{parts, said_of_sources, said_of_frags, said_of_clients, said_at_last}
 use Rattle.script_rules.proofs.Ranges.{ranges}
 use Rattle.script_rules.proofs.Headers.{header_said}
 use Rattle.script_rules.proofs.SaysItself.{says_itself}
 use Rattle.script_rules.proofs.Passing.{all_said, said-append}
 use Rattle.script_check.specs.Judging.{told, told_fault, Judges, bare, declaring, running}
-use Rattle.script_check.specs.Behind.{IsBehind, IsBehindClients, JudgesFragments, JudgesClients, JudgesPlan}
+use Rattle.script_check.specs.Behind.{IsBehindClients, JudgesFragments, JudgesClients, JudgesPlan}
 use Rattle.script_check.proofs.Judging.{check-append, judges_then, judges_stop}
 use Rattle.script_check.proofs.AllSources.{sources_said}
 

@@ -1,11 +1,10 @@
 -- What is said behind some fragments of a plan. A stream or an operator that is read may have the name of an earlier one: it is
 -- found by its name, so these fragments have the names of the plan's and read what their names stand for.
-use Rattle.std.specs.Prelude.{◌≡◌, ℕ, true, false, is_none, fold, List, [], ◌∷◌, ◌++◌, map, length, flat_map, Result, Ok, Err}
+use Rattle.std.specs.Prelude.{◌≡◌, ℕ, true, false, is_none, fold, List, [], ◌∷◌, ◌++◌, map, flat_map, Result, Ok, Err}
 use Rattle.dpc_model.specs.Lists.{list_any}
 use Rattle.dpc_model.specs.ScriptText.{stream_name}
 use Rattle.dpc_model.specs.Columns.{columns_after, frags_columns}
 use Rattle.dpc_model.specs.declared.operators.OpSpec.{OpSpec}
-use Rattle.dpc_model.specs.declared.plans.SourceSpec.{SourceSpec}
 use Rattle.dpc_model.specs.declared.plans.FragSpec.{FragSpec}
 use Rattle.dpc_model.specs.declared.plans.ClientSpec.{ClientSpec}
 use Rattle.dpc_model.specs.declared.plans.Plan.{Plan}
@@ -13,7 +12,7 @@ use Rattle.dpc_model.specs.declared.scripts.PlanFault.{PlanFault}
 use Rattle.script_rules.specs.Statements.{Statement}
 use Rattle.script_rules.specs.Drafts.{Draft, nothing_yet, op_names, and_then}
 use Rattle.script_rules.specs.Checking.{frag_statements, client_statement, statements_of}
-use Rattle.script_check.specs.Judging.{told, Judges, declaring, bare}
+use Rattle.script_check.specs.Judging.{Judges, declaring, bare}
 use Rattle.script_check.specs.Locals.{named_frags, named_clients, stream_of, found_stream, port_columns}
 
 -- these fragments stand for those before, whose columns are listed

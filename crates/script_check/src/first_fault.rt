@@ -1,5 +1,5 @@
 //! The first fault of a script.
-ghost use Rattle.std.specs.Prelude.{◌≡◌, true, Some, None, option_map, OnOk, IfErr};
+ghost use Rattle.std.specs.Prelude.{◌≡◌, ◌<◌, ◌-◌, ◌^◌, true, Some, None, option_map, OnOk, IfErr};
 ghost use Rattle.script_rules.specs.Checking as rule;
 ghost use Rattle.script_check.specs.Judging.{told_fault, bare};
 ghost use Rattle.script_check.specs.Behind.{JudgesPlan};
@@ -41,6 +41,7 @@ pub fn check(script: &Script) -> Result<(), PlanFault>
     requires { rule.is_in_range script.now ≡ true }
     ensures ok { OnOk result (rule.check script.now ≡ None) }
     ensures err { IfErr result (λ fault. option_map told_fault (rule.check script.now) ≡ Some fault) }
+    ensures exact { IfErr result (λ fault. fault.line < 2 ^ 64 - 1 → rule.check script.now ≡ Some fault) }
 {
     let line = match check_plan(&script.plan) {
         Ok(line) => line,

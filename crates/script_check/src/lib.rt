@@ -7,6 +7,7 @@ mod directives;
 mod first_fault;
 mod fragments;
 mod headers;
+mod kinds;
 mod links;
 mod names;
 mod operator_ranges;

@@ -1,37 +1,28 @@
 //! The lines of operators.
-ghost use Rattle.std.specs.Prelude.{◌≡◌, ◌≤◌, ◌==◌, ℕ, Bool, true, [], ◌∷◌, nat_lt, not, ◌||◌, ◌&&◌, is_none, is_some, if◌then◌else◌, length, map, min, ◌^◌, ◌-◌, unwrap_or, option_map, ◌+◌, None};
+ghost use Rattle.std.specs.Prelude.{◌≡◌, ◌≤◌, ◌==◌, ℕ, [], map, is_none, unwrap_or, None};
 ghost use Rattle.dpc_model.specs.Lists.{nth, last_or, list_any, list_all};
 ghost use Rattle.dpc_model.specs.ScriptText.{wire_word};
-ghost use Rattle.dpc_model.specs.Formula.{words};
-ghost use Rattle.dpc_model.specs.Values.{reads_below};
 ghost use Rattle.dpc_model.specs.Columns.{kind_columns, columns_by};
 ghost use Rattle.script_rules.specs.Reasons as reason;
 ghost use Rattle.script_rules.specs.Drafts.{Draft};
 ghost use Rattle.script_rules.specs.Checking.{operator_statement};
-ghost use Rattle.script_check.specs.Judging.{told, Judges};
+ghost use Rattle.script_check.specs.Judging.{told};
 ghost use Rattle.script_check.specs.Locals as local;
 ghost use Rattle.script_check.specs.Behind.{IsInside, JudgesFragment};
 
+use crate::kinds::{
+    MOST_COLUMNS, aggregate_reads_below, exprs_read_below, has_many_columns, is_too_large,
+    keys_read_below, reads_below,
+};
 use crate::names::{is_taken, name_of_stream, name_of_wire, place_of_stream, stream_of};
-use crate::operator_ranges::all_read_below;
 use arrayvec::ArrayVec;
-use dpc_model::expressions::{Expr, ExprNode};
-use dpc_model::operators::{Agg, OpKind, OpSpec, Wire};
+use dpc_model::operators::{OpKind, OpSpec, Wire};
 use dpc_model::plans::{FragSpec, Plan, StreamRef};
 use dpc_model::scripts::PlanFault;
 use script_draft::named::{has_name, place_of};
 
 /// The most operators of a fragment.
 const MOST_OPERATORS: usize = 16;
-
-/// The most columns of a stream.
-const MOST_COLUMNS: u64 = 8;
-
-/// The most words of an expression.
-const MOST_WORDS: u64 = 64;
-
-/// The most windows of a tuple.
-const MOST_WINDOWS: u128 = 64;
 
 /// The number at a place, and 0 past the end.
 fn number_at(numbers: &[u64], place: u64) -> u64
@@ -47,120 +38,6 @@ fn last_number(numbers: &[u64]) -> u64
     match numbers.last() {
         Some(number) => *number,
         None => 0,
-    }
-}
-
-/// How many words an expression has, up to 2^64 - 1.
-fn count_words(expr: &Expr) -> u64
-    ensures { result ≡ min (words expr.now) (2 ^ 64 - 1) }
-{
-    match &expr.node {
-        ExprNode::Col(_) | ExprNode::Num(_) | ExprNode::Time => 1,
-        ExprNode::Neg(e) | ExprNode::Not(e) => count_words(e).saturating_add(1),
-        ExprNode::Bin(_, d, e) => count_words(d)
-            .saturating_add(count_words(e))
-            .saturating_add(1),
-        ExprNode::If(c, d, e) => count_words(c)
-            .saturating_add(count_words(d))
-            .saturating_add(count_words(e))
-            .saturating_add(1),
-    }
-}
-
-fn is_too_long(expr: &Expr) -> bool
-    ensures { result ≡ reason.is_too_long expr.now }
-{
-    count_words(expr) > MOST_WORDS
-}
-
-fn some_is_too_long(exprs: &[Expr]) -> bool
-    ensures { result ≡ list_any reason.is_too_long exprs.now }
-{
-    for expr in exprs {
-        if is_too_long(expr) {
-            return true;
-        }
-    }
-    false
-}
-
-/// Whether an operator has an expression of too many words, or too many windows for a tuple.
-fn is_too_large(kind: &OpKind) -> bool
-    ensures { result ≡ reason.is_too_large kind.now }
-{
-    match kind {
-        OpKind::Filter(test) => is_too_long(test),
-        OpKind::Map(exprs) => some_is_too_long(exprs.as_slice()),
-        OpKind::Union | OpKind::Join(_, _) => false,
-        OpKind::Aggregate(size, step, _, _) => {
-            MOST_WINDOWS * u128::from(*step) < u128::from(*size)
-        }
-    }
-}
-
-/// Whether an expression reads the first so many columns alone.
-fn reads_below(columns: u64, expr: &Expr) -> bool
-    ensures { result ≡ reads_below columns expr.now }
-{
-    match &expr.node {
-        ExprNode::Col(column) => *column < columns,
-        ExprNode::Num(_) | ExprNode::Time => true,
-        ExprNode::Neg(e) | ExprNode::Not(e) => reads_below(columns, e),
-        ExprNode::Bin(_, d, e) => reads_below(columns, d) && reads_below(columns, e),
-        ExprNode::If(c, d, e) => {
-            reads_below(columns, c) && (reads_below(columns, d) && reads_below(columns, e))
-        }
-    }
-}
-
-fn exprs_read_below(columns: u64, exprs: &[Expr]) -> bool
-    ensures { result ≡ list_all (reads_below columns) exprs.now }
-{
-    for expr in exprs {
-        if !reads_below(columns, expr) {
-            return false;
-        }
-    }
-    true
-}
-
-/// Whether the key columns are there, of so many on the left and on the right.
-fn keys_read_below(left: u64, right: u64, keys: &[(u64, u64)]) -> bool
-    ensures { result ≡ list_all (λ (pair : ℕ × ℕ). nat_lt pair.0 left && nat_lt pair.1 right) keys.now }
-{
-    for key in keys {
-        let (l, r) = *key;
-        if !(l < left && r < right) {
-            return false;
-        }
-    }
-    true
-}
-
-/// Whether the group's column is there, of so many.
-fn group_reads_below(columns: u64, group: Option<u64>) -> bool
-    ensures { result ≡ nat_lt (unwrap_or (option_map (λ c. c + 1) group) 0) (columns + 1) }
-{
-    match group {
-        Some(column) => column < columns,
-        None => true,
-    }
-}
-
-/// Whether an aggregate reads the first so many columns alone.
-fn aggregate_reads_below(columns: u64, group: Option<u64>, aggs: &[Agg]) -> bool
-    ensures { result ≡ (nat_lt (unwrap_or (option_map (λ c. c + 1) group) 0) (columns + 1) && list_all (reason.agg_reads_below columns) aggs.now) }
-{
-    group_reads_below(columns, group) && all_read_below(columns, aggs)
-}
-
-/// Whether an aggregate's result has too many columns.
-fn has_many_columns(group: Option<u64>, aggs: u64) -> bool
-    ensures { result ≡ nat_lt 8 ((if is_some group then 1 else 0) + aggs) }
-{
-    match group {
-        Some(_) => aggs >= MOST_COLUMNS,
-        None => aggs > MOST_COLUMNS,
     }
 }
 

@@ -1,5 +1,5 @@
-use Rattle.std.proofs.Common.{◌≡◌, map, sym, subst, ◌∙◌}
-use Rattle.std.specs.Prelude.{Ok, Err}
+use Rattle.std.proofs.Common.{map, sym, subst, ◌∙◌}
+use Rattle.std.specs.Prelude.{Err}
 use Rattle.script_rules.specs.Checking.{client_statement}
 use Rattle.script_check.specs.Judging.{Judges}
 use Rattle.script_check.proofs.Clienting.{clients_go_on, clients_fail, clients_end}

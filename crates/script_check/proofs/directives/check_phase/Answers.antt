@@ -1,4 +1,4 @@
-use Rattle.std.proofs.Common.{◌≡◌, sym, subst, ◌∙◌}
+use Rattle.std.proofs.Common.{sym, subst, ◌∙◌}
 use Rattle.script_check.proofs.Running.{DirectivesJudge, phase_judged, phase_ticks_wrong, phase_fails}
 use Rattle.script_check.proofs.directives.check_phase.Goals as goal
 

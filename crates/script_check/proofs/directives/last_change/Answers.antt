@@ -1,4 +1,4 @@
-use Rattle.std.proofs.Common.{◌≡◌, ◌-◌, take, refl, ap, ◌∙◌, arith}
+use Rattle.std.proofs.Common.{◌-◌, take, refl, ap, ◌∙◌, arith}
 use Rattle.std.specs.Prelude.{fold, unwrap_or}
 use Rattle.script_rules.specs.Reasons.{down_after}
 use Rattle.script_check.proofs.Looking.{last_changed}

@@ -1,4 +1,4 @@
-use Rattle.std.proofs.Common.{◌≡◌, ◌+◌, take, sym, subst}
+use Rattle.std.proofs.Common.{◌+◌, take, sym, subst}
 use Rattle.script_check.proofs.Operating.{AreFragsTo, FragmentJudges, frags_go_on, frags_fail}
 use Rattle.script_check.proofs.fragments.check_fragments.Goals as goal
 

@@ -1,4 +1,4 @@
-use Rattle.std.proofs.Common.{◌≡◌, true, refl, sym, ap, ◌∙◌}
+use Rattle.std.proofs.Common.{refl, sym, ap, ◌∙◌}
 use Rattle.std.specs.Prelude.{is_none}
 use Rattle.dpc_model.specs.ScriptText.{stream_name}
 use Rattle.script_check.specs.Locals.{stream_of}

@@ -1,4 +1,4 @@
-use Rattle.std.proofs.Common.{◌≡◌, arith}
+use Rattle.std.proofs.Common.{arith}
 use Rattle.std.proofs.lemmas.Grind.{common_steps}
 use Rattle.script_rules.specs.Checking.{is_in_range}
 use Rattle.script_check.proofs.ranges.is_in_range.Goals as goal

@@ -1,5 +1,5 @@
 use Rattle.std.proofs.Common.{sym, ◌∙◌}
-use Rattle.script_check.proofs.Logs.{log_begins, log_goes_on, log_fails, log_ends}
+use Rattle.script_check.proofs.Logs.{log_goes_on, log_fails, log_ends}
 use Rattle.script_check.proofs.sources.check_log.Goals as goal
 
 pub returns-in-Some : goal.returns-in-Some

@@ -1,5 +1,5 @@
 use Rattle.std.proofs.Common.{sym, ◌∙◌}
-use Rattle.script_check.proofs.AllSources.{source_fails, source_judged}
+use Rattle.script_check.proofs.AllSources.{source_judged}
 use Rattle.script_check.proofs.sources.check_source.Goals as goal
 
 pub returns : goal.returns

@@ -1,4 +1,4 @@
-use Rattle.std.proofs.Common.{◌≡◌, ℕ, [], refl, subst, ap, ◌∙◌, ◌-◌, length}
+use Rattle.std.proofs.Common.{◌≡◌, ℕ, [], refl, subst, ap, ◌∙◌, ◌-◌}
 use Rattle.std.specs.Prelude.{flat_map, Err}
 use Rattle.script_rules.specs.Checking.{source_statements}
 use Rattle.script_check.specs.Judging.{told, Judges, declaring}

@@ -1,7 +1,7 @@
-use Rattle.std.proofs.Common.{◌≡◌, true, false, take}
-use Rattle.dpc_model.specs.Lists.{list_all, list_any}
+use Rattle.std.proofs.Common.{◌≡◌, false, take}
+use Rattle.dpc_model.specs.Lists.{list_any}
 use Rattle.script_rules.specs.Reasons.{is_too_long}
-use Rattle.script_check.proofs.operators.some_is_too_long.Given as goal
+use Rattle.script_check.proofs.kinds.some_is_too_long.Given as goal
 
 abbrev pub invariant-loop-expr : goal.invariant-loop-expr
 invariant-loop-expr l = list_any is_too_long (take l.expr-index l.exprs) ≡ false
