@@ -2,6 +2,7 @@
 use crate::fresh::Fresh;
 use crate::output::{SOutput, Sends};
 use dpc_model::exact::Exact;
+use dpc_model::faults::NoMemory;
 use dpc_model::lists::Listed;
 use dpc_model::messages::{Message, NodeState, Sess, Subscribe};
 use dpc_model::tuples::{Item, Tuple, Tuples, Vals};
@@ -55,20 +56,83 @@ fn are_batches(sends: &Sends, numbers: &[u64], wanted: &[Item]) -> bool {
             .all(|(send, number)| is_batch(&send.1, *number, wanted))
 }
 
+/// What a reader's subscription is answered by, where there is such a reader.
+fn opened(
+    alloc: Global,
+    output: &mut SOutput,
+    reader: usize,
+    asked: Subscribe,
+    state: NodeState,
+) -> Result<Option<Message>, NoMemory> {
+    if reader >= output.readers() {
+        return Ok(None);
+    }
+    output.open_session(alloc, reader, asked, state)
+}
+
+/// What stable tuples are given by.
+fn stable(
+    alloc: Global,
+    output: &mut SOutput,
+    tuples: Tuples,
+    bound: u64,
+) -> Result<Option<Sends>, NoMemory> {
+    if !output.has_room(tuples.len()) {
+        return Ok(None);
+    }
+    Ok(Some(output.stable(alloc, tuples, bound)?))
+}
+
+/// What is said by a call that appends nothing stable.
+#[derive(Drop)]
+enum Saying {
+    Tentative(Tuples),
+    Fresh(Fresh),
+    Undo,
+    RecDone,
+}
+
+fn said(alloc: Global, output: &mut SOutput, saying: Saying) -> Result<Option<Sends>, NoMemory> {
+    if !output.has_room(0) {
+        return Ok(None);
+    }
+    Ok(Some(match saying {
+        Saying::Tentative(tuples) => output.tentative(alloc, tuples)?,
+        Saying::Undo => output.undo(alloc)?,
+        Saying::RecDone => output.rec_done(alloc)?,
+        Saying::Fresh(new) => {
+            if !output.has_room(new.stable.len()) {
+                return Ok(None);
+            }
+            output.give(alloc, new)?
+        }
+    }))
+}
+
+/// An output that gave one stable tuple of time 3 up to 10, with an open session of reader 0.
+fn begun(alloc: Global) -> Result<SOutput, Fail> {
+    let mut output = SOutput::new(alloc, 2)?;
+    opened(alloc, &mut output, 0, asked(0, false), NodeState::Stable)?;
+    stable(alloc, &mut output, tuples(alloc, &[3])?, 10)?;
+    Ok(output)
+}
+
 #[test]
-fn each_open_session_gets_what_is_new(rt: HostRuntime) -> Result<(), Fail> {
+fn an_open_session_gets_what_is_stable(rt: HostRuntime) -> Result<(), Fail> {
     let alloc = rt.alloc();
     let mut output = SOutput::new(alloc, 2)?;
-    let opened = output.open_session(alloc, 0, asked(0, false), NodeState::Stable)?;
-    assert!(rt; opened.is_some_and(|batch| is_batch(&batch, 0, &[])));
-    let sends = output.stable(alloc, tuples(alloc, &[3])?, 10)?;
-    assert!(rt;
-        are_batches(
-            &sends,
-            &[1],
-            &[Item::Stable(0, tuple(alloc, 3)?), Item::Boundary(10, 1)]
-        )
-    );
+    let first = opened(alloc, &mut output, 0, asked(0, false), NodeState::Stable)?;
+    assert!(rt; first.is_some_and(|batch| is_batch(&batch, 0, &[])));
+    let wanted = [Item::Stable(0, tuple(alloc, 3)?), Item::Boundary(10, 1)];
+    let sends = stable(alloc, &mut output, tuples(alloc, &[3])?, 10)?;
+    assert!(rt; sends.is_some_and(|sends| are_batches(&sends, &[1], &wanted)));
+    Ok(())
+}
+
+#[test]
+fn tentative_output_is_shown_and_undone(rt: HostRuntime) -> Result<(), Fail> {
+    let alloc = rt.alloc();
+    let mut output = begun(alloc)?;
     let fresh = Fresh {
         stable: tuples(alloc, &[])?,
         bound: None,
@@ -76,14 +140,9 @@ fn each_open_session_gets_what_is_new(rt: HostRuntime) -> Result<(), Fail> {
         passed: Some(20),
         done: false,
     };
-    let sends = output.give(alloc, fresh)?;
-    assert!(rt;
-        are_batches(
-            &sends,
-            &[2],
-            &[Item::Tentative(tuple(alloc, 15)?), Item::Passed(20)]
-        )
-    );
+    let sends = said(alloc, &mut output, Saying::Fresh(fresh))?;
+    let wanted = [Item::Tentative(tuple(alloc, 15)?), Item::Passed(20)];
+    assert!(rt; sends.is_some_and(|sends| are_batches(&sends, &[2], &wanted)));
     let shown = [
         Item::Undo(0),
         Item::Stable(0, tuple(alloc, 3)?),
@@ -91,13 +150,23 @@ fn each_open_session_gets_what_is_new(rt: HostRuntime) -> Result<(), Fail> {
         Item::Tentative(tuple(alloc, 15)?),
         Item::Passed(20),
     ];
-    let opened = output.open_session(alloc, 1, asked(0, true), NodeState::UpFailure)?;
-    assert!(rt; opened.is_some_and(|batch| is_batch(&batch, 0, &shown)));
-    assert!(rt; are_batches(&output.undo(alloc)?, &[3, 1], &[Item::Undo(1)]));
+    let first = opened(alloc, &mut output, 1, asked(0, true), NodeState::UpFailure)?;
+    assert!(rt; first.is_some_and(|batch| is_batch(&batch, 0, &shown)));
+    let sends = said(alloc, &mut output, Saying::Undo)?;
+    assert!(rt; sends.is_some_and(|sends| are_batches(&sends, &[3, 1], &[Item::Undo(1)])));
     assert!(rt; output.tentatives().is_empty());
-    assert!(rt; are_batches(&output.rec_done(alloc)?, &[4, 2], &[Item::RecDone]));
-    let sends = output.tentative(alloc, tuples(alloc, &[17])?)?;
-    assert!(rt; are_batches(&sends, &[5, 3], &[Item::Tentative(tuple(alloc, 17)?)]));
+    Ok(())
+}
+
+#[test]
+fn each_batch_has_the_next_number(rt: HostRuntime) -> Result<(), Fail> {
+    let alloc = rt.alloc();
+    let mut output = begun(alloc)?;
+    let sends = said(alloc, &mut output, Saying::RecDone)?;
+    assert!(rt; sends.is_some_and(|sends| are_batches(&sends, &[2], &[Item::RecDone])));
+    let sends = said(alloc, &mut output, Saying::Tentative(tuples(alloc, &[17])?))?;
+    let wanted = [Item::Tentative(tuple(alloc, 17)?)];
+    assert!(rt; sends.is_some_and(|sends| are_batches(&sends, &[3], &wanted)));
     Ok(())
 }
 
@@ -105,15 +174,9 @@ fn each_open_session_gets_what_is_new(rt: HostRuntime) -> Result<(), Fail> {
 fn tuples_that_are_gone_are_not_sent(rt: HostRuntime) -> Result<(), Fail> {
     let alloc = rt.alloc();
     let mut output = SOutput::start_at(alloc, 1, 2, tuples(alloc, &[20, 21])?, 30)?;
-    let answer = output.open_session(alloc, 0, asked(1, false), NodeState::Stable)?;
+    let answer = opened(alloc, &mut output, 0, asked(1, false), NodeState::Stable)?;
     assert!(rt; matches!(answer, Some(Message::Truncated(sess, 2)) if sess == FIRST));
+    assert!(rt; output.readers() == 1);
     assert!(rt; output.newest(0) == Some(FIRST) && output.link(0).is_none());
-    assert!(rt;
-        output
-            .open_session(alloc, 0, asked(3, false), NodeState::Stable)?
-            .is_none()
-    );
-    output.ack(0, 1, 3);
-    assert_eq!(rt; (output.buffer().base(), output.buffer().count()), (3, 4));
     Ok(())
 }
