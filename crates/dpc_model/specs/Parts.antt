@@ -43,6 +43,10 @@ processed_view width x = processed width x ++ all_of x.closed
 abbrev pub bucket_at : ℕ → ℕ → Reader → List Tuple
 bucket_at width k r = between (k * width) ((k + 1) * width) (r.stable ++ r.tentative)
 
+-- bucket k as the ports hold it
+abbrev pub bucket_held : ℕ → List Reader → ℕ → List Tagged
+bucket_held width ports k = serial (map (bucket_at width k) ports)
+
 -- ---- the output
 
 -- a stream as it stands: its stable tuples and how far they go, the tentative ones, and how far those are told to go

@@ -1,8 +1,9 @@
 //! The actors of a plan, by number: sources, then the replicas of the fragments, then clients.
 ghost use Rattle.std.specs.Prelude.{◌≡◌, ◌+◌, length, slice_get, Some, IfOk, IfErr};
-ghost use Rattle.dpc_model.specs.Actors.{nodes_from, role_of};
+ghost use Rattle.dpc_model.specs.Actors.{nodes_from, role_of, sends_stream, are_peers};
+ghost use Rattle.dpc_model.specs.Lists.{list_any};
 
-use crate::plans::{FragSpec, Plan};
+use crate::plans::{FragSpec, Plan, StreamRef};
 
 /// What an actor is: a source, a replica of a fragment (fragment and replica), a client, or nobody.
 #[derive(Clone, Copy, PartialEq, Eq, Debug)]
@@ -45,5 +46,33 @@ pub fn role_of(plan: &Plan, actor: u64) -> Role
                 Role::Nobody
             }
         }
+    }
+}
+
+/// Whether an actor sends a stream.
+pub fn sends(stream: StreamRef, sender: Role) -> bool
+    ensures { result ≡ sends_stream stream sender }
+{
+    match (stream, sender) {
+        (StreamRef::Source(s), Role::Source(source)) => s == source,
+        (StreamRef::Frag(f), Role::Node(frag, _)) => f == frag,
+        _ => false,
+    }
+}
+
+/// Whether an actor sends one of these streams.
+pub fn sends_any(streams: &[StreamRef], sender: Role) -> bool
+    ensures { result ≡ list_any (λ s. sends_stream s sender) streams.now }
+{
+    streams.iter().any(|stream| sends(*stream, sender))
+}
+
+/// Whether two actors are replicas of one fragment.
+pub fn are_replicas(a: Role, b: Role) -> bool
+    ensures { result ≡ are_peers a b }
+{
+    match (a, b) {
+        (Role::Node(f, r), Role::Node(g, q)) => f == g && r != q,
+        _ => false,
     }
 }

@@ -5,6 +5,9 @@ use crate::operators::OpSpec;
 use crate::tuples::Tuples;
 use std::alloc::{AllocError, Global};
 
+/// The most replicas of a fragment.
+pub const MOST_REPLICAS: usize = 4;
+
 /// A stream: that of a source, or the output of a fragment.
 #[derive(Clone, Copy, PartialEq, Eq)]
 pub enum StreamRef {

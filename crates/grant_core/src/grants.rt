@@ -5,10 +5,8 @@ ghost use Rattle.dpc_model.specs.Granting.{new_grants, own_key, promised_other, 
 use crate::keys::{Key, Promise, greater, is_at_most, is_over_by, later};
 use arrayvec::ArrayVec;
 use dpc_model::messages::NodeState;
+use dpc_model::plans::MOST_REPLICAS;
 use std::marker::Model;
-
-/// The most replicas that a fragment has.
-pub const MOST_REPLICAS: usize = 4;
 
 /// One replica's asks and promises. While it recovers the others of its fragment serve: it asks each of
 /// them, and a replica that granted doesn't begin to recover before the ask is over. No call takes memory.

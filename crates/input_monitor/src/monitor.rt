@@ -4,10 +4,11 @@ ghost use Rattle.dpc_model.specs.Lists.{nth, changed};
 ghost use Rattle.dpc_model.specs.Ports.{no_port, all_truncated};
 ghost use Rattle.dpc_model.specs.Replicas.{new_watch, after_beat, after_tick, with_mark, after_count, is_silent, rank_of, says_recovering};
 
-use crate::ranks::{MOST_REPLICAS, Ranks};
+use crate::ranks::Ranks;
 use crate::watch::Watch;
 use arrayvec::ArrayVec;
 use dpc_model::messages::{NodeState, Rank};
+use dpc_model::plans::MOST_REPLICAS;
 use std::marker::Model;
 
 /// What is known of each replica of a stream. No call takes memory. Contracts see a `List Watch`, by the

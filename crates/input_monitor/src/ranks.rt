@@ -4,10 +4,8 @@ ghost use Rattle.dpc_model.specs.Replicas.{rank_of};
 
 use crate::watch::Watch;
 use dpc_model::messages::Rank;
+use dpc_model::plans::MOST_REPLICAS;
 use std::marker::Model;
-
-/// The most replicas that a stream has.
-pub const MOST_REPLICAS: usize = 4;
 
 /// The ranks of the replicas of a stream in order. Contracts see the list of them.
 #[derive(Drop)]
@@ -21,7 +19,7 @@ impl Model for Ranks {
     ghost use Rattle.std.specs.Coded.{codes};
     ghost use Rattle.std.specs.Prelude.{◌≤◌, List, take};
     ghost use Rattle.dpc_model.specs.declared.messages.Rank.{Rank};
-    ghost use Rattle.input_monitor.specs.declared.ranks.TheConstants.{MOST_REPLICAS};
+    ghost use Rattle.dpc_model.specs.declared.plans.TheConstants.{MOST_REPLICAS};
 
     ghost Value = { List Rank };
 

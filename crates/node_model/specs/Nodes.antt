@@ -3,11 +3,11 @@ use Rattle.std.specs.Prelude.{ℕ, ◌+◌, ◌-◌, ◌*◌, ◌/◌, Bool, tru
 use Rattle.dpc_model.specs.Lists.{nth, least, is_nil}
 use Rattle.dpc_model.specs.Streams.{cut}
 use Rattle.dpc_model.specs.Operators.{all_of}
-use Rattle.dpc_model.specs.Parts.{bucket_at}
+use Rattle.dpc_model.specs.Parts.{bucket_held}
 use Rattle.dpc_model.specs.Fragments.{serial, fragment_value}
 use Rattle.dpc_model.specs.Reading.{Reader, stable_reader}
 use Rattle.dpc_model.specs.Inlets.{new_inlet, restarted_inlet, sess_of}
-use Rattle.dpc_model.specs.Due.{Stamps, DueView, is_complete, last_due, delay_of}
+use Rattle.dpc_model.specs.Due.{Stamps, DueView, is_complete, first_incomplete, last_due, delay_of}
 use Rattle.dpc_model.specs.Replicas.{Watch, new_watch}
 use Rattle.dpc_model.specs.Granting.{Grants, new_grants}
 use Rattle.dpc_model.specs.NodeStates.{is_stable, is_up_failure}
@@ -162,11 +162,11 @@ held_by n = map held_at n.ports
 
 -- the bucket as it stands
 abbrev pub bucket_of : Home → PlainNode → ℕ → List Tagged
-bucket_of home n k = serial (map (bucket_at home.plan.width k) (held_by n))
+bucket_of home n k = bucket_held home.plan.width (held_by n) k
 
 -- the first bucket that is not complete
 abbrev pub complete_upto : Home → PlainNode → ℕ
-complete_upto home n = least 0 (map (λ (r : Reader). r.bound / home.plan.width) (held_by n))
+complete_upto home n = first_incomplete home.plan.width (held_by n)
 
 -- the number of buckets from the cursor on that are complete, where none is closed
 abbrev pub complete_buckets : Home → PlainNode → ℕ

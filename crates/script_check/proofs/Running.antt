@@ -32,7 +32,7 @@ use Rattle.script_rules.proofs.Passing.{IsFine, Passes, passes, passes_first, pa
 use Rattle.script_check.specs.Judging.{told, Judges, bare, running}
 use Rattle.script_check.specs.Locals.{named_sources, named_frags, named_clients, is_down, against_directive, against_tick}
 use Rattle.script_check.proofs.Judging.{judges_none, judges_then, judges_stop, judges_one, judges_fault, map-more, map-parted, flat-more, flat-parted}
-use Rattle.script_check.proofs.Places.{among-place}
+use Rattle.script_draft.proofs.Names.{among-place}
 
 -- what is known of a plan without a fault
 pub record IsGood (plan : Plan) : Type 0 where

@@ -1,7 +1,5 @@
 //! The lines of clients, and `begin`.
 ghost use Rattle.std.specs.Prelude.{◌≡◌, ℕ, [], ◌∷◌, map, length};
-ghost use Rattle.dpc_model.specs.Lists.{list_any, is_nil};
-ghost use Rattle.dpc_model.specs.declared.plans.FragSpec.{FragSpec};
 ghost use Rattle.script_rules.specs.Reasons.{first_of_tests};
 ghost use Rattle.script_rules.specs.Drafts.{Draft};
 ghost use Rattle.script_rules.specs.Statements.{BeginLine};
@@ -10,12 +8,11 @@ ghost use Rattle.script_check.specs.Locals as local;
 ghost use Rattle.script_check.specs.Behind.{IsBehindClients, JudgesClients};
 
 use crate::names::{is_taken, name_of_stream, stream_of};
-use dpc_model::plans::{ClientSpec, FragSpec, Plan};
+use dpc_model::plans::{ClientSpec, Plan};
 use dpc_model::scripts::PlanFault;
+use script_draft::fragments::has_empty;
+use script_draft::limits::MOST_CLIENTS;
 use script_draft::named::has_name;
-
-/// The most clients of a script.
-const MOST_CLIENTS: usize = 16;
 
 /// The least reason against the line of a client behind these.
 fn fault_of_client(plan: &Plan, before: &[ClientSpec], client: &ClientSpec) -> Option<u64>
@@ -51,18 +48,6 @@ pub fn check_clients(plan: &Plan, line: u64) -> Result<u64, PlanFault>
         next = next.saturating_add(1);
     }
     Ok(next)
-}
-
-/// Whether some fragment has no operator.
-fn has_empty(frags: &[FragSpec]) -> bool
-    ensures { result ≡ list_any (λ (f : FragSpec). is_nil f.ops) frags.now }
-{
-    for frag in frags {
-        if frag.ops.is_empty() {
-            return true;
-        }
-    }
-    false
 }
 
 /// Whether a part is missing: a source, a fragment, a client, or an operator in a fragment.

@@ -8,9 +8,8 @@ ghost use Rattle.script_check.specs.Locals as local;
 use crate::links::{are_linked, is_node};
 use dpc_model::plans::Plan;
 use dpc_model::scripts::{Directive, Phase, PlanFault};
-
-/// The most phases of a script.
-const MOST_PHASES: usize = 2000;
+use script_draft::ends::clock_of;
+use script_draft::limits::MOST_PHASES;
 
 /// Whether a directive makes a node go down or come up, if either.
 fn change_of(directive: Directive, node: u64) -> Option<bool>
@@ -102,21 +101,11 @@ fn fault_of_directive(
     }
 }
 
-/// The clock of the last phase, and 0 where there is none.
-fn last_clock(phases: &[Phase]) -> u64
-    ensures { result ≡ local.last_clock phases.now }
-{
-    match phases.last() {
-        Some(phase) => phase.now,
-        None => 0,
-    }
-}
-
 /// The least reason against a tick behind these phases.
 fn fault_of_tick(before: &[Phase], now: u64) -> Option<u64>
     ensures { result ≡ first_of_tests (local.against_tick before.now now) }
 {
-    if now < last_clock(before) {
+    if now < clock_of(before) {
         Some(13)
     } else if before.len() >= MOST_PHASES {
         Some(14)

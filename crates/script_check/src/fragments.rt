@@ -14,9 +14,7 @@ use crate::operators::Place;
 use arrayvec::ArrayVec;
 use dpc_model::plans::{FragSpec, Plan, StreamRef};
 use dpc_model::scripts::PlanFault;
-
-/// The most fragments of a script.
-const MOST_FRAGMENTS: usize = 16;
+use script_draft::limits::MOST_FRAGMENTS;
 
 /// Whether one of these streams has that name.
 fn has_stream(name: &[u8], plan: &Plan, streams: &[StreamRef]) -> bool
@@ -97,7 +95,7 @@ pub fn check_fragments(plan: &Plan, line: u64) -> Result<u64, PlanFault>
     ensures { (n : ℕ) → line ≡ told n → JudgesFragments result n plan.now }
 {
     let frags = plan.frags.as_slice();
-    let mut columns: ArrayVec<u64, 16> = ArrayVec::new();
+    let mut columns: ArrayVec<u64, MOST_FRAGMENTS> = ArrayVec::new();
     let mut next = line;
     for (i, frag) in frags.iter().enumerate() {
         let place = Place {

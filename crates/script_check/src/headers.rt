@@ -6,9 +6,7 @@ ghost use Rattle.script_check.specs.Judging.{Judges};
 
 use dpc_model::plans::Plan;
 use dpc_model::scripts::PlanFault;
-
-/// The most buckets of a run.
-const MOST_BUCKETS: u64 = 10_000;
+use script_draft::limits::MOST_BUCKETS;
 
 /// The line that names the end.
 const END_LINE: u64 = 4;

@@ -8,15 +8,7 @@ ghost use Rattle.script_rules.specs.Reasons as reason;
 use crate::operator_ranges::all_read_below;
 use dpc_model::expressions::{Expr, ExprNode};
 use dpc_model::operators::{Agg, OpKind};
-
-/// The most columns of a stream.
-pub const MOST_COLUMNS: u64 = 8;
-
-/// The most words of an expression.
-const MOST_WORDS: u64 = 64;
-
-/// The most windows of a tuple.
-const MOST_WINDOWS: u128 = 64;
+use script_draft::limits::{MOST_COLUMNS, MOST_WINDOWS, MOST_WORDS};
 
 /// How many words an expression has, up to 2^64 - 1.
 fn count_words(expr: &Expr) -> u64

@@ -1,44 +1,10 @@
 //! Which actors a link joins.
 ghost use Rattle.std.specs.Prelude.{◌≡◌};
 ghost use Rattle.dpc_model.specs.Actors as spec;
-ghost use Rattle.dpc_model.specs.Lists.{list_any};
 ghost use Rattle.script_rules.specs.Reasons as reason;
 
-use dpc_model::actors::{Role, role_of};
-use dpc_model::plans::{Plan, StreamRef};
-
-/// Whether an actor sends a stream.
-fn sends(stream: StreamRef, sender: Role) -> bool
-    ensures { result ≡ spec.sends_stream stream sender }
-{
-    match (stream, sender) {
-        (StreamRef::Source(s), Role::Source(source)) => s == source,
-        (StreamRef::Frag(f), Role::Node(frag, _)) => f == frag,
-        _ => false,
-    }
-}
-
-/// Whether an actor sends one of these streams.
-fn sends_any(streams: &[StreamRef], sender: Role) -> bool
-    ensures { result ≡ list_any (λ s. spec.sends_stream s sender) streams.now }
-{
-    for stream in streams {
-        if sends(*stream, sender) {
-            return true;
-        }
-    }
-    false
-}
-
-/// Whether two actors are replicas of one fragment.
-fn are_replicas(a: Role, b: Role) -> bool
-    ensures { result ≡ spec.are_peers a b }
-{
-    match (a, b) {
-        (Role::Node(f, r), Role::Node(g, q)) => f == g && r != q,
-        _ => false,
-    }
-}
+use dpc_model::actors::{Role, are_replicas, role_of, sends, sends_any};
+use dpc_model::plans::Plan;
 
 /// Whether an actor reads what another one sends.
 fn reads_from(plan: &Plan, reader: Role, sender: Role) -> bool

@@ -1,25 +1,14 @@
 //! Which names are taken, and what names stand for.
-ghost use Rattle.std.specs.Prelude.{◌≡◌, flat_map, map};
+ghost use Rattle.std.specs.Prelude.{◌≡◌, map};
 ghost use Rattle.dpc_model.specs.ScriptText.{stream_name, wire_word};
-ghost use Rattle.script_rules.specs.Drafts.{op_names, place_of_name};
+ghost use Rattle.script_rules.specs.Drafts.{place_of_name};
 ghost use Rattle.script_rules.specs.Reasons.{is_among};
 ghost use Rattle.script_check.specs.Locals as local;
 
 use dpc_model::operators::Wire;
 use dpc_model::plans::{FragSpec, Plan, SourceSpec, StreamRef};
+use script_draft::fragments::has_operator;
 use script_draft::named::{has_name, place_of};
-
-/// Whether an operator of these fragments has that name.
-fn has_operator(name: &[u8], frags: &[FragSpec]) -> bool
-    ensures { result ≡ is_among name.now (flat_map op_names frags.now) }
-{
-    for frag in frags {
-        if has_name(name, frag.ops.as_slice()) {
-            return true;
-        }
-    }
-    false
-}
 
 /// Whether a source, a fragment or an operator of these has that name.
 pub fn is_taken(name: &[u8], sources: &[SourceSpec], frags: &[FragSpec]) -> bool

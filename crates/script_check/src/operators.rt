@@ -1,6 +1,6 @@
 //! The lines of operators.
-ghost use Rattle.std.specs.Prelude.{◌≡◌, ◌≤◌, ◌==◌, ℕ, [], map, is_none, unwrap_or, None};
-ghost use Rattle.dpc_model.specs.Lists.{nth, last_or, list_any, list_all};
+ghost use Rattle.std.specs.Prelude.{◌≡◌, ◌≤◌, ◌==◌, ℕ, [], map, is_none};
+ghost use Rattle.dpc_model.specs.Lists.{nth, list_any, list_all};
 ghost use Rattle.dpc_model.specs.ScriptText.{wire_word};
 ghost use Rattle.dpc_model.specs.Columns.{kind_columns, columns_by};
 ghost use Rattle.script_rules.specs.Reasons as reason;
@@ -11,35 +11,17 @@ ghost use Rattle.script_check.specs.Locals as local;
 ghost use Rattle.script_check.specs.Behind.{IsInside, JudgesFragment};
 
 use crate::kinds::{
-    MOST_COLUMNS, aggregate_reads_below, exprs_read_below, has_many_columns, is_too_large,
-    keys_read_below, reads_below,
+    aggregate_reads_below, exprs_read_below, has_many_columns, is_too_large, keys_read_below,
+    reads_below,
 };
 use crate::names::{is_taken, name_of_stream, name_of_wire, place_of_stream, stream_of};
 use arrayvec::ArrayVec;
 use dpc_model::operators::{OpKind, OpSpec, Wire};
 use dpc_model::plans::{FragSpec, Plan, StreamRef};
 use dpc_model::scripts::PlanFault;
+use script_draft::ends::{last_number, number_at};
+use script_draft::limits::{MOST_COLUMNS, MOST_OPERATORS};
 use script_draft::named::{has_name, place_of};
-
-/// The most operators of a fragment.
-const MOST_OPERATORS: usize = 16;
-
-/// The number at a place, and 0 past the end.
-fn number_at(numbers: &[u64], place: u64) -> u64
-    ensures { result ≡ nth 0 numbers.now place }
-{
-    numbers.get(place as usize).copied().unwrap_or(0)
-}
-
-/// The last number, and 0 where there is none.
-fn last_number(numbers: &[u64]) -> u64
-    ensures { result ≡ unwrap_or (last_or None numbers.now) 0 }
-{
-    match numbers.last() {
-        Some(number) => *number,
-        None => 0,
-    }
-}
 
 /// A fragment with those before it in the plan, and the columns of these.
 #[derive(Clone, Copy)]
@@ -225,7 +207,7 @@ impl<'a> Place<'a> {
             (map (operator_statement self.entry.plan.now self.entry.frag.now) self.entry.frag.now.ops) }
     {
         let ops = self.frag.ops.as_slice();
-        let mut outs: ArrayVec<u64, 16> = ArrayVec::new();
+        let mut outs: ArrayVec<u64, MOST_OPERATORS> = ArrayVec::new();
         let mut next = line;
         for (i, op) in ops.iter().enumerate() {
             let done = &ops[..i];

@@ -11,13 +11,8 @@ ghost use Rattle.script_check.specs.Rooms.{room_behind, with_source, entry_of, B
 use dpc_model::plans::{Plan, SourceSpec};
 use dpc_model::scripts::PlanFault;
 use dpc_model::tuples::Tuple;
+use script_draft::limits::{MOST_ENTRIES, MOST_SOURCES};
 use script_draft::named::has_name;
-
-/// The most sources of a script.
-const MOST_SOURCES: usize = 16;
-
-/// The most entries of all logs.
-const MOST_ENTRIES: u64 = 200_000;
 
 /// The least reason against the line of a source behind these.
 fn fault_of_source(before: &[SourceSpec], source: &SourceSpec) -> Option<u64>

@@ -4,7 +4,7 @@ mod Columns
 mod Downs
 mod Faults
 mod Found
-mod Lasts
-mod Names
+pub mod Lasts
+pub mod Names
 mod Nodes
 mod Shapes

@@ -2,6 +2,9 @@
 #![tactic(auto)]
 
 pub mod draft;
+pub mod ends;
+pub mod fragments;
+pub mod limits;
 pub mod name_list;
 pub mod named;
 pub mod shape;

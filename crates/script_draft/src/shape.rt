@@ -4,6 +4,8 @@ ghost use Rattle.dpc_model.specs.declared.operators.OpKind.{OpKind};
 ghost use Rattle.script_rules.specs.Reasons.{is_too_large};
 ghost use Rattle.script_draft.specs.Shapes.{HasShape};
 
+use crate::limits::{MOST_WINDOWS, MOST_WORDS};
+
 /// What an operator reads and gives. A number of columns that are read counts up to the greatest one, and may be any number
 /// above 8 where it is above 8.
 #[derive(Clone, Copy)]
@@ -18,12 +20,6 @@ pub enum Shape {
     /// Size and step of the windows, the columns that group and aggregates read, and how many the result has.
     Aggregate(u64, u64, u64, u64),
 }
-
-/// The most words of an expression.
-const MOST_WORDS: u64 = 64;
-
-/// The most windows of a tuple.
-const MOST_WINDOWS: u128 = 64;
 
 impl Shape {
     /// Whether an operator of this shape has an expression of too many words, or too many windows for a tuple.

@@ -5,7 +5,6 @@ use Rattle.dpc_model.specs.Parts.{Stream, shown_of}
 use Rattle.dpc_model.specs.PartStands.{OutputValue}
 use Rattle.dpc_model.specs.Sessions.{no_session, base_after, Given, given_items, with_batches, Answered, answer_to}
 use Rattle.dpc_model.specs.declared.sessions.Sub.{Sub}
-use Rattle.dpc_model.specs.declared.sessions.Sub.{Sub}
 use Rattle.dpc_model.specs.declared.tuples.Tuple.{Tuple}
 use Rattle.dpc_model.specs.declared.tuples.Item.{Item}
 use Rattle.dpc_model.specs.declared.messages.Subscribe.{Subscribe}

@@ -8,7 +8,6 @@ ghost use Rattle.dpc_model.specs.Sessions.{no_session, with_batch, first_batch, 
 ghost use Rattle.dpc_model.specs.declared.sessions.Sub.{Sub};
 ghost use Rattle.dpc_model.specs.declared.tuples.Item.TheVariants as item;
 ghost use Rattle.dpc_model.specs.declared.messages.Message.{Message};
-ghost use Rattle.dpc_model.specs.declared.sessions.Sub.{Sub};
 ghost use Rattle.soutput.specs.Giving.{new_output, batch_to, with_base_after, given_behind, fresh_items, with_batch_of, with_fresh, after_giving, only_stable, only_tentative, without_tentative, stream_behind, HasRoom, IsAnswered};
 
 use crate::fresh::Fresh;

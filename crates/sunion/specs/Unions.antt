@@ -5,8 +5,8 @@ use Rattle.dpc_model.specs.Streams.{InOrder, NoneBelow, time_of}
 use Rattle.dpc_model.specs.Fragments.{serial}
 use Rattle.dpc_model.specs.Reading.{Reader, stable_reader, tuples_in}
 use Rattle.dpc_model.specs.Inlets.{InletState, AfterBatch, take_batch, new_inlet, restarted_inlet, sess_of}
-use Rattle.dpc_model.specs.Due.{Stamps, with_stamps, DueView, last_due}
-use Rattle.dpc_model.specs.Parts.{Inputs, view_of, bucket_at}
+use Rattle.dpc_model.specs.Due.{Stamps, with_stamps, first_incomplete, DueView, last_due}
+use Rattle.dpc_model.specs.Parts.{Inputs, view_of, bucket_held}
 use Rattle.dpc_model.specs.PartStands.{InletValue, StandsForPorts}
 use Rattle.dpc_model.specs.declared.tuples.Tagged.{Tagged}
 use Rattle.dpc_model.specs.declared.tuples.Item.{Item}
@@ -64,11 +64,11 @@ pub record IsAccepted (port : ℕ) (s : Sess) (index : ℕ) (items : List Item) 
 
 -- the first bucket that is not complete
 abbrev pub complete_upto_in : ℕ → Inputs → ℕ
-complete_upto_in width x = least 0 (map (λ (r : Reader). r.bound / width) (held_in x))
+complete_upto_in width x = first_incomplete width (held_in x)
 
 -- bucket k as it stands
 abbrev pub bucket_in : ℕ → Inputs → ℕ → List Tagged
-bucket_in width x k = serial (map (bucket_at width k) (held_in x))
+bucket_in width x k = bucket_held width (held_in x) k
 
 -- what tells which buckets are due, where soft marks count or don't
 abbrev pub due_view_of : SUnionValue → Bool → Inputs → DueView

@@ -7,14 +7,12 @@ ghost use Rattle.script_rules.specs.Reading as reading;
 
 use crate::draft::Draft;
 use crate::draft::sources::name_of_bytes;
+use crate::limits::MOST_CLIENTS;
 use dpc_model::faults::NoMemory;
 use dpc_model::lists::Listed;
 use dpc_model::plans::{ClientSpec, Plan, StreamRef};
 use dpc_model::scripts::Script;
 use std::alloc::Global;
-
-/// The most clients of a script.
-const MOST_CLIENTS: usize = 16;
 
 impl Draft {
     /// The least reason against the line of a client.

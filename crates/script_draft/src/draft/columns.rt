@@ -6,27 +6,11 @@ ghost use Rattle.script_rules.specs.Drafts as spec;
 ghost use Rattle.script_draft.specs.Columns.{columns_in, source_columns, outputs_behind, ports_of, outs_of};
 
 use crate::draft::Draft;
+use crate::ends::{last_number, number_at};
 use dpc_model::faults::NoMemory;
 use dpc_model::operators::{OpKind, Wire};
 use dpc_model::plans::{SourceSpec, StreamRef};
 use std::alloc::Global;
-
-/// The number at a place, and 0 past the end.
-fn number_at(numbers: &[u64], place: u64) -> u64
-    ensures { result ≡ nth 0 numbers.now place }
-{
-    numbers.get(place as usize).copied().unwrap_or(0)
-}
-
-/// The last number, and 0 where there is none.
-fn last_number(numbers: &[u64]) -> u64
-    ensures { result ≡ unwrap_or (last_or None numbers.now) 0 }
-{
-    match numbers.last() {
-        Some(number) => *number,
-        None => 0,
-    }
-}
 
 /// The columns of a stream, by those of the fragments.
 fn stream_columns(sources: &[SourceSpec], frags: &[u64], stream: StreamRef) -> u64

@@ -11,14 +11,12 @@ ghost use Rattle.script_draft.specs.Names.{names_in};
 use crate::draft::Draft;
 use crate::draft::columns::port_columns;
 use crate::draft::sources::name_of_bytes;
+use crate::limits::MOST_FRAGMENTS;
 use crate::name_list::NameList;
 use dpc_model::faults::NoMemory;
 use dpc_model::lists::Listed;
 use dpc_model::plans::{FragSpec, StreamRef};
 use std::alloc::Global;
-
-/// The most fragments of a script.
-const MOST_FRAGMENTS: usize = 16;
 
 /// The last fragment gets a delay of its own.
 fn set_delay(frags: &mut Vec<FragSpec>, delay: u64)

@@ -1,7 +1,6 @@
 //! Which actors a link joins.
 ghost use Rattle.std.specs.Prelude.{◌≡◌, ℕ, Some, is_some, IfOk, IfSome};
-ghost use Rattle.dpc_model.specs.Actors.{sends_stream, reads_from, are_peers};
-ghost use Rattle.dpc_model.specs.Lists.{list_any};
+ghost use Rattle.dpc_model.specs.Actors.{reads_from};
 ghost use Rattle.dpc_model.specs.declared.scripts.Directive.{Directive};
 ghost use Rattle.script_rules.specs.Statements.{LinkLine};
 ghost use Rattle.script_rules.specs.Drafts as spec;
@@ -10,41 +9,7 @@ ghost use Rattle.script_draft.specs.Caches.{fault_in};
 ghost use Rattle.script_draft.specs.Nodes.{roles_linked, AreNamed};
 
 use crate::draft::Draft;
-use dpc_model::actors::Role;
-use dpc_model::plans::StreamRef;
-
-/// Whether an actor sends a stream.
-fn sends(stream: StreamRef, sender: Role) -> bool
-    ensures { result ≡ sends_stream stream sender }
-{
-    match (stream, sender) {
-        (StreamRef::Source(s), Role::Source(source)) => s == source,
-        (StreamRef::Frag(f), Role::Node(frag, _)) => f == frag,
-        _ => false,
-    }
-}
-
-/// Whether an actor sends one of these streams.
-fn sends_any(streams: &[StreamRef], sender: Role) -> bool
-    ensures { result ≡ list_any (λ s. sends_stream s sender) streams.now }
-{
-    for stream in streams {
-        if sends(*stream, sender) {
-            return true;
-        }
-    }
-    false
-}
-
-/// Whether two actors are replicas of one fragment.
-fn are_replicas(a: Role, b: Role) -> bool
-    ensures { result ≡ are_peers a b }
-{
-    match (a, b) {
-        (Role::Node(f, r), Role::Node(g, q)) => f == g && r != q,
-        _ => false,
-    }
-}
+use dpc_model::actors::{Role, are_replicas, sends, sends_any};
 
 impl Draft {
     /// Whether an actor reads what another one sends.

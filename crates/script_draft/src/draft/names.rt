@@ -1,25 +1,14 @@
 //! What a name stands for.
-ghost use Rattle.std.specs.Prelude.{◌≡◌, flat_map, map};
+ghost use Rattle.std.specs.Prelude.{◌≡◌, map};
 ghost use Rattle.dpc_model.specs.ScriptText.{stream_name};
 ghost use Rattle.script_rules.specs.Drafts as spec;
 ghost use Rattle.script_rules.specs.Reasons.{is_among};
 
 use crate::draft::Draft;
+use crate::fragments::has_operator;
 use crate::named::{has_name, place_of};
 use dpc_model::operators::Wire;
-use dpc_model::plans::{FragSpec, StreamRef};
-
-/// Whether an operator of these fragments has that name.
-fn has_operator(name: &[u8], frags: &[FragSpec]) -> bool
-    ensures { result ≡ is_among name.now (flat_map spec.op_names frags.now) }
-{
-    for frag in frags {
-        if has_name(name, frag.ops.as_slice()) {
-            return true;
-        }
-    }
-    false
-}
+use dpc_model::plans::StreamRef;
 
 impl Draft {
     /// The number of the source of that name.

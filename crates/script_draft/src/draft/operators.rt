@@ -15,6 +15,7 @@ ghost use Rattle.script_draft.specs.Shapes.{HasShape};
 use crate::draft::Draft;
 use crate::draft::columns::columns_of_kind;
 use crate::draft::sources::name_of_bytes;
+use crate::limits::{MOST_COLUMNS, MOST_OPERATORS};
 use crate::name_list::NameList;
 use crate::shape::Shape;
 use dpc_model::faults::NoMemory;
@@ -22,12 +23,6 @@ use dpc_model::lists::Listed;
 use dpc_model::operators::{OpKind, OpSpec, Wire};
 use dpc_model::plans::FragSpec;
 use std::alloc::Global;
-
-/// The most operators of a fragment.
-const MOST_OPERATORS: usize = 16;
-
-/// The most columns of a stream.
-const MOST_COLUMNS: u64 = 8;
 
 /// Whether an input has fewer columns than are read, or a result has too many.
 fn misses(input: u64, reads: u64, output: u64) -> bool

@@ -12,37 +12,14 @@ ghost use Rattle.script_draft.specs.Caches.{fault_in};
 
 use crate::draft::Draft;
 use crate::draft::actors::is_node;
+use crate::ends::clock_of;
+use crate::fragments::has_empty;
+use crate::limits::MOST_PHASES;
 use dpc_model::faults::NoMemory;
 use dpc_model::lists::Listed;
-use dpc_model::plans::FragSpec;
 use dpc_model::scripts::{Directive, Phase};
 use std::alloc::Global;
 use std::mem;
-
-/// The most phases of a script.
-const MOST_PHASES: usize = 2000;
-
-/// Whether some fragment has no operator.
-fn has_empty(frags: &[FragSpec]) -> bool
-    ensures { result ≡ list_any (λ (f : FragSpec). is_nil f.ops) frags.now }
-{
-    for frag in frags {
-        if frag.ops.is_empty() {
-            return true;
-        }
-    }
-    false
-}
-
-/// The clock of the last phase, and 0 where there is none.
-fn clock_of(phases: &[Phase]) -> u64
-    ensures { result ≡ unwrap_or (last_or None (map (λ (p : Phase). p.now) phases.now)) 0 }
-{
-    match phases.last() {
-        Some(phase) => phase.now,
-        None => 0,
-    }
-}
 
 /// Lets a number go, wherever it stands.
 fn remove(numbers: &mut Vec<u64>, number: u64)

@@ -8,20 +8,12 @@ ghost use Rattle.script_rules.specs.Reasons.{first_of_tests, tests_said, last_ti
 ghost use Rattle.script_draft.specs.Caches.{fault_in, StandsFor, IsSourceAt};
 
 use crate::draft::Draft;
+use crate::limits::{MOST_BUCKETS, MOST_ENTRIES, MOST_SOURCES};
 use dpc_model::faults::NoMemory;
 use dpc_model::lists::{Listed, Name};
 use dpc_model::plans::SourceSpec;
 use dpc_model::tuples::{Tuple, Vals};
 use std::alloc::Global;
-
-/// The most sources of a script.
-const MOST_SOURCES: usize = 16;
-
-/// The most entries of all logs.
-const MOST_ENTRIES: u64 = 200_000;
-
-/// The most buckets of a script.
-const MOST_BUCKETS: u64 = 10_000;
 
 /// A name of these bytes.
 pub(super) fn name_of_bytes(alloc: Global, bytes: &[u8]) -> Result<Name, NoMemory>

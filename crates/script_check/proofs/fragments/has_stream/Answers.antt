@@ -1,7 +1,7 @@
 use Rattle.std.proofs.Common.{map, ap, ◌∙◌}
 use Rattle.std.specs.Prelude.{is_some}
 use Rattle.dpc_model.specs.ScriptText.{stream_name}
-use Rattle.script_check.proofs.Places.{among-place}
+use Rattle.script_draft.proofs.Names.{among-place}
 use Rattle.script_check.proofs.fragments.has_stream.Goals as goal
 
 pub returns : goal.returns

@@ -3,7 +3,7 @@ use Rattle.std.specs.Prelude.{bytes_eq}
 use Rattle.std.proofs.lemmas.List.{take_all}
 use Rattle.dpc_model.specs.ScriptText.{stream_name}
 use Rattle.script_rules.proofs.Streams.{no_place}
-use Rattle.script_check.proofs.Places.{place-here, none-next}
+use Rattle.script_draft.proofs.Names.{place-here, none-next}
 use Rattle.script_check.proofs.names.place_of_stream.Goals as goal
 
 pub returns-then-eq : goal.returns-then-eq

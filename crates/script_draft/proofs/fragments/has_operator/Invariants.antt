@@ -2,7 +2,7 @@ use Rattle.std.proofs.Common.{◌≡◌, false, take}
 use Rattle.std.specs.Prelude.{flat_map}
 use Rattle.script_rules.specs.Drafts.{op_names}
 use Rattle.script_rules.specs.Reasons.{is_among}
-use Rattle.script_check.proofs.names.has_operator.Given as goal
+use Rattle.script_draft.proofs.fragments.has_operator.Given as goal
 
 -- none so far
 abbrev pub invariant-loop-frag : goal.invariant-loop-frag

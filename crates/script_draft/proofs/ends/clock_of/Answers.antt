@@ -2,7 +2,7 @@ use Rattle.std.proofs.Common.{◌≡◌, ◌∙◌, Some, None, refl, sym}
 use Rattle.dpc_model.specs.Lists.{last_or}
 use Rattle.dpc_model.specs.declared.scripts.Phase.{Phase}
 use Rattle.script_draft.proofs.Lasts.{last-get, last-map}
-use Rattle.script_draft.proofs.draft.phases.clock_of.Goals as goal
+use Rattle.script_draft.proofs.ends.clock_of.Goals as goal
 
 pub returns-in-Some : goal.returns-in-Some
 returns-in-Some c =

@@ -1,7 +1,7 @@
 use Rattle.std.proofs.Common.{◌≡◌, ◌∙◌, Some, None, refl, sym}
 use Rattle.dpc_model.specs.Lists.{last_or}
 use Rattle.script_draft.proofs.Lasts.{last-get}
-use Rattle.script_draft.proofs.draft.columns.last_number.Goals as goal
+use Rattle.script_draft.proofs.ends.last_number.Goals as goal
 
 pub returns-in-Some : goal.returns-in-Some
 returns-in-Some c =

@@ -3,8 +3,8 @@ use Rattle.std.proofs.lemmas.Bool.{false≢true}
 use Rattle.std.proofs.lemmas.List.{take_all}
 use Rattle.dpc_model.specs.Lists.{is_nil}
 use Rattle.dpc_model.specs.declared.plans.FragSpec.{FragSpec}
-use Rattle.script_check.proofs.Places.{any-here, none-more}
-use Rattle.script_check.proofs.clients.has_empty.Goals as goal
+use Rattle.script_draft.proofs.Names.{any-here, none-more}
+use Rattle.script_draft.proofs.fragments.has_empty.Goals as goal
 
 some : {X : Type 0} (xs : List X) → (xs ≡ [] → ⊥) → is_nil xs ≡ false
 some [] h = absurd (h refl)

@@ -3,7 +3,7 @@ use Rattle.std.proofs.lemmas.List.{take_all}
 use Rattle.script_rules.specs.Drafts.{op_names}
 use Rattle.script_rules.specs.Reasons.{is_among}
 use Rattle.script_draft.proofs.Names.{operator-here, no-operator-next}
-use Rattle.script_draft.proofs.draft.names.has_operator.Goals as goal
+use Rattle.script_draft.proofs.fragments.has_operator.Goals as goal
 
 pub returns-then-has_name : goal.returns-then-has_name
 returns-then-has_name c =

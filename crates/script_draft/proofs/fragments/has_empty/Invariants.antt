@@ -1,7 +1,7 @@
 use Rattle.std.proofs.Common.{◌≡◌, false, take}
 use Rattle.dpc_model.specs.Lists.{is_nil, list_any}
 use Rattle.dpc_model.specs.declared.plans.FragSpec.{FragSpec}
-use Rattle.script_check.proofs.clients.has_empty.Given as goal
+use Rattle.script_draft.proofs.fragments.has_empty.Given as goal
 
 -- none so far
 abbrev pub invariant-loop-frag : goal.invariant-loop-frag
