@@ -178,6 +178,19 @@ impl<M: Engine + Drop> Keeper<M> {
         }
     }
 
+    /// The state, where the keeper has served. It takes no memory.
+    pub fn into_state(self) -> M
+        ensures state { result ≡ self.keeper.state }
+        ensures spent { self.spent ≡ false → M.is_spent result ≡ false }
+    {
+        let Keeper {
+            state,
+            held: _,
+            spent: _,
+        } = self;
+        state
+    }
+
     /// Whether a copy is held. It takes no memory.
     pub fn is_held(&self) -> bool
         ensures { result ≡ is_some self.now.keeper.held }

@@ -1,0 +1,7 @@
+//! Work that is taken out of a node, done apart, and put back.
+#![tactic(auto)]
+
+pub mod milling;
+pub mod order;
+#[cfg(test)]
+mod tests;
