@@ -17,6 +17,7 @@ pub mod scripts;
 pub mod sessions;
 pub mod shared;
 pub mod steps;
+pub mod streams;
 #[cfg(test)]
 mod tests;
 pub mod tuples;

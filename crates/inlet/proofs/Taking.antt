@@ -10,6 +10,8 @@ use Rattle.dpc_model.specs.declared.tuples.Item.{Item}
 use Rattle.dpc_model.specs.declared.batches.Taken.TheVariants as taken_as
 use Rattle.dpc_model.specs.declared.messages.Sess.{Sess}
 use Rattle.inlet.specs.Forgotten.{Keeps, IsTaken}
+use Rattle.std.proofs.lemmas.List.{length-map}
+use Rattle.inlet.proofs.Whole.{whole-taken}
 use Rattle.inlet.specs.Drafts.{Began, drafted, folded_of, IsFold, IsEmpty, committed}
 use Rattle.inlet.specs.Batches.{left_by, IsRead}
 use Rattle.inlet.specs.declared.draft.Draft.{Draft}
@@ -27,6 +29,7 @@ unfolding take_batch
 reads-old sess index items v old = record {
   left = λ gone x k. subst (λ (y : InletState). take_batch y sess index items ≡ left_by y batch.Old) (sym (whole-is gone v x k)) (rw old refl);
   within = tt;
+  whole = tt;
 }
 
 pub reads-behind : (sess : Sess) (index : ℕ) (items : List Item) (v : InletValue) → is_old v.state sess index ≡ false → (v.state.broken || nat_lt v.state.next index) ≡ true →
@@ -35,6 +38,7 @@ unfolding take_batch
 reads-behind sess index items v old behind = record {
   left = λ gone x k. subst (λ (y : InletState). take_batch y sess index items ≡ left_by y batch.Broken) (sym (whole-is gone v x k)) (rw (old, behind) refl);
   within = tt;
+  whole = tt;
 }
 
 -- the draft before the first item stands for the reader itself
@@ -71,7 +75,7 @@ reads-next sess index items v empty d taken old behind h f gone x k =
 
 pub reads-refused : (sess : Sess) (index : ℕ) (items : List Item) (v : InletValue) (empty d : Draft) → is_old v.state sess index ≡ false →
     (v.state.broken || nat_lt v.state.next index) ≡ false → IsEmpty v empty → IsFold items empty d None → IsRead sess index items v batch.Broken
-reads-refused sess index items v empty d old behind h f = record { left = reads-next sess index items v empty d None old behind h f; within = tt }
+reads-refused sess index items v empty d old behind h f = record { left = reads-next sess index items v empty d None old behind h f; within = tt; whole = tt }
 
 pub reads-taken : (sess : Sess) (index : ℕ) (items : List Item) (v : InletValue) (empty d : Draft) (taken : Vec (Bor Item) Global) → is_old v.state sess index ≡ false →
     (v.state.broken || nat_lt v.state.next index) ≡ false → IsEmpty v empty → IsFold items empty d (Some (map (λ (b : Bor Item). b.now) taken.items)) →
@@ -79,6 +83,7 @@ pub reads-taken : (sess : Sess) (index : ℕ) (items : List Item) (v : InletValu
 reads-taken sess index items v empty d taken old behind h f = record {
   left = reads-next sess index items v empty d (Some (map (λ (b : Bor Item). b.now) taken.items)) old behind h f;
   within = let none = ap (λ (ts : List Tuple). length ts) h.stable in let more = f.grows in omega (arith, none, more);
+  whole = λ e. whole-taken items empty d (map (λ (b : Bor Item). b.now) taken.items) f (length-map taken.items (λ (b : Bor Item). b.now) ∙ e);
 }
 
 -- what the draft adds to the inlet it adds to the plain one

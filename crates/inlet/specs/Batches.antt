@@ -24,7 +24,14 @@ AddsWithin n (batch.Next d taken) = length d.stable.items ≤ n
 AddsWithin n batch.Old = Unit {0}
 AddsWithin n batch.Broken = Unit {0}
 
+-- of the items that were taken there are as many as in the batch only where they are the batch
+abbrev pub IsWhole : List Item → Batch → Type 0
+IsWhole items (batch.Next d taken) = length taken.items ≡ length items → map (λ (item : Bor Item). item.now) taken.items ≡ items
+IsWhole items batch.Old = Unit {0}
+IsWhole items batch.Broken = Unit {0}
+
 -- a batch is read as the plain inlet takes it
 pub record IsRead (sess : Sess) (index : ℕ) (items : List Item) (v : InletValue) (b : Batch) : Type 0 where
   pub left : (gone : List Tuple) (x : InletState) → Keeps gone v x → take_batch x sess index items ≡ left_by x b
   pub within : AddsWithin (length items) b
+  pub whole : IsWhole items b

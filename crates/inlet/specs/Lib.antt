@@ -1,3 +1,4 @@
 pub mod Batches
 pub mod Drafts
 pub mod Forgotten
+pub mod Ordered

@@ -3,5 +3,7 @@
 
 mod draft;
 pub mod inlet;
+mod items;
+mod tentative;
 #[cfg(test)]
 mod tests;

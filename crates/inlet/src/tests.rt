@@ -2,9 +2,9 @@
 use crate::inlet::{Absorbed, Inlet};
 use dpc_model::batches::Taken;
 use dpc_model::exact::Exact;
-use dpc_model::lists::Listed;
 use dpc_model::messages::{Sess, Subscribe};
-use dpc_model::tuples::{Item, Items, Tuple, Vals};
+use dpc_model::shared::Shared;
+use dpc_model::tuples::{Item, Tuple, Vals};
 use std::alloc::{AllocError, Global};
 use std::test::Fail;
 
@@ -23,17 +23,20 @@ fn take(
     inlet: &mut Inlet,
     session: u64,
     index: u64,
-    items: &Items,
+    items: &Shared<Item>,
 ) -> Result<Taken, Fail> {
     if inlet.count() >= 100 || inlet.next() >= 100 || items.len() >= 100 {
         Err("there is no room")?;
     }
-    Ok(inlet.take(alloc, sess(session), index, items.as_slice())?)
+    Ok(inlet.take(alloc, sess(session), index, items)?)
 }
 
-fn is_used(answer: &Taken, wanted: &Items) -> bool {
+fn is_used(answer: &Taken, wanted: &Shared<Item>) -> bool {
     match answer {
-        Taken::Used(items) => items.same(wanted),
+        Taken::Used(items) => {
+            let same = |(item, other): (&Item, &Item)| item.same(other);
+            items.len() == wanted.len() && items.as_slice().iter().zip(wanted.as_slice()).all(same)
+        }
         _ => false,
     }
 }
@@ -41,12 +44,12 @@ fn is_used(answer: &Taken, wanted: &Items) -> bool {
 #[test]
 fn repeats_are_old(rt: HostRuntime) -> Result<(), Fail> {
     let alloc = rt.alloc();
-    let items = Listed::from_vec(vec![in alloc;
+    let items = Shared::from_vec(vec![in alloc;
         Item::Stable(0, tuple(alloc, 1, 7)?),
         Item::Boundary(5, 1),
-    ]?);
-    let undo = Listed::from_vec(vec![in alloc; Item::Undo(0)]?);
-    let done = Listed::from_vec(vec![in alloc; Item::RecDone]?);
+    ]?)?;
+    let undo = Shared::from_vec(vec![in alloc; Item::Undo(0)]?)?;
+    let done = Shared::from_vec(vec![in alloc; Item::RecDone]?)?;
     let mut inlet = Inlet::new(alloc, 1);
     assert!(rt; is_used(&take(alloc, &mut inlet, 1, 0, &items)?, &items));
     for _ in 0..3 {
@@ -70,17 +73,17 @@ fn repeats_are_old(rt: HostRuntime) -> Result<(), Fail> {
 #[test]
 fn a_lagging_replica_adds_nothing(rt: HostRuntime) -> Result<(), Fail> {
     let alloc = rt.alloc();
-    let first = Listed::from_vec(vec![in alloc;
+    let first = Shared::from_vec(vec![in alloc;
         Item::Boundary(10, 2),
         Item::Tentative(tuple(alloc, 15, 1)?),
         Item::Tentative(tuple(alloc, 25, 2)?),
-    ]?);
-    let last = Listed::from_vec(vec![in alloc; Item::Tentative(tuple(alloc, 25, 2)?)]?);
-    let second = Listed::from_vec(vec![in alloc;
+    ]?)?;
+    let last = Shared::from_vec(vec![in alloc; Item::Tentative(tuple(alloc, 25, 2)?)]?)?;
+    let second = Shared::from_vec(vec![in alloc;
         Item::Undo(2),
         Item::Stable(2, tuple(alloc, 16, 3)?),
-    ]?);
-    let undo = Listed::from_vec(vec![in alloc; Item::Undo(2)]?);
+    ]?)?;
+    let undo = Shared::from_vec(vec![in alloc; Item::Undo(2)]?)?;
     let mut inlet = Inlet::start_at(alloc, sess(1), 3, 20);
     assert_eq!(rt; inlet.sess().number, 1);
     inlet.reopen();

@@ -7,6 +7,7 @@ ghost use Rattle.sunion.specs.Ports.{bucket_of, KeptInOrder};
 
 use dpc_model::exact::Exact;
 use dpc_model::faults::NoMemory;
+use dpc_model::streams::count_below;
 use dpc_model::tuples::{Tagged, Tuple};
 use inlet::inlet::Inlet;
 use std::alloc::Global;
@@ -73,6 +74,26 @@ fn push_between(
     Ok(())
 }
 
+/// Of tuples in order of time those that lie from one time on and below another.
+fn part(tuples: &[Tuple], from: u64, upto: u64) -> &[Tuple]
+    requires { InOrder tuples.now }
+    ensures { between from upto result.now ≡ between from upto tuples.now }
+{
+    let rest = &tuples[count_below(tuples, from)..];
+    &rest[..count_below(rest, upto)]
+}
+
+/// The tentative tuples of a port, or a part of them that has all from one time on and below another.
+fn tentative_part(inlet: &Inlet, from: u64, upto: u64) -> &[Tuple]
+    ensures { between from upto result.now ≡ between from upto inlet.now.state.held.tentative }
+{
+    if inlet.is_tentative_in_order() {
+        part(inlet.tentative(), from, upto)
+    } else {
+        inlet.tentative()
+    }
+}
+
 /// The tuples of bucket k, in order of time, port and place.
 pub fn bucket(alloc: Global, ports: &[Inlet], width: u64, k: u64) -> Result<Vec<Tagged>, NoMemory>
     requires width { 0 < width }
@@ -83,14 +104,8 @@ pub fn bucket(alloc: Global, ports: &[Inlet], width: u64, k: u64) -> Result<Vec<
     let mut tagged = Vec::new(alloc);
     for (port, inlet) in ports.iter().enumerate() {
         push_ordered(alloc, &mut tagged, port as u64, inlet.kept(), from, upto)?;
-        push_between(
-            alloc,
-            &mut tagged,
-            port as u64,
-            inlet.tentative(),
-            from,
-            upto,
-        )?;
+        let tentative = tentative_part(inlet, from, upto);
+        push_between(alloc, &mut tagged, port as u64, tentative, from, upto)?;
     }
     tagged.sort_by_key(|tagged| tagged.tuple.stime)?;
     Ok(tagged)

@@ -19,6 +19,8 @@ use std::alloc::Global;
 use std::collections::VecDeque;
 use std::marker::Model;
 
+mod sessions;
+
 /// What a batch was to a port.
 #[derive(Clone, Copy, PartialEq, Eq, Debug)]
 pub enum Verdict {
@@ -191,8 +193,8 @@ impl SUnion {
         later(self.overdue(now), passed)
     }
 
-    /// The tuples of bucket k, in order of time, port and place. It costs what the bucket holds, a search
-    /// at each port, and a look at each tentative tuple.
+    /// The tuples of bucket k, in order of time, port and place. It costs what the bucket holds and a search
+    /// at each port; where a port's tentative tuples are not in order of time, a look at each of them.
     pub fn bucket(&self, alloc: Global, k: u64) -> Result<Vec<Tagged>, NoMemory>
         requires range { (k + 1) * self.now.width < 2 ^ 64 }
         requires from { self.now.union.cursor ≤ k }
@@ -233,69 +235,5 @@ impl SUnion {
         ensures { self.new ≡ with_closed 0 self.old }
     {
         self.closed = 0;
-    }
-
-    /// The next session of a port is asked for. It takes no memory.
-    pub fn reopen(&mut self, port: usize) -> Subscribe
-        requires inside { port < length self.old.union.inlets }
-        requires range { (nth no_value self.old.union.inlets port).state.sess.number + 1 < 2 ^ 64 }
-        ensures after { self.new ≡ with_inlet_state port with_next_session self.old }
-        ensures asked { (x : Inputs) → StandsForInputs self.old x → result ≡ asked_by (with_next_session (nth no_inlet x.inlets port)) }
-    {
-        self.ports[port].reopen()
-    }
-
-    /// What the sender of a port's stream tells of the session, and whether it shows that a batch is
-    /// missing. Then the port is broken. It takes no memory.
-    pub fn heard(&mut self, port: usize, link: Option<(Sess, u64)>) -> bool
-        requires inside { port < length self.old.union.inlets }
-        ensures after { self.new ≡ with_inlet_state port (λ i. after_link i link) self.old }
-        ensures told { result ≡ shows_loss (nth no_value self.old.union.inlets port).state link }
-    {
-        self.ports[port].heard(link)
-    }
-
-    /// The last session of a port gets a number. It takes no memory.
-    pub fn renumber(&mut self, port: usize, number: u64)
-        requires inside { port < length self.old.union.inlets }
-        ensures { self.new ≡ with_inlet_state port (λ i. record i { sess = sess_of i.sess.inc number }) self.old }
-    {
-        self.ports[port].renumber(number);
-    }
-
-    /// The first bucket that is not processed stably.
-    pub fn cursor(&self) -> u64
-        ensures { result ≡ self.now.union.cursor }
-    {
-        self.cursor
-    }
-
-    /// How many buckets are closed from the cursor on.
-    pub fn closed(&self) -> u64
-        ensures { result ≡ self.now.union.closed }
-    {
-        self.closed
-    }
-
-    /// How many units of time a bucket has.
-    pub fn width(&self) -> u64
-        ensures { result ≡ self.now.width }
-    {
-        self.width
-    }
-
-    /// How many ports there are.
-    pub fn ports(&self) -> usize
-        ensures { result ≡ length self.now.union.inlets }
-    {
-        self.ports.len()
-    }
-
-    /// The inlet of a port.
-    pub fn inlet(&self, port: usize) -> &Inlet
-        requires { port < length self.now.union.inlets }
-        ensures { result.now ≡ nth no_value self.now.union.inlets port }
-    {
-        &self.ports[port]
     }
 }

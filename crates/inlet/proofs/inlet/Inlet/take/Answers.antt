@@ -1,14 +1,24 @@
-use Rattle.std.proofs.Common.{◌∙◌, ap, sym, subst, map, List}
+use Rattle.std.proofs.Common.{◌∙◌, ap, sym, subst, map, length, List}
 use Rattle.std.specs.Borrow.{Bor}
 use Rattle.dpc_model.specs.declared.tuples.Item.{Item}
 use Rattle.dpc_model.specs.declared.batches.Taken.TheVariants as taken_as
+use Rattle.inlet.specs.Batches.{IsRead}
 use Rattle.inlet.specs.Forgotten.{IsTaken}
+use Rattle.inlet.specs.declared.inlet.Batch.TheVariants as batch
 use Rattle.inlet.proofs.Taking.{takes-next}
 use Rattle.inlet.proofs.inlet.Inlet.take.Goals as goal
 
+abbrev values : List (Bor Item) → List Item
+values items = map (λ (item : Bor Item). item.now) items
+
+pub shared-requires : goal.shared-requires
+shared-requires c =
+    let read : IsRead c.args.sess c.args.index c.args.items.now c.args.self.now (batch.Next c.in-Next.draft c.in-Next.taken) = rw (c.in-Next.is, c.as_slice.ensures) at c.in_ok-draft.ensures in
+    let taken = c.as_slice-in-Next.ensures.value in λ e. ap values taken ∙ read.whole (sym (ap (λ (items : List (Bor Item)). length items) taken) ∙ e)
+
 pub returns-in_ok-commit-in-Next-clause-ok : goal.returns-in_ok-commit-in-Next-clause-ok
 returns-in_ok-commit-in-Next-clause-ok c =
-    let told = c.in_ok-items-in-Next.ensures ∙ ap (λ (items : List (Bor Item)). map (λ (item : Bor Item). item.now) items) c.as_slice.ensures.value in
-    let read = rw c.in-Next.is at c.in_ok-draft.ensures in
+    let told = c.in_ok-taken-in-Next.ensures ∙ ap values c.as_slice-in-Next.ensures.value in
+    let read : IsRead c.args.sess c.args.index c.args.items.now c.args.self.now (batch.Next c.in-Next.draft c.in-Next.taken) = rw (c.in-Next.is, c.as_slice.ensures) at c.in_ok-draft.ensures in
     subst (λ (items : List Item). IsTaken c.args.sess c.args.index c.args.items.now c.args.self.now c.commit.new.self (taken_as.Used items)) (sym told)
     (takes-next c.args.sess c.args.index c.args.items.now c.args.self.now c.commit.new.self c.in-Next.draft c.in-Next.taken read c.in_ok-commit-in-Next.ensures.ok)

@@ -1,7 +1,7 @@
 use Rattle.std.proofs.Common.{◌∙◌, ◌++◌, ap, sym, append-nil, ℕ, Option, option_to_list}
 use Rattle.inlet.proofs.Folds.{times-more}
-use Rattle.inlet.proofs.inlet.times.Goals as goal
-use Rattle.inlet.proofs.inlet.times.Goals.{in-Some+in_ok-push, in_default}
+use Rattle.inlet.proofs.items.times.Goals as goal
+use Rattle.inlet.proofs.items.times.Goals.{in-Some+in_ok-push, in_default}
 
 pub loop-item-preserved : goal.loop-item-preserved
 loop-item-preserved c =

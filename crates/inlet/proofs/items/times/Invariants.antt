@@ -2,7 +2,7 @@ use Rattle.std.proofs.Common.{◌≡◌, map, take}
 use Rattle.std.specs.Borrow.{Bor}
 use Rattle.dpc_model.specs.declared.tuples.Item.{Item}
 use Rattle.inlet.proofs.Folds.{times_in}
-use Rattle.inlet.proofs.inlet.times.Given as goal
+use Rattle.inlet.proofs.items.times.Given as goal
 
 -- the times so far
 abbrev pub invariant-loop-item : goal.invariant-loop-item

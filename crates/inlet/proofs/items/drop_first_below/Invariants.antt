@@ -1,6 +1,6 @@
 use Rattle.std.proofs.Common.{◌≡◌, ◌≤◌, length}
 use Rattle.inlet.specs.Forgotten.{from_first}
-use Rattle.inlet.proofs.inlet.drop_first_below.Given as goal
+use Rattle.inlet.proofs.items.drop_first_below.Given as goal
 
 -- what is left of the rest is what is left of all
 abbrev pub invariant-loop-tuple : goal.invariant-loop-tuple

@@ -1,7 +1,7 @@
 use Rattle.std.proofs.Common.{◌≡◌, map, take}
 use Rattle.std.specs.Borrow.{Bor}
 use Rattle.dpc_model.specs.declared.tuples.Item.{Item}
-use Rattle.inlet.proofs.inlet.copied.Given as goal
+use Rattle.inlet.proofs.items.copied.Given as goal
 
 -- the items so far
 abbrev pub invariant-loop-item : goal.invariant-loop-item

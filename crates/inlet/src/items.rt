@@ -1,0 +1,77 @@
+//! The items that were taken of a batch, and the tuples that an inlet lets go.
+ghost use Rattle.std.specs.Prelude.{◌≡◌, ◌≤◌, ◌∷◌, [], map, option_to_list, length, IfOk};
+ghost use Rattle.std.specs.Borrow.{Bor};
+ghost use Rattle.dpc_model.specs.Reading.{tuples_in};
+ghost use Rattle.dpc_model.specs.declared.tuples.Tuple.{Tuple};
+ghost use Rattle.dpc_model.specs.declared.tuples.Item.{Item};
+ghost use Rattle.inlet.specs.Forgotten.{from_first};
+
+use dpc_model::exact::Exact;
+use dpc_model::faults::NoMemory;
+use dpc_model::lists::Listed;
+use dpc_model::shared::Shared;
+use dpc_model::tuples::{Item, Tuple};
+use std::alloc::{AllocError, Global};
+use std::collections::VecDeque;
+
+/// The items again.
+fn copied(alloc: Global, items: &[&Item]) -> Result<Vec<Item>, AllocError>
+    ensures { IfOk result (λ copies. copies.items ≡ map (λ (item : Bor Item). item.now) items.now) }
+{
+    let mut copies = Vec::with_capacity(alloc, items.len())?;
+    for item in items {
+        copies.push(item.copy(alloc)?)?;
+    }
+    Ok(copies)
+}
+
+/// The items of a batch that were taken. Where all were it is the batch, and nothing is copied.
+pub fn shared(
+    alloc: Global,
+    batch: &Shared<Item>,
+    taken: &[&Item],
+) -> Result<Shared<Item>, NoMemory>
+    requires { length taken.now ≡ length batch.now → map (λ (item : Bor Item). item.now) taken.now ≡ batch.now }
+    ensures { IfOk result (λ s. s ≡ map (λ (item : Bor Item). item.now) taken.now) }
+{
+    if taken.len() == batch.len() {
+        return batch.share();
+    }
+    Shared::from_vec(copied(alloc, taken)?)
+}
+
+/// The time of an item's tuple.
+fn time_in(item: &Item) -> Option<u64>
+    ensures { option_to_list result ≡ map (λ (t : Tuple). t.stime) (tuples_in (item.now ∷ [])) }
+{
+    match item {
+        Item::Stable(_, tuple) | Item::Tentative(tuple) => Some(tuple.stime),
+        _ => None,
+    }
+}
+
+/// The times of the tuples among the items.
+pub fn times(alloc: Global, items: &[&Item]) -> Result<Listed<u64>, AllocError>
+    ensures { IfOk result (λ times. times ≡ map (λ (t : Tuple). t.stime) (tuples_in (map (λ (item : Bor Item). item.now) items.now))) }
+{
+    let mut times = Vec::new(alloc);
+    for item in items {
+        if let Some(time) = time_in(item) {
+            times.push(time)?;
+        }
+    }
+    Ok(Listed::from_vec(times))
+}
+
+/// Lets the first tuples go that are below a time.
+pub fn drop_first_below(tuples: &mut VecDeque<Tuple>, time: u64)
+    ensures from { tuples.new.items ≡ from_first time tuples.old.items }
+    ensures shorter { length tuples.new.items ≤ length tuples.old.items }
+{
+    while let Some(tuple) = tuples.front() {
+        if tuple.stime >= time {
+            return;
+        }
+        tuples.pop_front();
+    }
+}
