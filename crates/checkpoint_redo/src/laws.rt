@@ -4,5 +4,4 @@ ghost use Rattle.checkpoint_redo.specs.Laws.{BucketsAdd};
 /// The output of a fragment with some more buckets is its output before them, and what they add.
 pub fn buckets_add_to_the_output()
     ensures { BucketsAdd }
-{
-}
+{}

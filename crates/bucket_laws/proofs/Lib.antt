@@ -1,0 +1,5 @@
+mod Accepted
+pub mod Advancing
+pub mod Closing
+mod Complete
+pub mod Ordered

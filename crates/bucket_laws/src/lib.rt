@@ -1,0 +1,4 @@
+//! Laws of processing buckets. Each function does nothing; its contract is the law.
+#![tactic(auto)]
+
+pub mod laws;
