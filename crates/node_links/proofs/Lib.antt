@@ -1,0 +1,4 @@
+mod Lawful
+mod Looping
+mod Viewing
+mod Within

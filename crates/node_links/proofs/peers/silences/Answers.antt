@@ -1,0 +1,17 @@
+use Rattle.std.proofs.Common.{arith}
+use Rattle.std.proofs.lemmas.Grind.{common_steps}
+use Rattle.dpc_model.specs.Replicas.{new_watch, is_silent}
+use Rattle.node_links.proofs.Looping.{noted-more}
+use Rattle.node_links.proofs.peers.silences.Goals as goal
+
+pub loop-r-preserved : goal.loop-r-preserved
+loop-r-preserved c =
+    let long = c.loop-r.invariant.long in
+    let within = c.loop-r-test.true in
+    let count = c.replicas-r-end.ensures.count in
+    let most = c.replicas-r-end.ensures.most in
+    record {
+      long = grind (arith, common_steps);
+      so_far = noted-more is_silent new_watch c.loop-r.r c.loop-r.silences c.args.watches.now c.is_silent.result
+          (omega (arith, long, within, most)) (omega (arith, within, count)) c.is_silent.ensures c.loop-r.invariant.so_far;
+    }

@@ -1,0 +1,65 @@
+//! The other replicas of a fragment.
+ghost use Rattle.std.specs.Prelude.{◌≡◌, ℕ, ◌==◌, ◌||◌, not, map, take, length, filter, position, IfOk};
+ghost use Rattle.dpc_model.specs.Lists.{list_all};
+ghost use Rattle.dpc_model.specs.Replicas.{is_silent, says_recovering};
+ghost use Rattle.node_links.specs.Linking.{other_watches};
+
+use dpc_model::faults::NoMemory;
+use dpc_model::plans::MOST_REPLICAS;
+use input_monitor::monitor::Monitor;
+use std::alloc::Global;
+
+/// The place of an actor among the actors.
+pub(crate) fn place_of(actors: &[u64], actor: u64) -> Option<usize>
+    ensures { result ≡ position (λ (other : ℕ). other == actor) actors.now }
+{
+    actors.iter().position(|other| *other == actor)
+}
+
+/// The actors other than one.
+pub(crate) fn others(alloc: Global, actors: &[u64], one: u64) -> Result<Vec<u64>, NoMemory>
+    ensures { IfOk result (λ rest. rest.items ≡ filter (λ a. not (a == one)) actors.now) }
+{
+    let mut rest = Vec::new(alloc);
+    for actor in actors {
+        if *actor != one {
+            rest.push(*actor)?;
+        }
+    }
+    Ok(rest)
+}
+
+/// Whether each replica is silent, in order. The places past the last one mean nothing.
+pub(crate) fn silences(watches: &Monitor) -> [bool; MOST_REPLICAS]
+    ensures { take (length watches.now) result ≡ map is_silent watches.now }
+{
+    let mut silences = [false; MOST_REPLICAS];
+    for r in 0..watches.replicas() {
+        silences[r] = watches.is_silent(r);
+    }
+    silences
+}
+
+/// Whether every replica but this one is silent.
+pub(crate) fn others_are_silent(watches: &Monitor, me: usize) -> bool
+    ensures { result ≡ list_all is_silent (other_watches me watches.now) }
+{
+    for r in 0..watches.replicas() {
+        if r != me && !watches.is_silent(r) {
+            return false;
+        }
+    }
+    true
+}
+
+/// Whether every replica but this one is silent, or recovers.
+pub(crate) fn others_cannot_help(watches: &Monitor, me: usize) -> bool
+    ensures { result ≡ list_all (λ w. is_silent w || says_recovering w) (other_watches me watches.now) }
+{
+    for r in 0..watches.replicas() {
+        if r != me && !watches.is_silent(r) && !watches.says_recovering(r) {
+            return false;
+        }
+    }
+    true
+}
