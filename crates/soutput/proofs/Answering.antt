@@ -13,7 +13,7 @@ use Rattle.dpc_model.specs.declared.sessions.Sub.{Sub}
 use Rattle.soutput.specs.Giving.{stream_behind, IsAnswered}
 
 -- a session that is put where it stands
-changed-to-same : {X : Type 0} (d : X) (i : ℕ) (xs : List X) → changed i (λ _. nth d xs i) xs ≡ xs
+pub changed-to-same : {X : Type 0} (d : X) (i : ℕ) (xs : List X) → changed i (λ _. nth d xs i) xs ≡ xs
 changed-to-same d i [] = refl
 changed-to-same d zero (x ∷ xs) = refl
 changed-to-same {X = X} d (suc i) (x ∷ xs) = ap (λ (ys : List X). x ∷ ys) (changed-to-same d i xs)

@@ -1,6 +1,6 @@
-mod Answering
-mod Batches
+pub mod Answering
+pub mod BatchLists
 mod FirstBatch
-mod Items
-mod Nothing
+mod ItemLists
+pub mod Nothing
 pub mod Standing

@@ -11,11 +11,11 @@ use Rattle.dpc_model.specs.declared.sessions.Sub.{Sub}
 use Rattle.soutput.specs.declared.fresh.Fresh.{Fresh}
 use Rattle.soutput.specs.Giving.{is_nothing, given_behind, fresh_items}
 
-nil-append : {X : Type 0} (xs ys : List X) → is_nil (xs ++ ys) ≡ (is_nil xs && is_nil ys)
+pub nil-append : {X : Type 0} (xs ys : List X) → is_nil (xs ++ ys) ≡ (is_nil xs && is_nil ys)
 nil-append [] ys = refl
 nil-append (x ∷ xs) ys = refl
 
-nil-stable : (k : ℕ) (ts : List Tuple) → is_nil (stable_items k ts) ≡ is_nil ts
+pub nil-stable : (k : ℕ) (ts : List Tuple) → is_nil (stable_items k ts) ≡ is_nil ts
 nil-stable k [] = refl
 nil-stable k (t ∷ ts) = refl
 

@@ -1,29 +1,21 @@
 //! The output of a sender.
-ghost use Rattle.std.specs.Prelude.{◌≡◌, ◌+◌, ◌^◌, ◌<◌, ◌≤◌, ℕ, List, [], ◌∷◌, ◌++◌, true, false, nat_lt, length, drop, map, IfOk, OnOk, OnErr, IsTrue, None, Some, ◌&&◌, ◌==◌, if◌then◌else◌};
-ghost use Rattle.dpc_model.specs.Lists.{nth, changed, list_all, list_any};
-ghost use Rattle.dpc_model.specs.Parts.{shown_of};
-ghost use Rattle.dpc_model.specs.declared.tuples.Tuple.{Tuple};
-ghost use Rattle.dpc_model.specs.NodeStates.{is_stable};
-ghost use Rattle.dpc_model.specs.Sessions.{no_session, with_batch, first_batch, after_ack, stable_items, tentative_items, boundary_item, passed_item, item_if, given_items, link_of, batches_of, with_batches};
-ghost use Rattle.dpc_model.specs.declared.sessions.Sub.{Sub};
+ghost use Rattle.std.specs.Prelude.{◌≡◌, ◌+◌, ◌^◌, ◌<◌, [], ◌∷◌, length, map, IfOk, OnOk, OnErr};
+ghost use Rattle.dpc_model.specs.Sessions.{with_batch, batches_of};
 ghost use Rattle.dpc_model.specs.declared.tuples.Item.TheVariants as item;
-ghost use Rattle.dpc_model.specs.declared.messages.Message.{Message};
-ghost use Rattle.soutput.specs.Giving.{new_output, batch_to, with_base_after, given_behind, fresh_items, with_batch_of, with_fresh, after_giving, only_stable, only_tentative, without_tentative, stream_behind, HasRoom, IsAnswered};
+ghost use Rattle.soutput.specs.Giving.{new_output, with_base_after, fresh_items, with_batch_of, with_fresh, after_giving, only_stable, only_tentative, without_tentative, HasRoom};
 
+use crate::batches::{Sends, any_open, batches, count_batches};
 use crate::fresh::Fresh;
-use dpc_model::exact::Exact;
+use crate::items::items_of;
 use dpc_model::faults::NoMemory;
 use dpc_model::lists::Listed;
-use dpc_model::messages::{Message, NodeState, Sess, Subscribe};
 use dpc_model::sessions::Sub;
-use dpc_model::shared::Shared;
 use dpc_model::tuples::{Item, Tuple, Tuples};
 use output_buffer::buffer::OutputBuffer;
-use std::alloc::{AllocError, Global};
+use std::alloc::Global;
 use std::marker::Model;
 
-/// Messages to readers, by their place among the readers.
-pub type Sends = Vec<(u64, Message)>;
+mod sessions;
 
 /// The output of a sender, and the session of each of its readers. Each call that wants memory changes
 /// nothing where it doesn't get it. Contracts see an `OutputValue`.
@@ -60,146 +52,6 @@ impl Model for SOutput {
     } };
 
     ghost invariant = { λ o. length o.sessions.items ≡ length o.buffer.acks };
-}
-
-/// Whether some session is open.
-fn any_open(sessions: &[Sub]) -> bool
-    ensures { result ≡ list_any (λ (s : Sub). s.is_open) sessions.now }
-{
-    sessions.iter().any(|session| session.is_open)
-}
-
-/// Appends stable items, the first of this number.
-fn push_stable(
-    alloc: Global,
-    items: &mut Vec<Item>,
-    first: u64,
-    tuples: &[Tuple],
-) -> Result<(), AllocError>
-    requires { first + length tuples.now < 2 ^ 64 }
-    ensures { OnOk result (items.new.items ≡ items.old.items ++ stable_items first tuples.now) }
-{
-    for (i, tuple) in tuples.iter().enumerate() {
-        let tuple = tuple.copy(alloc)?;
-        items.push(Item::Stable(first + i as u64, tuple))?;
-    }
-    Ok(())
-}
-
-/// Appends tentative items.
-fn push_tentative(alloc: Global, items: &mut Vec<Item>, tuples: &[Tuple]) -> Result<(), AllocError>
-    ensures { OnOk result (items.new.items ≡ items.old.items ++ tentative_items tuples.now) }
-{
-    for tuple in tuples {
-        let tuple = tuple.copy(alloc)?;
-        items.push(Item::Tentative(tuple))?;
-    }
-    Ok(())
-}
-
-/// Appends a boundary, where there is one.
-fn push_boundary(items: &mut Vec<Item>, boundary: Option<(u64, u64)>) -> Result<(), AllocError>
-    ensures { OnOk result (items.new.items ≡ items.old.items ++ boundary_item boundary) }
-{
-    if let Some((bound, count)) = boundary {
-        items.push(Item::Boundary(bound, count))?;
-    }
-    Ok(())
-}
-
-/// Appends how far tentative output goes, where that is told.
-fn push_passed(items: &mut Vec<Item>, passed: Option<u64>) -> Result<(), AllocError>
-    ensures { OnOk result (items.new.items ≡ items.old.items ++ passed_item passed) }
-{
-    if let Some(upto) = passed {
-        items.push(Item::Passed(upto))?;
-    }
-    Ok(())
-}
-
-/// Appends an item where it is wanted.
-fn push_if(items: &mut Vec<Item>, wanted: bool, item: Item) -> Result<(), AllocError>
-    ensures { OnOk result (items.new.items ≡ items.old.items ++ item_if wanted item) }
-{
-    if wanted {
-        items.push(item)?;
-    }
-    Ok(())
-}
-
-/// The items of what is new, whose first stable tuple has this number.
-fn items_of(alloc: Global, first: u64, new: &Fresh) -> Result<Vec<Item>, AllocError>
-    requires { first + length new.now.stable < 2 ^ 64 }
-    ensures { IfOk result (λ items. items.items ≡ given_items first (given_behind first new.now)) }
-{
-    let stable = new.stable.as_slice();
-    let tentative = new.tentative.as_slice();
-    let boundary = match new.bound {
-        Some(bound) => Some((bound, first + stable.len() as u64)),
-        None => None,
-    };
-    let mut items = Vec::with_capacity(alloc, stable.len() + tentative.len() + 3)?;
-    push_stable(alloc, &mut items, first, stable)?;
-    push_boundary(&mut items, boundary)?;
-    push_tentative(alloc, &mut items, tentative)?;
-    push_passed(&mut items, new.passed)?;
-    push_if(&mut items, new.done, Item::RecDone)?;
-    Ok(items)
-}
-
-/// Whether the first batch ends a reader's corrections.
-fn is_done(asked: Subscribe, state: NodeState) -> bool
-    ensures { result ≡ (asked.tentative && is_stable state) }
-{
-    asked.tentative && matches!(state, NodeState::Stable)
-}
-
-/// Appends a batch of these items to a reader, where its session is open.
-fn push_batch(
-    sends: &mut Sends,
-    reader: usize,
-    session: &Sub,
-    items: &Shared<Item>,
-) -> Result<(), NoMemory>
-    ensures { OnOk result (sends.new.items ≡ sends.old.items ++ batch_to reader items.now (link_of session.now)) }
-{
-    if let Some((sess, index)) = session.link() {
-        let batch = Message::Batch(sess, index, items.share()?);
-        sends.push((reader as u64, batch))?;
-    }
-    Ok(())
-}
-
-/// One batch of these items to each open session. They are made once, and shared.
-fn batches(alloc: Global, items: Vec<Item>, sessions: &[Sub]) -> Result<Sends, NoMemory>
-    ensures { IfOk result (λ sends. sends.items ≡ batches_of items.items sessions.now) }
-{
-    let mut sends = Vec::new(alloc);
-    if items.is_empty() {
-        return Ok(sends);
-    }
-    let items = Shared::from_vec(items)?;
-    for (reader, session) in sessions.iter().enumerate() {
-        push_batch(&mut sends, reader, session, &items)?;
-    }
-    Ok(sends)
-}
-
-/// Whether each session can count one batch more.
-fn can_count(sessions: &[Sub]) -> bool
-    ensures { result ≡ list_all (λ (s : Sub). nat_lt (s.batches + 1) (2 ^ 64)) sessions.now }
-{
-    sessions.iter().all(|session| session.batches < u64::MAX)
-}
-
-/// Counts one batch more in each open session.
-fn count_batches(sessions: &mut [Sub])
-    requires { list_all (λ (s : Sub). nat_lt (s.batches + 1) (2 ^ 64)) sessions.old ≡ true }
-    ensures { sessions.new ≡ map with_batch sessions.old }
-{
-    for session in sessions.iter_mut() {
-        session.count_batch();
-    }
 }
 
 impl SOutput {
@@ -249,22 +101,6 @@ impl SOutput {
             self.count_batch();
         }
         Ok(sends)
-    }
-
-    /// How many readers there are. It takes no memory.
-    pub fn readers(&self) -> usize
-        ensures { result ≡ length self.now.subs }
-    {
-        self.sessions.len()
-    }
-
-    /// Whether no number passes its range by one batch and so many tuples more. It takes no memory.
-    pub fn has_room(&self, tuples: usize) -> bool
-        ensures yes { IsTrue result → HasRoom self.now tuples }
-        ensures no { HasRoom self.now tuples → IsTrue result }
-    {
-        let count = self.buffer.count().checked_add(tuples as u64);
-        count.is_some() && can_count(self.sessions.as_slice())
     }
 
     /// Gives stable tuples, with how far they go.
@@ -325,80 +161,6 @@ impl SOutput {
         self.send(alloc, Item::RecDone)
     }
 
-    /// Answers a reader's subscription: by the first batch of its session, or by `Truncated` where it asks
-    /// for tuples that are gone. `None` exactly where the session isn't newer than the reader's last one.
-    pub fn open_session(
-        &mut self,
-        alloc: Global,
-        reader: usize,
-        asked: Subscribe,
-        state: NodeState,
-    ) -> Result<Option<Message>, NoMemory>
-        requires { reader < length self.old.subs }
-        ensures ok { IfOk result (λ told. IsAnswered (is_stable state) reader asked self.old self.new told) }
-        ensures err { OnErr result (self.new ≡ self.old) }
-    {
-        if !self.sessions[reader].is_older_than(asked.sess) {
-            return Ok(None);
-        }
-        let base = self.buffer.base();
-        if asked.n < base {
-            self.sessions[reader] = Sub::shut(asked.sess);
-            return Ok(Some(Message::Truncated(asked.sess, base)));
-        }
-        let items = Shared::from_vec(self.first_batch(alloc, asked, state)?)?;
-        self.sessions[reader] = Sub::opened(asked.sess);
-        Ok(Some(Message::Batch(asked.sess, 0, items)))
-    }
-
-    /// A reader acknowledged `count` tuples in an incarnation. What every reader acknowledged goes. It
-    /// takes no memory.
-    pub fn ack(&mut self, reader: usize, inc: u64, count: u64)
-        requires { reader < length self.old.subs }
-        ensures { self.new ≡ with_base_after (record self.old { acks = changed reader (after_ack inc count) self.old.acks }) }
-    {
-        self.buffer.ack(reader, inc, count);
-    }
-
-    /// A reader's open session with the number of its batches; `None` exactly where it has none. It takes
-    /// no memory.
-    pub fn link(&self, reader: usize) -> Option<(Sess, u64)>
-        requires { reader < length self.now.subs }
-        ensures { result ≡ link_of (nth no_session self.now.subs reader) }
-    {
-        self.sessions[reader].link()
-    }
-
-    /// A reader's newest session, open or not; `None` exactly where none is kept. It takes no memory.
-    pub fn newest(&self, reader: usize) -> Option<Sess>
-        requires { reader < length self.now.subs }
-        ensures { result ≡ (nth no_session self.now.subs reader).kept }
-    {
-        self.sessions[reader].kept
-    }
-
-    /// A reader's newest session is this one, and isn't open. It takes no memory.
-    pub fn renumber(&mut self, reader: usize, sess: Sess)
-        requires { reader < length self.old.subs }
-        ensures { self.new ≡ record self.old { subs = changed reader (λ _. record { kept = Some sess; is_open = false; batches = 0 }) self.old.subs } }
-    {
-        self.sessions[reader] = Sub::shut(sess);
-    }
-
-    /// The stable output that is kept. It takes no memory.
-    pub fn buffer(&self) -> &OutputBuffer
-        ensures { result.now ≡ record { base = self.now.base; kept = self.now.kept; acks = self.now.acks } }
-    {
-        &self.buffer
-    }
-
-    /// The tentative output. It takes no memory.
-    pub fn tentatives(&self) -> &[Tuple]
-        ensures { result.now ≡ self.now.tentative }
-    {
-        self.tentative.as_slice()
-    }
-
     /// One item in a batch to each open session.
     fn send(&mut self, alloc: Global, item: Item) -> Result<Sends, NoMemory>
         requires { HasRoom self.old 0 }
@@ -448,39 +210,5 @@ impl SOutput {
         ensures { self.new ≡ record self.old { subs = map with_batch self.old.subs } }
     {
         count_batches(self.sessions.as_mut_slice());
-    }
-
-    /// The boundary with the number of tuples below it, where stable output goes past time 0.
-    fn boundary(&self) -> Option<(u64, u64)>
-        ensures { result ≡ (if self.now.bound == 0 then None else Some (self.now.bound, self.now.count)) }
-    {
-        if self.bound == 0 {
-            return None;
-        }
-        Some((self.bound, self.buffer.count()))
-    }
-
-    /// The items of the first batch of a session.
-    fn first_batch(
-        &self,
-        alloc: Global,
-        asked: Subscribe,
-        state: NodeState,
-    ) -> Result<Vec<Item>, NoMemory>
-        requires { self.now.base ≤ asked.n }
-        ensures { IfOk result (λ items. (gone : List Tuple) → length gone ≡ self.now.base → items.items ≡ first_batch (shown_of (stream_behind gone self.now) self.now.base (is_stable state)) asked) }
-    {
-        let stable = match self.buffer.from(alloc, asked.n) {
-            Ok(stable) => stable,
-            Err(_) => return Err(NoMemory),
-        };
-        let mut items = Vec::new(alloc);
-        push_if(&mut items, asked.tentative, Item::Undo(asked.n))?;
-        items.append(&mut stable.into_vec())?;
-        push_boundary(&mut items, self.boundary())?;
-        push_tentative(alloc, &mut items, self.tentative.as_slice())?;
-        push_passed(&mut items, self.passed)?;
-        push_if(&mut items, is_done(asked, state), Item::RecDone)?;
-        Ok(items)
     }
 }

@@ -1,6 +1,7 @@
 //! What no clause says: that calls succeed where there is memory. Values are counted by a person.
+use crate::batches::Sends;
 use crate::fresh::Fresh;
-use crate::output::{SOutput, Sends};
+use crate::output::SOutput;
 use dpc_model::exact::Exact;
 use dpc_model::faults::NoMemory;
 use dpc_model::lists::Listed;

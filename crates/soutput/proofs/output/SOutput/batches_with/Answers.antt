@@ -3,7 +3,7 @@ use Rattle.dpc_model.specs.Lists.{list_any}
 use Rattle.dpc_model.specs.PartStands.{OutputValue}
 use Rattle.dpc_model.specs.declared.sessions.Sub.{Sub}
 use Rattle.soutput.specs.Giving.{fresh_items}
-use Rattle.soutput.proofs.Batches.{none-of}
+use Rattle.soutput.proofs.BatchLists.{none-of}
 use Rattle.soutput.proofs.output.SOutput.batches_with.Goals as goal
 
 pub returns-then-not-any_open : goal.returns-then-not-any_open

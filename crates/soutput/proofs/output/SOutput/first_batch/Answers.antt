@@ -9,9 +9,9 @@ pub returns : goal.returns
 returns c = λ gone base.
     let counted = subst (λ (v : OutputValue). v.count ≡ v.base + length v.kept) c.self.view_is refl in
     let v = c.args.self.now in
-    let stable : c.into_vec.result.items ≡ stable_items c.args.asked.n (drop (c.args.asked.n - v.base) v.kept) = search rules in
+    let stable : c.in-Ok.stable ≡ stable_items c.args.asked.n (drop (c.args.asked.n - v.base) v.kept) = search rules in
     let boundary : c.boundary.result ≡ boundary_of v = search rules in
     let tentative : c.as_slice.result.now ≡ v.tentative = search rules in
     let passed : c.self.inside.passed ≡ v.passed = ap (λ (o : OutputValue). o.passed) c.self.view_is in
-    rw (c.in_ok-push_if-2.ensures, c.in_ok-push_passed.ensures, c.in_ok-push_tentative.ensures, c.in_ok-push_boundary.ensures, c.in_ok-append.ensures.items, c.in_ok-push_if.ensures, c.new-items.ensures.items, stable, boundary, tentative, passed, c.is_done.ensures)
+    rw (c.in_ok-items.ensures, stable, boundary, tentative, passed, c.is_done.ensures)
     (first_batch-is gone v (is_stable c.args.state) c.args.asked base c.requires counted)

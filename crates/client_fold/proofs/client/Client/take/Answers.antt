@@ -1,0 +1,18 @@
+use Rattle.std.proofs.Common.{◌∙◌, ap, List, [], ◌∷◌, ◌++◌}
+use Rattle.dpc_model.specs.declared.tuples.Item.{Item}
+use Rattle.client_fold.proofs.Batching.{unused, folds-none, folds-some}
+use Rattle.client_fold.proofs.client.Client.take.Goals as goal
+
+pub returns-in_default : goal.returns-in_default
+returns-in_default c =
+    record {
+      ok = folds-none c.self.inside.upstream c.self.inside.end c.self.inside.clock c.args.sess c.args.index c.args.items.now c.self.inside.inlet c.take.new.self c.self.inside.taken.items c.reserve.new.self.items
+          c.args.self.now c.in_ok-items.field-0 c.self.view_is c.reserve.ensures.items c.in_ok-items.ensures.ok (unused c.in_ok-items.field-0 c.in_default.not-Used);
+      err = tt;
+    }
+
+pub returns-clause-ok : goal.returns-clause-ok
+returns-clause-ok c =
+    folds-some c.self.inside.upstream c.self.inside.end c.self.inside.clock c.args.sess c.args.index c.args.items.now c.in-Used.items c.self.inside.inlet c.take.new.self c.drop_below.new.self c.bound-bound.result
+    c.self.inside.taken.items c.push.new.self.items c.args.self.now c.self.view_is
+    (c.in-Ok.ensures.items ∙ ap (λ (batches : List (List Item)). batches ++ c.in-Used.items ∷ []) c.reserve.ensures.items) (rw c.in-Used.is at c.in_ok-items.ensures.ok) c.drop_below.ensures.after

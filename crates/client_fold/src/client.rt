@@ -1,0 +1,111 @@
+//! A client, and what it has.
+ghost use Rattle.std.specs.Prelude.{◌≡◌, ◌<◌, ◌≤◌, ℕ, length, IfOk};
+ghost use Rattle.dpc_model.specs.Actors.{senders_of};
+ghost use Rattle.dpc_model.specs.declared.plans.Plan.{Plan};
+ghost use Rattle.dpc_model.specs.declared.plans.TheConstants.{MOST_REPLICAS};
+ghost use Rattle.node_model.specs.Clients.{ClientState, client_stream, new_client, client_settled};
+ghost use Rattle.client_fold.specs.Folding.{all_taken, StandsForClient};
+
+use dpc_model::faults::NoMemory;
+use dpc_model::messages::Sess;
+use dpc_model::plans::Plan;
+use dpc_model::shared::Shared;
+use dpc_model::tuples::Item;
+use inlet::inlet::Inlet;
+use std::alloc::Global;
+use std::marker::Model;
+use upstream::upstream::Upstream;
+
+mod deliver;
+mod tick;
+
+/// One client: the receiving end of one stream, and the items that it took. Contracts see a
+/// `ClientValue`.
+#[derive(Drop)]
+pub struct Client {
+    upstream: Upstream,
+    inlet: Inlet,
+    /// What was taken of each batch, in order.
+    taken: Vec<Shared<Item>>,
+    end: u64,
+    clock: u64,
+}
+
+impl Model for Client {
+    ghost use Rattle.std.specs.Coded.{codes};
+    ghost use Rattle.client_fold.specs.Folding.{ClientValue, all_taken};
+
+    ghost Value = { ClientValue };
+
+    ghost coded = { Prim.hlevel codes };
+
+    ghost view = { λ c. record { end = c.end; upstream = c.upstream; inlet = c.inlet; taken = all_taken c.taken.items; clock = c.clock } };
+}
+
+impl Client {
+    /// A client that took nothing yet.
+    pub fn new(alloc: Global, plan: &Plan, c: usize) -> Result<Client, NoMemory>
+        requires is_client { c < length plan.now.clients }
+        requires some { 0 < length (senders_of plan.now (client_stream plan.now c)) }
+        requires most { length (senders_of plan.now (client_stream plan.now c)) ≤ MOST_REPLICAS }
+        ensures { IfOk result (λ client. StandsForClient plan.now c client (new_client plan.now c)) }
+    {
+        let upstream = Upstream::new(alloc, plan, plan.clients.as_slice()[c].input)?;
+        Ok(Client {
+            upstream,
+            inlet: Inlet::new(alloc, 1),
+            taken: Vec::new(alloc),
+            end: plan.end,
+            clock: 0,
+        })
+    }
+
+    /// What was taken of each batch, in order.
+    pub fn taken(&self) -> &[Shared<Item>]
+        ensures { all_taken result.now ≡ self.now.taken }
+    {
+        self.taken.as_slice()
+    }
+
+    /// How many stable tuples there were.
+    pub fn count(&self) -> u64
+        ensures { result ≡ self.now.inlet.count }
+    {
+        self.inlet.count()
+    }
+
+    /// Up to where the stable tuples are known to be all.
+    pub fn bound(&self) -> u64
+        ensures { result ≡ self.now.inlet.state.held.bound }
+    {
+        self.inlet.bound()
+    }
+
+    /// The session that was asked for last.
+    pub fn sess(&self) -> Sess
+        ensures { result ≡ self.now.inlet.state.sess }
+    {
+        self.inlet.sess()
+    }
+
+    /// The index of the batch that is taken next.
+    pub fn next(&self) -> u64
+        ensures { result ≡ self.now.inlet.state.next }
+    {
+        self.inlet.next()
+    }
+
+    /// How many tentative tuples are held.
+    pub fn tentatives(&self) -> usize
+        ensures { result ≡ length self.now.inlet.state.held.tentative }
+    {
+        self.inlet.tentative().len()
+    }
+
+    /// Whether the whole stream was taken, and nothing of it may be corrected.
+    pub fn settled(&self) -> bool
+        ensures { (plan : Plan) (c : ℕ) (x : ClientState) → StandsForClient plan c self.now x → result ≡ client_settled plan x }
+    {
+        self.inlet.bound() == self.end && !self.inlet.unsure()
+    }
+}

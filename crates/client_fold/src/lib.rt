@@ -1,0 +1,6 @@
+//! One client: what it takes of its stream, and what it tells the stream's senders.
+#![tactic(auto)]
+
+pub mod client;
+#[cfg(test)]
+mod tests;

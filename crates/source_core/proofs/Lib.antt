@@ -1,0 +1,4 @@
+pub mod Logs
+pub mod Sends
+pub mod Staying
+pub mod Subscribed

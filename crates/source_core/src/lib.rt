@@ -1,0 +1,9 @@
+//! One source: it sends what it logs as it is emitted, and answers its readers.
+#![tactic(auto)]
+
+mod giving;
+pub mod laws;
+mod log;
+pub mod source;
+#[cfg(test)]
+mod tests;

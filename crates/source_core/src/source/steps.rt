@@ -1,0 +1,120 @@
+//! The parts of a source's steps.
+ghost use Rattle.std.specs.Prelude.{◌≡◌, ◌<◌, ◌≤◌, Some, length, drop, take, IfOk, OnOk, OnErr};
+ghost use Rattle.dpc_model.specs.Sessions.{stable_items, first_batch};
+ghost use Rattle.node_model.specs.Mails.{mails};
+ghost use Rattle.node_model.specs.Sources.{source_shown, source_gives, source_subscribed};
+ghost use Rattle.source_core.specs.Emitting.{IsSourceOf, HasRoom, after_step, with_emitted};
+
+use crate::giving::{addressed, batches_upto, gives_items};
+use crate::log::{bound_at, log_of};
+use crate::source::SourceNode;
+use dpc_model::faults::NoMemory;
+use dpc_model::lists::Listed;
+use dpc_model::messages::{Message, NodeState, Out, Subscribe};
+use dpc_model::plans::Plan;
+use dpc_model::sessions::Sub;
+use dpc_model::shared::Shared;
+use dpc_model::streams::count_below;
+use dpc_model::tuples::{Item, Tuple};
+use soutput::batches::count_batches;
+use soutput::items::{first_items, is_done, push_stable};
+use std::alloc::{AllocError, Global};
+
+/// What was emitted from number `first` on, as stable items.
+fn emitted_from(
+    alloc: Global,
+    log: &[Tuple],
+    emitted: usize,
+    first: u64,
+) -> Result<Vec<Item>, AllocError>
+    requires { emitted ≤ length log.now }
+    ensures { IfOk result (λ items. items.items ≡ stable_items first (drop first (take emitted log.now))) }
+{
+    let start = first.min(emitted as u64) as usize;
+    let tuples = &log[start..emitted];
+    let mut items = Vec::with_capacity(alloc, tuples.len())?;
+    push_stable(alloc, &mut items, first, tuples)?;
+    Ok(items)
+}
+
+impl SourceNode {
+    /// Emits what is logged below a time, and gives it with this boundary in one batch to each open session.
+    pub(super) fn give(
+        &mut self,
+        alloc: Global,
+        plan: &Plan,
+        time: u64,
+        boundary: Option<(u64, u64)>,
+    ) -> Result<Vec<Out>, NoMemory>
+        requires source { IsSourceOf plan.now self.old }
+        requires room { HasRoom self.old }
+        ensures sends { IfOk result (λ outs. mails outs.items ≡ (source_gives plan.now self.old.number time boundary self.old.state).sends) }
+        ensures after { OnOk result (self.new ≡ after_step self.old (source_gives plan.now self.old.number time boundary self.old.state)) }
+        ensures err { OnErr result (self.new ≡ self.old) }
+    {
+        let log = log_of(plan, self.number);
+        let first = self.emitted;
+        let upto = first.max(count_below(log, time));
+        let sends = batches_upto(alloc, log, first, upto, boundary, self.sessions.as_slice())?;
+        let outs = addressed(alloc, self.readers.as_slice(), sends)?;
+        self.advance(upto, gives_items(first, upto, boundary));
+        Ok(outs)
+    }
+
+    /// So much is emitted, and a batch was given where it has an item.
+    fn advance(&mut self, upto: usize, gives_items: bool)
+        requires { HasRoom self.old }
+        ensures { self.new ≡ with_emitted upto gives_items self.old }
+    {
+        if gives_items {
+            count_batches(self.sessions.as_mut_slice());
+        }
+        self.emitted = upto;
+    }
+
+    /// The items of the first batch of a session.
+    fn first_batch(
+        &self,
+        alloc: Global,
+        plan: &Plan,
+        asked: Subscribe,
+    ) -> Result<Vec<Item>, NoMemory>
+        requires { IsSourceOf plan.now self.now }
+        ensures { IfOk result (λ items. items.items ≡ first_batch (source_shown plan.now self.now.number self.now.state) asked) }
+    {
+        let log = log_of(plan, self.number);
+        let stable = emitted_from(alloc, log, self.emitted, asked.n)?;
+        let boundary = bound_at(plan, self.number, self.bound);
+        let done = is_done(asked, NodeState::Stable);
+        let stable = Listed::from_vec(stable);
+        let items = first_items(alloc, asked, stable, boundary, &[], None, done)?;
+        Ok(items)
+    }
+
+    /// Answers a reader's subscription by the first batch of its session, where the session is newer than
+    /// the reader's last one.
+    pub(super) fn answer(
+        &mut self,
+        alloc: Global,
+        plan: &Plan,
+        reader: usize,
+        asked: Subscribe,
+    ) -> Result<Vec<Out>, NoMemory>
+        requires source { IsSourceOf plan.now self.old }
+        requires reader { reader < length self.old.readers }
+        ensures sends { IfOk result (λ outs. mails outs.items ≡ (source_subscribed plan.now self.old.number asked (Some reader) self.old.state).sends) }
+        ensures after { OnOk result (self.new ≡ after_step self.old (source_subscribed plan.now self.old.number asked (Some reader) self.old.state)) }
+        ensures err { OnErr result (self.new ≡ self.old) }
+    {
+        let mut outs = Vec::with_capacity(alloc, 1)?;
+        if !self.sessions[reader].is_older_than(asked.sess) {
+            return Ok(outs);
+        }
+        let items = Shared::from_vec(self.first_batch(alloc, plan, asked)?)?;
+        let message = Message::Batch(asked.sess, 0, items);
+        let to = self.readers[reader];
+        outs.push(Out { to, message })?;
+        self.sessions[reader] = Sub::opened(asked.sess);
+        Ok(outs)
+    }
+}
