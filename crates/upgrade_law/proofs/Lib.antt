@@ -1,0 +1,6 @@
+pub mod Steps
+pub mod Events
+pub mod Runs
+pub mod Journals
+pub mod Telling
+pub mod Checked
