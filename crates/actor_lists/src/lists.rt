@@ -1,6 +1,6 @@
 //! Questions that are asked of every actor.
-ghost use Rattle.std.specs.Prelude.{◌≡◌, ◌+◌, ◌^◌, ◌<◌, ◌++◌, map, length, IfOk, OnOk};
-ghost use Rattle.dpc_model.specs.Lists.{list_any, range_with_len};
+ghost use Rattle.std.specs.Prelude.{◌≡◌, ◌+◌, ◌^◌, ◌<◌, ◌++◌, ◌==◌, ℕ, map, length, position, IfOk, OnOk};
+ghost use Rattle.dpc_model.specs.Lists.{list_any, range_with_len, place_of};
 ghost use Rattle.dpc_model.specs.Actors.{same_stream, inputs_of, nodes_of, roles_of, actors_where, senders_of, readers_of, replicas_of};
 ghost use Rattle.dpc_model.specs.declared.actors.Role.TheVariants.{Source as IsSource, Node as IsNode, Client as IsClient};
 ghost use Rattle.actor_lists.specs.Questions.{holds};
@@ -139,4 +139,18 @@ pub fn replicas_of(alloc: Global, plan: &Plan, frag: u64) -> Result<Vec<u64>, No
     ensures { IfOk result (λ actors. actors.items ≡ replicas_of plan.now frag) }
 {
     actors_where(alloc, plan, Question::IsReplicaOf(frag))
+}
+
+/// The place of the first of the actors that is this one.
+fn position_of(actors: &[u64], actor: u64) -> Option<usize>
+    ensures { result ≡ position (λ (other : ℕ). other == actor) actors.now }
+{
+    actors.iter().position(|other| *other == actor)
+}
+
+/// The place of an actor among others; `None` exactly where it is none of them.
+pub fn place_of(actors: &[u64], actor: u64) -> Option<usize>
+    ensures { result ≡ place_of (λ other. actor == other) actors.now }
+{
+    position_of(actors, actor)
 }

@@ -12,7 +12,7 @@ use Rattle.dpc_model.specs.declared.plans.ClientSpec.{ClientSpec}
 use Rattle.dpc_model.specs.declared.plans.Plan.{Plan}
 use Rattle.dpc_model.specs.declared.plans.StreamRef.TheVariants.{Source}
 use Rattle.upstream.specs.Upstreams.{new_upstream}
-use Rattle.upstream.proofs.Choosing.{place-within}
+use Rattle.dpc_model.proofs.Places.{place-within}
 use Rattle.node_model.specs.Clients.{client_stream, new_client, client_message, client_marks_ended, client_packet, client_after_packet}
 use Rattle.node_model.specs.Mails.{Plain}
 use Rattle.client_fold.specs.Folding.{ClientValue, StandsForClient, Follows}

@@ -16,3 +16,5 @@ pub mod Serial
 pub mod Sorting
 pub mod StableItems
 pub mod WindowCausality
+pub mod Mapped
+pub mod Places

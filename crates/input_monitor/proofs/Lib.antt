@@ -1,1 +1,1 @@
-mod Mapped
+mod Refilled

@@ -1,35 +1,11 @@
 -- Loops over ports and over replicas, one step more.
-use Rattle.std.proofs.Common.{◌≡◌, ℕ, zero, suc, ◌+◌, ◌<◌, Bool, true, false, not, cond, ◌||◌, ◌&&◌, ◌==◌, List, [], ◌∷◌, ◌++◌, map, filter, take, drop, length, refl, ap, sym, ◌∙◌, arith, Option, Some, None, position, slice_index_or, slice_set}
-use Rattle.std.proofs.lemmas.Grind.{common_steps}
+use Rattle.std.proofs.Common.{◌≡◌, ℕ, zero, suc, ◌+◌, ◌<◌, Bool, true, false, not, cond, ◌||◌, ◌&&◌, ◌==◌, List, [], ◌∷◌, map, filter, drop, length, refl, ap, sym, ◌∙◌, arith, Option, Some, None, slice_index_or}
 use Rattle.dpc_model.specs.Lists.{nth, list_all, enumerate_from, place_of}
 use Rattle.dpc_model.specs.Replicas.{Watch, new_watch}
 use Rattle.upstream.specs.Upstreams.{UpstreamValue}
 use Rattle.node_links.specs.Linking.{sender_among, other_watches}
 
 -- ---- lists that are mapped one by one
-
--- the first i elements are mapped, the others not yet
-abbrev pub mapped_to : {X : Type 0} → (X → X) → ℕ → List X → List X
-mapped_to f i xs = map f (take i xs) ++ drop i xs
-
-pub mapped-more : {X : Type 0} (f : X → X) (i : ℕ) (xs : List X) (x d : X) → i < length xs → x ≡ f (slice_index_or (mapped_to f i xs) i d) →
-    slice_set (mapped_to f i xs) i x ≡ mapped_to f (i + 1) xs
-mapped-more f i [] x d low e = absurd (omega (arith, low))
-mapped-more f zero (y ∷ xs) x d low e = rw e refl
-mapped-more {X = X} f (suc i) (y ∷ xs) x d low e =
-    let next : suc i + 1 ≡ suc (i + 1) = omega arith in rw next (ap (λ (ys : List X). f y ∷ ys) (mapped-more f i xs x d (omega (arith, low)) e))
-
--- one more element of another list is that of what is mapped
-pub noted-more : {X Y : Type 0} (f : X → Y) (d : X) (i : ℕ) (ys : List Y) (xs : List X) (y : Y) → i < length ys → i < length xs → y ≡ f (nth d xs i) →
-    take i ys ≡ map f (take i xs) → take (i + 1) (slice_set ys i y) ≡ map f (take (i + 1) xs)
-noted-more f d i [] xs y low within k h = absurd (omega (arith, low))
-noted-more f d i (z ∷ ys) [] y low within k h = absurd (omega (arith, within))
-noted-more f d zero (z ∷ ys) (w ∷ xs) y low within k h = rw k refl
-noted-more {Y = Y} f d (suc i) (z ∷ ys) (w ∷ xs) y low within k h =
-    let next : suc i + 1 ≡ suc (i + 1) = omega arith in
-    let first : z ≡ f w = cc in
-    let rest : take i ys ≡ map f (take i xs) = cc in
-    rw (next, first) (ap (λ (rs : List Y). f w ∷ rs) (noted-more f d i ys xs y (omega (arith, low)) (omega (arith, within)) k rest))
 
 -- ---- the sender among the ports
 
@@ -91,9 +67,3 @@ pub one-fails : (test : Watch → Bool) (me r : ℕ) (ws : List Watch) → r < l
     list_all test (other_watches me ws) ≡ false
 one-fails test me r ws low fails before =
     before ∙ others-step test me r r ws low ∙ ap (λ (b : Bool). b && list_all test (others_from me (r + 1) (drop (r + 1) ws))) fails
-
--- ---- the place of an actor, however the two are compared
-
-pub position-place : (a : ℕ) (xs : List ℕ) → position (λ (b : ℕ). b == a) xs ≡ place_of (λ b. a == b) xs
-position-place a [] = refl
-position-place a (x ∷ xs) = grind (arith, common_steps, position-place a xs)

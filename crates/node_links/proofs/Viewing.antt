@@ -1,7 +1,6 @@
 -- What contracts see of links whose ports were changed.
-use Rattle.std.proofs.Common.{◌≡◌, ℕ, zero, suc, ◌<◌, List, [], ◌∷◌, ◌++◌, map, take, drop, length, replicate, refl, ap, sym, subst, ◌∙◌, arith, append-nil, Some, slice_index_or, slice_set}
-use Rattle.std.proofs.lemmas.List.{length-map, take_all}
-use Rattle.std.proofs.Math.Seq.{drop-length}
+use Rattle.std.proofs.Common.{◌≡◌, ℕ, zero, suc, ◌<◌, List, [], ◌∷◌, map, length, replicate, refl, ap, sym, subst, ◌∙◌, arith, Some, slice_index_or, slice_set}
+use Rattle.std.proofs.lemmas.List.{length-map}
 use Rattle.dpc_model.specs.Lists.{nth, changed}
 use Rattle.dpc_model.specs.Replicas.{Watch, new_watch}
 use Rattle.dpc_model.specs.Actors.{senders_of, replicas_of}
@@ -84,12 +83,6 @@ sender-low us rs me g ws n old a p r is found =
       λ u at. let seen = ap (λ (x : UpstreamValue). length x.senders) (upstream-is us rs me g ws n old p u is low at) in omega (arith, seen, replica),
     )
 
--- the element at a place of a list of numbers
-pub nth-at : (i : ℕ) (xs : List ℕ) (d : ℕ) → i < length xs → slice_index_or xs i d ≡ nth 0 xs i
-nth-at i [] d low = absurd (omega (arith, low))
-nth-at zero (x ∷ xs) d low = refl
-nth-at (suc i) (x ∷ xs) d low = nth-at i xs d (omega (arith, low))
-
 -- what is known at a port that was written
 pub known-at : (us : List UpstreamValue) (p : ℕ) (new u : UpstreamValue) → p < length us → u ≡ slice_index_or (slice_set us p new) p u →
     u.known ≡ nth no_upstream (known_at (slice_set us p new)) p
@@ -113,13 +106,6 @@ ports-changed us new rs me g ws n f made =
     let see : List (List ℕ) → List Upstream → LinksValue = λ ss ks. record { senders = ss; replicas = rs; me = me; known = record { upstreams = ks; grants = g; peers = ws; tries = n } } in
     ap (λ (xs : List UpstreamValue). links_of xs rs me g ws n) made
     ∙ ap (λ (ss : List (List ℕ)). see ss (known_at (map (seen_otherwise f) us))) (senders-mapped f us) ∙ ap (λ (ks : List Upstream). see (senders_at us) ks) (known-mapped f us)
-
--- a list that is written back as a whole
-pub written-back : {X : Type 0} (len : ℕ) (f : X → X) (xs new : List X) → len ≡ length xs → new ≡ map f xs → take len (new ++ drop (length new) xs) ≡ map f xs
-written-back len f xs new long made =
-    let same : length new ≡ length xs = ap length made ∙ length-map xs f in
-    ap (λ (k : ℕ). take len (new ++ drop k xs)) same ∙ ap (λ (ys : List _). take len (new ++ ys)) (drop-length xs) ∙ ap (λ (ys : List _). take len ys) (append-nil new)
-    ∙ take_all len new (omega (arith, long, same)) ∙ made
 
 -- ---- new links
 

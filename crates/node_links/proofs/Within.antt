@@ -1,22 +1,8 @@
 -- Whoever is found stands in the list.
-use Rattle.std.proofs.Common.{◌≡◌, ℕ, suc, ◌+◌, ◌<◌, Bool, true, false, cond, ◌==◌, List, [], ◌∷◌, length, refl, ap, arith, Option, Some, None}
+use Rattle.std.proofs.Common.{◌≡◌, ℕ, suc, ◌+◌, ◌<◌, ◌==◌, List, [], ◌∷◌, length, refl, ap, arith, Option, Some, None}
 use Rattle.dpc_model.specs.Lists.{nth, place_of}
+use Rattle.dpc_model.proofs.Places.{place-within}
 use Rattle.node_links.specs.Linking.{sender_among}
-
-abbrev next_place : Option ℕ → Option ℕ
-next_place o = elim o [ None ↦ None | Some i ↦ Some (suc i) ]
-
-pub place-within : (test : ℕ → Bool) (xs : List ℕ) (i : ℕ) → place_of test xs ≡ Some i → i < length xs
-place-within test [] i e = absurd (cc)
-place-within test (x ∷ xs) i e =
-    (elim (test x) as (λ b. cond b (Some 0) (next_place (place_of test xs)) ≡ Some i → i < suc (length xs)) [
-      | true ↦ λ h. let first : 0 ≡ i = cc in omega (arith, first)
-      | false ↦ λ h.
-          (elim (place_of test xs) as (λ o. place_of test xs ≡ o → next_place o ≡ Some i → i < suc (length xs)) [
-            | None ↦ λ p q. absurd (cc)
-            | Some k ↦ λ p q. let low = place-within test xs k p in let next : suc k ≡ i = cc in omega (arith, low, next)
-          ]) refl h
-    ]) e
 
 some-same : {X : Type 0} (x y : X) → Some x ≡ Some y → x ≡ y
 some-same x y e = cc

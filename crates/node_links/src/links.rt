@@ -9,9 +9,9 @@ ghost use Rattle.node_model.specs.Nodes.{Home, spec_of, streams_of};
 ghost use Rattle.upstream.specs.Upstreams.{with_marks_ended, with_truncation, with_no_tick, port_by, with_choice, asked_actor};
 ghost use Rattle.node_links.specs.Linking.{new_links, sender_among, peers_in, with_upstream, with_upstreams, no_upstream, after_upstream_beat, after_own_beat, chosen_by, with_recovery, upstream_at};
 
-use crate::peers::{others, place_of};
+use crate::peers::others;
 use crate::ports::{forget_sessions, new_ports, sender};
-use actor_lists::lists::replicas_of;
+use actor_lists::lists::{place_of, replicas_of};
 use dpc_model::faults::NoMemory;
 use dpc_model::messages::Beat;
 use dpc_model::plans::{Plan, StreamRef};

@@ -1,5 +1,5 @@
 //! The other replicas of a fragment.
-ghost use Rattle.std.specs.Prelude.{◌≡◌, ℕ, ◌==◌, ◌||◌, not, map, take, length, filter, position, IfOk};
+ghost use Rattle.std.specs.Prelude.{◌≡◌, ℕ, ◌==◌, ◌||◌, not, map, take, length, filter, IfOk};
 ghost use Rattle.dpc_model.specs.Lists.{list_all};
 ghost use Rattle.dpc_model.specs.Replicas.{is_silent, says_recovering};
 ghost use Rattle.node_links.specs.Linking.{other_watches};
@@ -8,13 +8,6 @@ use dpc_model::faults::NoMemory;
 use dpc_model::plans::MOST_REPLICAS;
 use input_monitor::monitor::Monitor;
 use std::alloc::Global;
-
-/// The place of an actor among the actors.
-pub(crate) fn place_of(actors: &[u64], actor: u64) -> Option<usize>
-    ensures { result ≡ position (λ (other : ℕ). other == actor) actors.now }
-{
-    actors.iter().position(|other| *other == actor)
-}
 
 /// The actors other than one.
 pub(crate) fn others(alloc: Global, actors: &[u64], one: u64) -> Result<Vec<u64>, NoMemory>

@@ -1,10 +1,10 @@
 -- What a source gives its sessions, and to whom it goes.
-use Rattle.std.proofs.Common.{◌≡◌, ℕ, zero, suc, ◌+◌, ◌≤◌, ◌<◌, Bool, true, false, ◌&&◌, ◌==◌, nat_le, List, [], ◌∷◌, ◌++◌, map, take, drop, length, refl, sym, ap, ◌∙◌, arith, Option, Some, None, append-nil, replicate, position, cond, slice_index_or}
+use Rattle.std.proofs.Common.{◌≡◌, ℕ, zero, suc, ◌+◌, ◌≤◌, ◌<◌, Bool, true, false, ◌&&◌, nat_le, List, [], ◌∷◌, ◌++◌, map, take, drop, length, refl, sym, ap, ◌∙◌, arith, Option, Some, None, append-nil, slice_index_or}
 use Rattle.std.specs.Prelude.{not, is_none, if◌then◌else◌}
 use Rattle.std.proofs.lemmas.Grind.{common_steps}
 use Rattle.std.proofs.lemmas.List.{map-append, append_assoc}
 use Rattle.std.specs.List.{zip}
-use Rattle.dpc_model.specs.Lists.{nth, is_nil, place_of}
+use Rattle.dpc_model.specs.Lists.{nth, is_nil}
 use Rattle.dpc_model.specs.Sessions.{stable_items, boundary_item, given_items, with_batch, with_batches, batches_of, link_of}
 use Rattle.dpc_model.specs.Fragments.{log_of}
 use Rattle.dpc_model.specs.declared.plans.Plan.{Plan}
@@ -20,10 +20,6 @@ use Rattle.source_core.specs.Emitting.{SourceValue, IsSourceOf, given_upto, is_n
 
 abbrev as_mail : Out → Mail
 as_mail o = mail o.to o.message
-
-pub same-each : {X Y : Type 0} (y : Y) (xs : List X) → replicate (length xs) y ≡ map (λ _. y) xs
-same-each y [] = refl
-same-each {Y = Y} y (x ∷ xs) = ap (λ (ys : List Y). y ∷ ys) (same-each y xs)
 
 -- stable items and perhaps a boundary
 pub given-is : (first upto : ℕ) (bound : Option (ℕ × ℕ)) (log : List Tuple) →
@@ -76,26 +72,6 @@ gives-is plan v t upto bound log h k e =
     ap (λ (rs : List ℕ). to_readers rs (batches_of (given_items first (given_upto log first upto bound)) subs)) h.readers
     ∙ ap (λ (ts : List Tuple). to_readers (source_readers plan v.number) (batches_of (given_items first (given_upto ts first upto bound)) subs)) k
     ∙ ap (λ (n : ℕ). to_readers (source_readers plan v.number) (batches_of (given_items first (given_upto (log_of plan v.number) first n bound)) subs)) e
-
--- the place of a number
-pub place-is : (a : ℕ) (xs : List ℕ) → position (λ b. a == b) xs ≡ place_of (λ b. a == b) xs
-place-is a [] = refl
-place-is a (x ∷ xs) = grind (arith, common_steps, place-is a xs)
-
-abbrev after : Option ℕ → Option ℕ
-after o = elim o [ None ↦ None | Some i ↦ Some (suc i) ]
-
-after-low : (k n : ℕ) (o : Option ℕ) → ((i : ℕ) → o ≡ Some i → i < n) → after o ≡ Some k → k < suc n
-after-low k n None h e = cc
-after-low k n (Some i) h e = let same : suc i ≡ k = cc in let low = h i refl in omega (arith, same, low)
-
-pub place-low : (a k : ℕ) (xs : List ℕ) → place_of (λ b. a == b) xs ≡ Some k → k < length xs
-place-low a k [] e = cc
-place-low a k (x ∷ xs) e =
-    (elim (a == x) as (λ c. cond c (Some 0) (after (place_of (λ b. a == b) xs)) ≡ Some k → k < suc (length xs)) [
-      | true ↦ λ e. let same : 0 ≡ k = cc in omega (arith, same)
-      | false ↦ λ e. after-low k (length xs) (place_of (λ b. a == b) xs) (λ i h. place-low a i xs h) e
-    ]) e
 
 -- ---- to whom it goes
 

@@ -1,5 +1,5 @@
 -- A subscription at a source: the session that it leaves, and its answer.
-use Rattle.std.proofs.Common.{◌≡◌, ℕ, ◌∙◌, ◌==◌, true, false, List, [], ◌∷◌, refl, sym, ap, arith, Option, Some, None, position, nat_lt}
+use Rattle.std.proofs.Common.{◌≡◌, ℕ, ◌∙◌, ◌==◌, true, false, List, [], ◌∷◌, refl, sym, ap, arith, Option, Some, None, nat_lt}
 use Rattle.std.proofs.lemmas.Bool.{le-ltb}
 use Rattle.dpc_model.specs.Lists.{nth, changed, place_of}
 use Rattle.dpc_model.specs.Sessions.{no_session, is_newer_than_kept, first_batch, Shown, Answered, answer_to}
@@ -12,7 +12,6 @@ use Rattle.node_model.specs.Mails.{Mail, mail}
 use Rattle.node_model.specs.Sources.{source_readers, source_shown, source_subscribed, source_message}
 use Rattle.soutput.proofs.Answering.{changed-to-same}
 use Rattle.source_core.specs.Emitting.{SourceValue, IsSourceOf, after_step}
-use Rattle.source_core.proofs.Sends.{place-is}
 
 -- by a session that is not newer nothing changes, and nothing is sent
 pub old-stays : (plan : Plan) (v : SourceValue) (k : ℕ) (asked : Subscribe) → is_newer_than_kept asked.sess (nth no_session v.state.subs k).kept ≡ false →
@@ -50,7 +49,7 @@ new-told plan v k to asked items h new e told =
     ∙ sym (ap (sends_with (source_readers plan v.number) k) (new-answer (source_shown plan v.number v.state) (nth no_session v.state.subs k) asked new high))
 
 -- what a message does, by the place of its sender
-pub at-place : (plan : Plan) (v : SourceValue) (a : ℕ) (asked : Subscribe) (o : Option ℕ) → IsSourceOf plan v → position (λ b. a == b) v.readers ≡ o →
+pub at-place : (plan : Plan) (v : SourceValue) (a : ℕ) (asked : Subscribe) (o : Option ℕ) → IsSourceOf plan v → place_of (λ b. a == b) v.readers ≡ o →
     source_message plan v.number a (message.Subscribe asked) v.state ≡ source_subscribed plan v.number asked o v.state
 at-place plan v a asked o h e =
-    ap (λ (p : Option ℕ). source_subscribed plan v.number asked p v.state) (ap (λ (rs : List ℕ). place_of (λ b. a == b) rs) (sym h.readers) ∙ sym (place-is a v.readers) ∙ e)
+    ap (λ (p : Option ℕ). source_subscribed plan v.number asked p v.state) (ap (λ (rs : List ℕ). place_of (λ b. a == b) rs) (sym h.readers) ∙ e)

@@ -1,5 +1,5 @@
 //! A source.
-ghost use Rattle.std.specs.Prelude.{◌≡◌, ◌≤◌, ◌<◌, ℕ, ◌==◌, Option, map, length, position, IfOk, OnOk, OnErr, IsTrue};
+ghost use Rattle.std.specs.Prelude.{◌≡◌, ◌≤◌, ◌<◌, map, length, IfOk, OnOk, OnErr, IsTrue};
 ghost use Rattle.dpc_model.specs.Sessions.{opening_session};
 ghost use Rattle.dpc_model.specs.declared.plans.Plan.{Plan};
 ghost use Rattle.node_model.specs.Mails.{mails};
@@ -8,7 +8,7 @@ ghost use Rattle.source_core.specs.Emitting.{IsSourceOf, HasRoom, opening_source
 
 use crate::giving::beats;
 use crate::log::bound_past;
-use actor_lists::lists::readers_of;
+use actor_lists::lists::{place_of, readers_of};
 use dpc_model::faults::NoMemory;
 use dpc_model::messages::{Message, Out, Sess};
 use dpc_model::plans::{Plan, StreamRef};
@@ -68,13 +68,6 @@ fn openings(alloc: Global, readers: &[u64]) -> Result<Vec<Sub>, AllocError>
 {
     let sessions = vec![in alloc; opening(); readers.len()]?;
     Ok(sessions)
-}
-
-/// The place of an actor among the readers.
-fn place_among(readers: &[u64], actor: u64) -> Option<usize>
-    ensures { result ≡ position (λ b. actor == b) readers.now }
-{
-    readers.iter().position(|reader| actor == *reader)
 }
 
 impl SourceNode {
@@ -137,7 +130,7 @@ impl SourceNode {
         let Message::Subscribe(asked) = message else {
             return Ok(Vec::new(alloc));
         };
-        let Some(reader) = place_among(self.readers.as_slice(), sender) else {
+        let Some(reader) = place_of(self.readers.as_slice(), sender) else {
             return Ok(Vec::new(alloc));
         };
         let outs = self.answer(alloc, plan, reader, *asked)?;

@@ -1,10 +1,8 @@
 -- The inputs go on to stand for the plain ones, call by call.
-use Rattle.std.proofs.Common.{◌≡◌, ℕ, zero, suc, ◌+◌, ◌-◌, ◌*◌, ◌<◌, ◌≤◌, Bool, true, false, nat_le, ◌==◌, List, [], ◌∷◌, ◌++◌, map, take, drop, length, append-nil, refl, sym, ap, subst, ◌∙◌, arith, mul-le-mul_right, Option, None, slice_index_or}
+use Rattle.std.proofs.Common.{◌≡◌, ℕ, zero, suc, ◌+◌, ◌-◌, ◌*◌, ◌<◌, ◌≤◌, Bool, true, false, nat_le, ◌==◌, List, [], ◌∷◌, map, drop, length, refl, sym, ap, subst, ◌∙◌, arith, mul-le-mul_right, Option, None, slice_index_or}
 use Rattle.std.proofs.lemmas.Grind.{common_steps}
 use Rattle.std.proofs.lemmas.Bool.{leb-true}
 use Rattle.std.proofs.lemmas.List.Elements.{All-nil, All-cons, All-head, All-tail}
-use Rattle.std.proofs.lemmas.List.{length-map, take_all}
-use Rattle.std.proofs.Math.Seq.{drop-length}
 use Rattle.std.specs.List.{All, AllZip, filter}
 use Rattle.std.specs.Prelude.{unwrap_or, if◌then◌else◌}
 use Rattle.dpc_model.specs.Streams.{InOrder, NoneBelow, time_of}
@@ -127,9 +125,3 @@ advance-stands width first count closed clocks inlets x h =
       cursor = ap (λ (n : ℕ). n + count) cursor;
       closed = h.closed;
     }
-
--- what a part that is lent comes back as
-pub written-back : (n : ℕ) (f : InletValue → InletValue) (is new : List InletValue) → n ≡ length is → new ≡ map f is → take n (new ++ drop (length new) is) ≡ map f is
-written-back n f is new long e =
-    let same : length (map f is) ≡ length is = length-map is f in
-    rw (e, same, drop-length is, append-nil (map f is), long) (take_all (length is) (map f is) (omega (arith, same)))

@@ -1,25 +1,10 @@
 -- The replica that is chosen is one of the replicas.
-use Rattle.std.proofs.Common.{◌≡◌, ℕ, suc, ◌<◌, Bool, true, false, cond, ◌==◌, ap, List, [], ◌∷◌, map, length, Option, Some, None, unwrap_or, refl, arith}
+use Rattle.std.proofs.Common.{◌≡◌, ℕ, ◌<◌, true, false, cond, ◌==◌, ap, List, map, length, Option, Some, None, unwrap_or, refl, arith}
 use Rattle.std.proofs.lemmas.List.{length-map}
 use Rattle.dpc_model.specs.Lists.{nth, least, place_of}
 use Rattle.dpc_model.specs.Replicas.{Watch, rank_of, rank_order, choose}
 use Rattle.dpc_model.specs.declared.messages.Rank.{Rank}
-
-abbrev shifted : Option ℕ → Option ℕ
-shifted o = elim o [ None ↦ None | Some i ↦ Some (suc i) ]
-
--- the place of an element lies in the list
-pub place-within : (test : ℕ → Bool) (xs : List ℕ) (i : ℕ) → place_of test xs ≡ Some i → i < length xs
-place-within test [] i e = absurd (cc)
-place-within test (x ∷ xs) i e =
-    (elim (test x) as (λ b. cond b (Some 0) (shifted (place_of test xs)) ≡ Some i → i < suc (length xs)) [
-      | true ↦ λ h. let first : 0 ≡ i = cc in omega (arith, first)
-      | false ↦ λ h.
-          (elim (place_of test xs) as (λ o. place_of test xs ≡ o → shifted o ≡ Some i → i < suc (length xs)) [
-            | None ↦ λ p q. absurd (cc)
-            | Some k ↦ λ p q. let low = place-within test xs k p in let next : suc k ≡ i = cc in omega (arith, low, next)
-          ]) refl h
-    ]) e
+use Rattle.dpc_model.proofs.Places.{place-within}
 
 or-within : (current n : ℕ) (o : Option ℕ) → ((i : ℕ) → o ≡ Some i → i < n) → current < n → unwrap_or o current < n
 or-within current n None h low = low

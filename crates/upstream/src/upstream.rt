@@ -6,7 +6,7 @@ ghost use Rattle.dpc_model.specs.Ports.{all_truncated};
 ghost use Rattle.dpc_model.specs.declared.plans.TheConstants.{MOST_REPLICAS};
 ghost use Rattle.upstream.specs.Upstreams.{new_upstream, with_marks_ended, with_beat, with_truncation, with_tick, with_no_tick, port_by, with_choice, asked_actor};
 
-use actor_lists::lists::senders_of;
+use actor_lists::lists::{place_of, senders_of};
 use dpc_model::faults::NoMemory;
 use dpc_model::messages::Beat;
 use dpc_model::plans::{Plan, StreamRef};
@@ -42,13 +42,6 @@ impl Model for Upstream {
     ghost view = { λ u. record { senders = u.senders.items; known = record { chosen = u.chosen; watches = u.monitor; ticks = u.ticks } } };
 
     ghost invariant = { λ u. (length u.monitor ≡ length u.senders.items) × (u.chosen < length u.senders.items) × (u.ticks ≤ 3) };
-}
-
-/// The place of an actor among the senders.
-fn place_of(senders: &[u64], actor: u64) -> Option<usize>
-    ensures { result ≡ position (λ (sender : ℕ). sender == actor) senders.now }
-{
-    senders.iter().position(|sender| *sender == actor)
 }
 
 impl Upstream {

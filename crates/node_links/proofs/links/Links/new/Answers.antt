@@ -9,7 +9,8 @@ use Rattle.dpc_model.specs.declared.plans.StreamRef.{StreamRef}
 use Rattle.dpc_model.specs.declared.plans.TheConstants.{MOST_REPLICAS}
 use Rattle.node_model.specs.Nodes.{Home, spec_of}
 use Rattle.upstream.specs.Upstreams.{new_upstream}
-use Rattle.node_links.proofs.Viewing.{new-view, nth-at}
+use Rattle.dpc_model.proofs.Places.{nth-at}
+use Rattle.node_links.proofs.Viewing.{new-view}
 use Rattle.node_links.proofs.links.Links.new.Goals as goal
 
 pub new_ports-requires : goal.new_ports-requires
@@ -24,7 +25,7 @@ invariant_of-result c =
     let low : c.args.replica < length rs = let inside = c.requires.inside in omega (arith, same, inside) in
     let watches : length c.new-2.result ≡ c.len-2.result = ap length c.new-2.ensures ∙ length-replicate c.len-2.result new_watch in
     let heard : length c.new.result.heard ≡ c.len.result = ap (λ (g : Grants). length g.heard) c.new.ensures ∙ length-replicate c.len.result None in
-    let own : c.index.result.now ≡ nth 0 rs c.args.replica = c.index.ensures ∙ nth-at c.args.replica rs c.index.result.now low in (
+    let own : c.index.result.now ≡ nth 0 rs c.args.replica = c.index.ensures ∙ nth-at 0 c.args.replica rs c.index.result.now low in (
       omega (arith, watches, c.len-2.ensures, c.in_ok-replicas.replicas.ok),
       omega (arith, heard, c.len.ensures, c.in_ok-replicas.replicas.ok),
       low,

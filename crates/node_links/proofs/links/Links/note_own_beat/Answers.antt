@@ -5,7 +5,7 @@ use Rattle.dpc_model.specs.Granting.{Grants, later_key, after_peer_beat}
 use Rattle.dpc_model.proofs.Elements.{length-changed}
 use Rattle.node_links.specs.Linking.{LinksValue, after_own_beat}
 use Rattle.node_links.proofs.Viewing.{links_of}
-use Rattle.node_links.proofs.Within.{place-within}
+use Rattle.dpc_model.proofs.Places.{place-within}
 use Rattle.node_links.proofs.links.Links.note_own_beat.Goals as goal
 
 pub note_beat-requires : goal.note_beat-requires

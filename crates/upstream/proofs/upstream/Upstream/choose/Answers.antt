@@ -1,7 +1,8 @@
 use Rattle.std.proofs.Common.{◌≡◌, ◌∙◌, ap, arith, length, true}
 use Rattle.std.proofs.lemmas.Grind.{common_steps}
 use Rattle.upstream.proofs.Choosing.{chosen-within}
-use Rattle.upstream.proofs.Places.{nth-at, asked}
+use Rattle.dpc_model.proofs.Places.{nth-at}
+use Rattle.upstream.proofs.Places.{asked}
 use Rattle.dpc_model.specs.Lists.{nth}
 use Rattle.upstream.specs.Upstreams.{UpstreamValue, port_by}
 use Rattle.dpc_model.specs.Ports.{must_reopen, choice_at}
@@ -27,5 +28,5 @@ returns-clause-asked c =
     c.choose-chosen.ensures ∙ ap (choose c.self.inside.chosen) (c.as_slice.ensures ∙ c.ranks.ensures) ∙ ap (λ (u : UpstreamValue). choice_at (port_by c.args.broken c.args.answered u.known)) c.self.view_is in
     let reopens : must_reopen (port_by c.args.broken c.args.answered v.known) ≡ true = grind (arith, common_steps) in
     asked c.args.broken c.args.answered v c.index.result.now reopens
-    (c.index.ensures ∙ nth-at c.choose-chosen.result c.self.inside.senders.items c.index.result.now (invariant_of-self-2 c).1
+    (c.index.ensures ∙ nth-at 0 c.choose-chosen.result c.self.inside.senders.items c.index.result.now (invariant_of-self-2 c).1
     ∙ ap (nth 0 c.self.inside.senders.items) is ∙ ap (λ (u : UpstreamValue). nth 0 u.senders (choice_at (port_by c.args.broken c.args.answered v.known))) c.self.view_is)
