@@ -1,4 +1,4 @@
-mod Accepted
+pub mod Accepted
 pub mod Advancing
 pub mod Closing
 mod Complete

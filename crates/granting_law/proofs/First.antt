@@ -38,17 +38,17 @@ sources-first rest none from zero a s e = absurd (none a s e)
 sources-first rest none from (suc count) zero s e = omega arith
 sources-first rest none from (suc count) (suc a) s e = let less = sources-first rest none (from + 1) count a s e in omega (arith, less)
 
-source-below : (plan : Plan) (a u : ℕ) → role_of plan a ≡ IsSource u → u < length plan.sources
+pub source-below : (plan : Plan) (a u : ℕ) → role_of plan a ≡ IsSource u → u < length plan.sources
 source-below plan a u e =
     let less = sources-first (map (λ (n : ℕ × ℕ). IsNode n.0 n.1) (nodes_of plan) ++ map IsClient (range_with_len 0 (length plan.clients))) (no-node-source (nodes_of plan) (range_with_len 0 (length plan.clients))) 0 (length plan.sources) a u (sym (role-split plan a) ∙ e) in
     let number = source-number plan a u e in omega (arith, less, number)
 
-sources-at : (plan : Plan) (k n j : ℕ) → j < n → nth no_source (map (new_source plan) (range_with_len k n)) j ≡ new_source plan (k + j)
+pub sources-at : (plan : Plan) (k n j : ℕ) → j < n → nth no_source (map (new_source plan) (range_with_len k n)) j ≡ new_source plan (k + j)
 sources-at plan k zero j h = absurd (omega (arith, h))
 sources-at plan k (suc n) zero h = let none : k + 0 ≡ k = omega arith in ap (λ (z : ℕ). new_source plan z) (sym none)
 sources-at plan k (suc n) (suc j) h = let next : k + 1 + j ≡ k + suc j = omega arith in sources-at plan (k + 1) n j (omega (arith, h)) ∙ ap (λ (z : ℕ). new_source plan z) next
 
-nth-opening : {X : Type 0} (ys : List X) (k : ℕ) → (nth no_session (map (λ (_ : X). opening_session) ys) k ≡ opening_session) ⊎ (nth no_session (map (λ (_ : X). opening_session) ys) k ≡ no_session)
+pub nth-opening : {X : Type 0} (ys : List X) (k : ℕ) → (nth no_session (map (λ (_ : X). opening_session) ys) k ≡ opening_session) ⊎ (nth no_session (map (λ (_ : X). opening_session) ys) k ≡ no_session)
 nth-opening [] k = inr refl
 nth-opening (y ∷ ys) zero = inl refl
 nth-opening (y ∷ ys) (suc k) = nth-opening ys k
@@ -61,11 +61,11 @@ new-source-sub plan u k i s opening =
       | inr none ↦ subst (λ (z : Sub). SubHolds s i 0 1 z) (sym none) (none-holds s i 1)
     ]
 
-new-source-few : (plan : Plan) (u : ℕ) → length (new_source plan u).subs ≡ length (source_readers plan u)
+pub new-source-few : (plan : Plan) (u : ℕ) → length (new_source plan u).subs ≡ length (source_readers plan u)
 unfolding new_source
 new-source-few plan u = length-map (source_readers plan u) (λ _. opening_session)
 
-new-sources : (plan : Plan) → (new_world plan).sources ≡ map (new_source plan) (range_with_len 0 (length plan.sources))
+pub new-sources : (plan : Plan) → (new_world plan).sources ≡ map (new_source plan) (range_with_len 0 (length plan.sources))
 unfolding new_world
 new-sources plan = refl
 

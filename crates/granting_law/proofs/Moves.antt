@@ -4,7 +4,7 @@ use Rattle.std.specs.Prelude.{is_none}
 use Rattle.std.proofs.lemmas.Grind.{common_steps}
 use Rattle.dpc_model.specs.Lists.{nth, changed, list_all}
 use Rattle.dpc_model.specs.Reading.{Folded, fold_items}
-use Rattle.dpc_model.specs.Inlets.{InletState, AfterBatch, with_next_session, take_batch, same_sess, after_missing_batch, after_next_batch, after_link, shows_loss}
+use Rattle.dpc_model.specs.Inlets.{InletState, AfterBatch, with_next_session, take_batch, same_sess, sess_of, after_missing_batch, after_next_batch, after_link, shows_loss}
 use Rattle.dpc_model.specs.Replicas.{is_silent}
 use Rattle.dpc_model.specs.Granting.{own_key, with_ask, may_enter_by, grants, with_promise}
 use Rattle.dpc_model.specs.Actors.{replicas_of}
@@ -38,6 +38,7 @@ pub record Stays (q r : Port) : Type 0 where
 -- a new session is opened
 pub record Opens (q r : Port) : Type 0 where
   pub sess : same_sess q.inlet.sess r.inlet.sess ≡ false
+  pub to : r.inlet.sess ≡ sess_of q.inlet.sess.inc (q.inlet.sess.number + 1)
   pub next : r.inlet.next ≡ 0
 
 -- the next batch is taken
@@ -62,7 +63,7 @@ stays-then T q m r s c n b (inl k) = inl (record {
   next = λ e. let p = k.next e in (sym b ∙ p.0, p.1 ∙ n);
   none = λ e. k.none (e ∙ ap (λ (x : ℕ). x + 1) (sym n));
 })
-stays-then T q m r s c n b (inr (inl k)) = inr (inl (record { sess = ap (λ (u : Sess). same_sess u r.inlet.sess) (sym s) ∙ k.sess; next = k.next }))
+stays-then T q m r s c n b (inr (inl k)) = inr (inl (record { sess = ap (λ (u : Sess). same_sess u r.inlet.sess) (sym s) ∙ k.sess; to = k.to ∙ ap (λ (u : Sess). sess_of u.inc (u.number + 1)) s; next = k.next }))
 stays-then T q m r s c n b (inr (inr k)) = inr (inr (record {
   sess = k.sess ∙ s;
   chosen = k.chosen ∙ c;
@@ -158,7 +159,7 @@ emptied-moves T q ts b = inl (record { sess = refl; chosen = refl; next = λ e. 
 pub chosen-moves : (T : ℕ → Sess → ℕ → Type 0) (q : Port) → Moves T q (port_after_choice q)
 chosen-moves T q =
     (elim (must_reopen q) as (λ c. must_reopen q ≡ c → Moves T q (record q { inlet = cond c (with_next_session q.inlet) q.inlet; chosen = choice_at q; ticks = cond c 0 q.ticks })) [
-      | true ↦ λ e. inr (inl (record { sess = other q.inlet.sess; next = refl }))
+      | true ↦ λ e. inr (inl (record { sess = other q.inlet.sess; to = refl; next = refl }))
       | false ↦ λ e. inl (stays-same q (record q { chosen = choice_at q }) refl (eq-of (choice_at q) q.chosen (first (choice_at q == q.chosen) q.inlet.broken (not q.inlet.answered && nat_le 3 q.ticks) e)) refl refl)
     ]) refl
   where

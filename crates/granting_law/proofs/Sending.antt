@@ -1,8 +1,8 @@
 -- In one incarnation of a sender the batches of a session are numbered 0, 1, and so on: one reader's session, step by step.
-use Rattle.std.proofs.Common.{◌≡◌, ℕ, zero, suc, ◌+◌, ◌<◌, ◌≤◌, Bool, true, false, cond, not, ◌&&◌, ◌==◌, nat_lt, List, [], ◌∷◌, ◌++◌, map, length, refl, sym, ap, subst, ◌∙◌, arith, Option, Some, None, slice_get, length-append}
+use Rattle.std.proofs.Common.{◌≡◌, ℕ, zero, suc, ◌+◌, ◌<◌, ◌≤◌, Bool, true, false, cond, not, ◌&&◌, ◌||◌, ◌==◌, nat_lt, List, [], ◌∷◌, ◌++◌, map, length, refl, sym, ap, subst, ◌∙◌, arith, Option, Some, None, slice_get, length-append, ◌⊎◌, inl, inr}
 use Rattle.std.proofs.lemmas.Grind.{common_steps}
 use Rattle.std.proofs.lemmas.Option.{slice_get_within}
-use Rattle.dpc_model.specs.Lists.{nth, range_with_len}
+use Rattle.dpc_model.specs.Lists.{nth, range_with_len, list_any}
 use Rattle.dpc_model.specs.Inlets.{same_sess, is_newer}
 use Rattle.dpc_model.specs.Sessions.{no_session, Shown, Answered, answer_to, is_newer_than_kept, link_of, with_session_shut, with_batch, with_batches, batches_from, batches_of, first_batch}
 use Rattle.dpc_model.specs.declared.sessions.Sub.{Sub}
@@ -50,22 +50,40 @@ pub record Counts (s : Sess) (n : ℕ) (sub : Sub) : Type 0 where
 pub record NotOpen (s : Sess) (sub : Sub) : Type 0 where
   pub other : (v : Sess) (m : ℕ) → link_of sub ≡ Some (v, m) → same_sess v s ≡ false
 
+abbrev pub is_zero : ℕ → Bool
+is_zero v = v == 0
+
+any-before : (xs ys : List ℕ) → list_any is_zero xs ≡ true → list_any is_zero (xs ++ ys) ≡ true
+any-before [] ys e = cc
+any-before (x ∷ xs) ys e =
+    elim (is_zero x) as (λ b. (b || list_any is_zero xs) ≡ true → (b || list_any is_zero (xs ++ ys)) ≡ true) [
+      | true ↦ λ d. refl
+      | false ↦ λ d. any-before xs ys d
+    ] e
+
+any-behind : (xs ys : List ℕ) → list_any is_zero ys ≡ true → list_any is_zero (xs ++ ys) ≡ true
+any-behind [] ys e = e
+any-behind (x ∷ xs) ys e = elim (is_zero x) as (λ b. (b || list_any is_zero (xs ++ ys)) ≡ true) [ true ↦ refl | false ↦ any-behind xs ys e ]
+
 -- what a step sends in a session; opens tells whether it takes a subscription to it
 pub record SendsOn (s : Sess) (opens : Bool) (sub next : Sub) (sent : List ℕ) : Type 0 where
   pub counts : (n : ℕ) → Counts s n sub → (sent ≡ range_with_len n (length sent)) × Counts s (n + length sent) next
   pub quiet : opens ≡ false → NotOpen s sub → (sent ≡ []) × NotOpen s next
+  -- a session that was not open got its first batch, or is still not open
+  pub fresh : NotOpen s sub → (list_any is_zero sent ≡ true) ⊎ NotOpen s next
 
 no-more : (n : ℕ) → n + 0 ≡ n
 no-more n = omega arith
 
 pub sends-none : (s : Sess) (opens : Bool) (sub : Sub) → SendsOn s opens sub sub []
-sends-none s opens sub = record { counts = λ n c. (refl, subst (λ (k : ℕ). Counts s k sub) (sym (no-more n)) c); quiet = λ e c. (refl, c) }
+sends-none s opens sub = record { counts = λ n c. (refl, subst (λ (k : ℕ). Counts s k sub) (sym (no-more n)) c); quiet = λ e c. (refl, c); fresh = λ c. inr c }
 
 pub sends-shut : (s : Sess) (opens : Bool) (sub : Sub) → SendsOn s opens sub (with_session_shut sub) []
 sends-shut s opens sub =
     record {
       counts = λ n c. (refl, record { open_one = λ v m e. absurd (closed v m e); newer = λ e. no-more n ∙ c.newer e });
       quiet = λ e c. (refl, record { other = λ v m d. absurd (closed v m d) });
+      fresh = λ c. inr (record { other = λ v m d. absurd (closed v m d) });
     }
   where
     closed : (v : Sess) (m : ℕ) → link_of (with_session_shut sub) ≡ Some (v, m) → ⊥
@@ -90,6 +108,10 @@ sends-then s opens a b c xs ys h k =
       quiet = λ e d.
           let p = h.quiet e d in
           let q = k.quiet e p.1 in (ap (λ (zs : List ℕ). zs ++ ys) p.0 ∙ q.0, q.1);
+      fresh = λ d. elim (h.fresh d) [
+        | inl first ↦ inl (any-before xs ys first)
+        | inr still ↦ elim (k.fresh still) [ inl first ↦ inl (any-behind xs ys first) | inr none ↦ inr none ]
+      ];
     }
 
 -- ---- a batch more
@@ -120,6 +142,7 @@ sends-counted s opens sub = by-parts sub.kept sub.is_open refl refl
         (record {
           counts = λ n c. (refl, record { open_one = λ v m e. absurd (still v m e); newer = λ e. no-more n ∙ c.newer (subst (λ (k : Option Sess). is_newer_than_kept s k ≡ true) kept-same e) });
           quiet = λ e c. (refl, record { other = λ v m d. absurd (still v m d) });
+          fresh = λ c. inr (record { other = λ v m d. absurd (still v m d) });
         })
       where
         kept-same : (with_batch sub).kept ≡ sub.kept
@@ -142,6 +165,7 @@ sends-counted s opens sub = by-parts sub.kept sub.is_open refl refl
                   },
                 );
             quiet = λ e c. let clash : true ≡ false = sym same ∙ c.other u sub.batches open_now in cc;
+            fresh = λ c. let clash : true ≡ false = sym same ∙ c.other u sub.batches open_now in cc;
           }
           | false ↦ λ other. record {
             counts = λ n c. (
@@ -152,6 +176,7 @@ sends-counted s opens sub = by-parts sub.kept sub.is_open refl refl
               },
             );
             quiet = λ e c. (refl, record { other = λ v m d. let p = pair-of v u m (sub.batches + 1) (sym d ∙ open_next) in ap (λ (z : Sess). same_sess z s) p.0 ∙ other });
+            fresh = λ c. inr (record { other = λ v m d. let p = pair-of v u m (sub.batches + 1) (sym d ∙ open_next) in ap (λ (z : Sess). same_sess z s) p.0 ∙ other });
           }
         ]) refl)
       where
@@ -194,6 +219,7 @@ sends-answered s opens x sub asked told =
             | true ↦ record {
               counts = λ n c. (refl, record { open_one = λ v m e. cc; newer = λ e. no-more n ∙ c.newer (newer-kept s asked.sess sub.kept e new) });
               quiet = λ e c. (refl, record { other = λ v m d. cc });
+              fresh = λ c. inr (record { other = λ v m d. cc });
             }
             | false ↦ opened new
           ]
@@ -215,6 +241,7 @@ sends-answered s opens x sub asked told =
                   },
                 );
             quiet = λ e c. let clash : true ≡ false = sym (told same) ∙ e in cc;
+            fresh = λ c. inl refl;
           }
           | false ↦ λ other. record {
             counts = λ n c. (
@@ -225,6 +252,7 @@ sends-answered s opens x sub asked told =
               },
             );
             quiet = λ e c. (refl, record { other = λ v m d. let p = pair-of v asked.sess m 1 (sym d) in ap (λ (z : Sess). same_sess z s) p.0 ∙ other });
+            fresh = λ c. inr (record { other = λ v m d. let p = pair-of v asked.sess m 1 (sym d) in ap (λ (z : Sess). same_sess z s) p.0 ∙ other });
           }
         ]) refl
 

@@ -42,9 +42,9 @@ nth-in d f (x ∷ xs) zero h = refl
 nth-in d f (x ∷ xs) (suc k) h = nth-in d f xs k (omega (arith, h))
 
 -- what a source's step sends to the reader of one place in one session
-record SourceSends (readers : List ℕ) (a k : ℕ) (s : Sess) (opens : Bool) (old : SourceState) (t : Stepped SourceState) : Type 0 where
-  many : length t.after.subs ≡ length readers
-  on : SendsOn s opens (nth no_session old.subs k) (nth no_session t.after.subs k) (indexes (record { sender = a; reader = nth 0 readers k; sess = s }) (map (from a) t.sends))
+pub record SourceSends (readers : List ℕ) (a k : ℕ) (s : Sess) (opens : Bool) (old : SourceState) (t : Stepped SourceState) : Type 0 where
+  pub many : length t.after.subs ≡ length readers
+  pub on : SendsOn s opens (nth no_session old.subs k) (nth no_session t.after.subs k) (indexes (record { sender = a; reader = nth 0 readers k; sess = s }) (map (from a) t.sends))
 
 module _ (plan : Plan) (u a k : ℕ) (s : Sess) (opens : Bool) (low : k < length (source_readers plan u)) where
   abbrev line : Channel
@@ -118,7 +118,7 @@ module _ (plan : Plan) (u a k : ℕ) (s : Sess) (opens : Bool) (low : k < length
           answer-is None = refl
           answer-is (Some m) = skip-other line a (mail (nth 0 (source_readers plan u) j) m) [] (and-false (a == a) (nth 0 (source_readers plan u) j == nth 0 (source_readers plan u) k) apart)
 
-  delivered-on : (sender : ℕ) (packet : Packet) (x : SourceState) → (sender ≡ nth 0 (source_readers plan u) k → subscribes_packet s packet ≡ true → opens ≡ true) → length x.subs ≡ length (source_readers plan u) →
+  pub delivered-on : (sender : ℕ) (packet : Packet) (x : SourceState) → (sender ≡ nth 0 (source_readers plan u) k → subscribes_packet s packet ≡ true → opens ≡ true) → length x.subs ≡ length (source_readers plan u) →
       Sends x (source_packet_step plan u sender packet x)
   unfolding source_packet_step
   delivered-on sender (Plain (message.Subscribe asked)) x told many = subscribed sender asked (place_of (λ b. sender == b) (source_readers plan u)) x refl told many
@@ -137,15 +137,15 @@ module _ (plan : Plan) (u a k : ℕ) (s : Sess) (opens : Bool) (low : k < length
   beats-none (b ∷ ids) [] = tt
   beats-none (b ∷ ids) (sub ∷ subs) = (λ z. refl, beats-none ids subs)
 
-  ticked-on : (now : ℕ) (x : SourceState) → length x.subs ≡ length (source_readers plan u) → Sends x (source_tick_step plan u now x)
+  pub ticked-on : (now : ℕ) (x : SourceState) → length x.subs ≡ length (source_readers plan u) → Sends x (source_tick_step plan u now x)
   unfolding source_tick_step
   ticked-on now x many = quiet x (source_tick_step plan u now x) many refl (beats-none (source_readers plan u) x.subs)
 
-  emits-on : (t : ℕ) (x : SourceState) → length x.subs ≡ length (source_readers plan u) → Sends x (source_emits plan u t x)
+  pub emits-on : (t : ℕ) (x : SourceState) → length x.subs ≡ length (source_readers plan u) → Sends x (source_emits plan u t x)
   unfolding source_emits
   emits-on t x many = gives t None x many
 
-  releases-on : (t : ℕ) (x : SourceState) → length x.subs ≡ length (source_readers plan u) → Sends x (source_releases plan u t x)
+  pub releases-on : (t : ℕ) (x : SourceState) → length x.subs ≡ length (source_readers plan u) → Sends x (source_releases plan u t x)
   unfolding source_releases
   releases-on t x many = let k = gives t (cond (nat_lt x.bound t) (bound_at plan u t) None) (record x { bound = max x.bound t }) many in record { many = k.many; on = k.on }
 

@@ -1,0 +1,13 @@
+pub mod Pasts
+pub mod FirstSession
+pub mod Opening
+pub mod Firsts
+pub mod Opened
+pub mod OpenedSources
+pub mod OpenedAll
+pub mod Shut
+pub mod Takings
+pub mod Stood
+pub mod Numbered
+pub mod RoleNumbers
+pub mod OnePort

@@ -1,0 +1,4 @@
+pub mod FirstSession
+pub mod Asking
+pub mod Standing
+pub mod Numbers
