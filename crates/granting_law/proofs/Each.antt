@@ -76,7 +76,7 @@ module _ (P : Mail → Type 0) where
   each-acks home n (p ∷ ports) [] h = tt
   each-acks home n (p ∷ ports) (s ∷ ss) h = each-acks-to n.grants.inc (done_at home n p) (senders_of home.plan s) (acks_from home n ports ss) (λ to. h to (done_at home n p)) (each-acks home n ports ss h)
 
-  each-zipped : (f : Sub → Message) (ids : List ℕ) (subs : List Sub) → ((to : ℕ) (sub : Sub) → P (mail to (f sub))) → Each P (map (λ (x : ℕ × Sub). mail x.0 (f x.1)) (zip ids subs))
+  pub each-zipped : (f : Sub → Message) (ids : List ℕ) (subs : List Sub) → ((to : ℕ) (sub : Sub) → P (mail to (f sub))) → Each P (map (λ (x : ℕ × Sub). mail x.0 (f x.1)) (zip ids subs))
   each-zipped f [] [] h = tt
   each-zipped f [] (sub ∷ subs) h = tt
   each-zipped f (a ∷ ids) [] h = tt

@@ -69,7 +69,7 @@ pub new-sources : (plan : Plan) → (new_world plan).sources ≡ map (new_source
 unfolding new_world
 new-sources plan = refl
 
-new-source-order : (plan : Plan) (a x u k i : ℕ) (s : Sess) → role_of plan a ≡ IsSource u → (same_sess (sess_of 1 1) s ≡ true → i ≡ 1) → SourceOrder (new_world plan) a x u k i s (length (source_readers plan u))
+pub new-source-order : (plan : Plan) (a x u k i : ℕ) (s : Sess) → role_of plan a ≡ IsSource u → (same_sess (sess_of 1 1) s ≡ true → i ≡ 1) → SourceOrder (new_world plan) a x u k i s (length (source_readers plan u))
 new-source-order plan a x u k i s role opening =
     let below = source-below plan a u role in
     let zero_on : 0 + u ≡ u = omega arith in

@@ -88,7 +88,7 @@ get-mapped f (x ∷ xs) (suc i) y e = get-mapped f xs i y e
 ports-map : (T : ℕ → ℕ → Sess → ℕ → Type 0) (f : Port → Port) (ps : List Port) → ((p : ℕ) (q : Port) → Moves (T p) q (f q)) → PortsMove T ps (map f ps)
 ports-map T f ps h p r e = let found = get-mapped f ps p r e in (found.0, found.1, subst (λ (x : Port). Moves (T p) found.0 x) found.2 (h p found.0))
 
-get-was : {X : Type 0} (i : ℕ) (f : X → X) (xs : List X) (p : ℕ) (y : X) → slice_get (changed i f xs) p ≡ Some y → (x : X) × (slice_get xs p ≡ Some x) × ((x ≡ y) ⊎ ((p ≡ i) × (f x ≡ y)))
+pub get-was : {X : Type 0} (i : ℕ) (f : X → X) (xs : List X) (p : ℕ) (y : X) → slice_get (changed i f xs) p ≡ Some y → (x : X) × (slice_get xs p ≡ Some x) × ((x ≡ y) ⊎ ((p ≡ i) × (f x ≡ y)))
 get-was i f [] p y e = cc
 get-was zero f (x ∷ xs) zero y e = (x, refl, inr (refl, cc))
 get-was zero f (x ∷ xs) (suc p) y e = (y, e, inl refl)
@@ -176,7 +176,7 @@ chosen-moves T q =
 abbrev pub DeliversNext : Home → ℕ → Packet → ℕ → ℕ → Sess → ℕ → Type 0
 DeliversNext home a packet p r s i = (sender_at home.plan (streams_of home) a ≡ Some (p, r)) × (index_in s packet ≡ Some i)
 
-stamped-ports : (home : Home) (x : Taken) (n : PlainNode) → (with_stamps_of home x n).ports ≡ n.ports
+pub stamped-ports : (home : Home) (x : Taken) (n : PlainNode) → (with_stamps_of home x n).ports ≡ n.ports
 stamped-ports home (Used items) n = refl
 stamped-ports home Old n = refl
 stamped-ports home Broken n = refl
@@ -351,10 +351,10 @@ unfolding mill_step
 milled-ports home r n =
     ports-stay NoneTaken n.ports (mill_step home r n).after.ports refl
 
-abbrev HasPorts : List Port → Stepped PlainNode → Type 0
+abbrev pub HasPorts : List Port → Stepped PlainNode → Type 0
 HasPorts ps s = s.after.ports ≡ ps
 
-reconciling-ports : (home : Home) (n : PlainNode) → HasPorts n.ports (ask_step home n)
+pub reconciling-ports : (home : Home) (n : PlainNode) → HasPorts n.ports (ask_step home n)
 reconciling-ports home n =
     elim (wants_to_reconcile home n && is_none n.grants.promise) as (λ b. HasPorts n.ports (cond b (cond (list_all is_silent (peer_watches home n)) (enter_step home n)
     (record { after = record n { grants = with_ask n.grants }; sends = to_each (message.Ask (own_key n.grants).0 (own_key n.grants).1) (peers_of home) })) (silent_step n))) [
@@ -366,7 +366,7 @@ reconciling-ports home n =
       | false ↦ refl
     ]
 
-processing-ports : (home : Home) (n : PlainNode) → HasPorts n.ports (processing_step home n)
+pub processing-ports : (home : Home) (n : PlainNode) → HasPorts n.ports (processing_step home n)
 processing-ports home n =
     elim (is_stabilization n.state) as (λ b. HasPorts n.ports (cond b (silent_step n) (elim (due_at home n n.clock) [ None ↦ silent_step n | Some last ↦ processing_upto home last n ]))) [
       | true ↦ refl

@@ -117,7 +117,7 @@ reader-found plan u x e =
 
 -- ---- a node's session over a run
 
-sent-run : (w : World) (most : ℕ) (events : List Event) (a x f r k i : ℕ) (s : Sess) → IsFine w most → IsAskingWorld w → IsNodeLine w.plan a x f r k → SentOrder w a x k i s →
+pub sent-run : (w : World) (most : ℕ) (events : List Event) (a x f r k i : ℕ) (s : Sess) → IsFine w most → IsAskingWorld w → IsNodeLine w.plan a x f r k → SentOrder w a x k i s →
     EachStep (λ w e. subscribes (record { sender = a; reader = x; sess = s }) w e ≡ true → role_inc w a (role_of w.plan a) ≡ i) w events → SentOrder (run_from w events) a x k i s
 sent-run w most [] a x f r k i s fine asking line h told = h
 sent-run w most (e ∷ events) a x f r k i s fine asking line h told =
@@ -157,7 +157,7 @@ pub new_world-none : (plan : Plan) → (new_world plan).envelopes ≡ []
 unfolding new_world
 new_world-none plan = refl
 
-new-order : (plan : Plan) (a x f r k i : ℕ) (s : Sess) → role_of plan a ≡ IsNode f r → (same_sess (sess_of 1 1) s ≡ true → i ≡ 1) → SentOrder (new_world plan) a x k i s
+pub new-order : (plan : Plan) (a x f r k i : ℕ) (s : Sess) → role_of plan a ≡ IsNode f r → (same_sess (sess_of 1 1) s ≡ true → i ≡ 1) → SentOrder (new_world plan) a x k i s
 new-order plan a x f r k i s role opening =
     record {
       many = 0;

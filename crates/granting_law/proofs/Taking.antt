@@ -73,7 +73,7 @@ came-same : (w : World) (e : Event) (x p : ℕ) (u : StreamRef) (r : Port) → p
 came-same w e x p u r there = inr (r, there, inl (stays-same r r refl refl refl refl))
 
 -- a batch of a sender is of the replica of its number
-sent-by : (plan : Plan) (ss : List StreamRef) (a p r : ℕ) (u : StreamRef) → slice_get ss p ≡ Some u → sender_at plan ss a ≡ Some (p, r) → nth 0 (senders_of plan u) r ≡ a
+pub sent-by : (plan : Plan) (ss : List StreamRef) (a p r : ℕ) (u : StreamRef) → slice_get ss p ≡ Some u → sender_at plan ss a ≡ Some (p, r) → nth 0 (senders_of plan u) r ≡ a
 sent-by plan ss a p r u at e =
     let k = sender-of plan ss a p r e in
     let same : k.stream ≡ u = some-stream k.stream u (sym k.at ∙ at) in
@@ -190,7 +190,7 @@ client-place plan a c e =
     let one = p.2 in
     let two = q.2 in omega (arith, one, two, r)
 
-client-actor : (plan : Plan) (a b c : ℕ) → role_of plan a ≡ IsClient c → role_of plan b ≡ IsClient c → a ≡ b
+pub client-actor : (plan : Plan) (a b c : ℕ) → role_of plan a ≡ IsClient c → role_of plan b ≡ IsClient c → a ≡ b
 client-actor plan a b c e k = client-place plan a c e ∙ sym (client-place plan b c k)
 
 -- ---- a client's port

@@ -14,13 +14,13 @@ use Rattle.world_safety.proofs.Growing.{Grows, event-grows}
 -- ---- who asked
 
 -- an envelope of a world asks for the session by this subscription
-abbrev IsSent : Channel → World → Subscribe → Type 0
+abbrev pub IsSent : Channel → World → Subscribe → Type 0
 IsSent l w asked = (k : ℕ) × (e : Envelope) × (slice_get w.envelopes k ≡ Some e) × (asks_for l e ≡ Some asked)
 
-sent-later : (l : Channel) (w next : World) (asked : Subscribe) → Grows w next → IsSent l w asked → IsSent l next asked
+pub sent-later : (l : Channel) (w next : World) (asked : Subscribe) → Grows w next → IsSent l w asked → IsSent l next asked
 sent-later l w next asked g h = (h.0, h.1, ap (λ (es : List Envelope). slice_get es h.0) g.envelopes ∙ get-first w.envelopes g.more h.0 h.1 h.2, h.3)
 
-brought : (l : Channel) (w : World) (e : Event) (asked : Subscribe) → brings l w e ≡ Some asked → IsSent l w asked
+pub brought : (l : Channel) (w : World) (e : Event) (asked : Subscribe) → brings l w e ≡ Some asked → IsSent l w asked
 brought l w (Deliver k) asked h =
     (elim (slice_get w.envelopes k) as (λ o. slice_get w.envelopes k ≡ o → elim o [ None ↦ None | Some e ↦ asks_for l e ] ≡ Some asked → IsSent l w asked) [
       | None ↦ λ f g. cc

@@ -87,7 +87,7 @@ role-held plan a (IsNode f r) checked e =
 role-held plan a (IsClient c) checked e = tt
 role-held plan a Nobody checked e = tt
 
-new-world-held : (plan : Plan) → IsCheckedPlan plan → AreHeld (new_world plan) (λ l. []) first_subscription
+pub new-world-held : (plan : Plan) → IsCheckedPlan plan → AreHeld (new_world plan) (λ l. []) first_subscription
 new-world-held plan checked a =
     subst (λ (p : Plan). HeldAt p (new_world plan).sources (new_world plan).nodes (λ l. []) first_subscription a (role_of p a)) (sym (new_world-plan plan)) (role-held plan a (role_of plan a) checked refl)
 

@@ -1,0 +1,12 @@
+pub mod Running
+pub mod Passing
+pub mod Surely
+pub mod Counting
+pub mod Kept
+pub mod Sessions
+pub mod Known
+pub mod Going
+pub mod Read
+pub mod Steps
+pub mod Carried
+pub mod Viewed

@@ -1,0 +1,5 @@
+pub mod Sure
+pub mod Counts
+pub mod Newest
+pub mod Settling
+pub mod Held

@@ -1,0 +1,30 @@
+-- When a live run settles: the premise that Settles lacks, and the statement with it.
+use Rattle.std.specs.Prelude.{◌≡◌, ℕ, ◌+◌, ◌^◌, ◌≤◌, IsTrue, List, All, Some, slice_get}
+use Rattle.dpc_model.specs.Streams.{IsOrdered}
+use Rattle.dpc_model.specs.Actors.{role_of, inputs_of}
+use Rattle.dpc_model.specs.declared.messages.Event.{Event}
+use Rattle.dpc_model.specs.declared.plans.FragSpec.{FragSpec}
+use Rattle.dpc_model.specs.declared.plans.StreamRef.{StreamRef}
+use Rattle.dpc_model.specs.declared.scripts.Phase.{Phase}
+use Rattle.dpc_model.specs.declared.scripts.Script.{Script}
+use Rattle.world_model.specs.Schedules.{is_live, last_clock, quiet_limit}
+use Rattle.world_model.specs.Steady.{IsSteady, OpensWell}
+use Rattle.world_model.specs.Worlds.{run, all_settled}
+use Rattle.world_safety.specs.Plans.{IsCheckedPlan}
+
+-- what a script is to have for its runs to settle; every checked script has it
+pub record CanSettle (script : Script) : Type 0 where
+  pub plan : IsCheckedPlan script.plan
+  -- at most four replicas, so that the phases of the limit are enough
+  pub replicas : All (λ (f : FragSpec). f.replicas ≤ 4) script.plan.frags
+  -- no actor reads a stream at two ports: each port has its sessions for itself
+  pub once : (x p q : ℕ) (s : StreamRef) → slice_get (inputs_of script.plan (role_of script.plan x)) p ≡ Some s → slice_get (inputs_of script.plan (role_of script.plan x)) q ≡ Some s → p ≡ q
+  -- clocks don't fall and are low, and so are those of the quiet phases: no tick is void
+  pub clocks : IsOrdered (λ (p : Phase). p.now) script.phases
+  pub low : All (λ (p : Phase). p.now ≤ 10 ^ 12) script.phases
+  pub quiet : last_clock script + quiet_limit script.plan ≤ 2 ^ 40
+
+-- every client of such a whole run is settled
+abbrev pub SettlesWhereItCan : Script → List Event → Type 0
+SettlesWhereItCan script events =
+    CanSettle script → IsTrue script.settle → IsTrue (is_live script events) → OpensWell script events → IsSteady script events → IsTrue (all_settled (run script.plan events))
