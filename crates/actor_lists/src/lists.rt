@@ -1,6 +1,6 @@
 //! Questions that are asked of every actor.
 ghost use Rattle.std.specs.Prelude.{◌≡◌, ◌+◌, ◌^◌, ◌<◌, ◌++◌, ◌==◌, ℕ, map, length, position, IfOk, OnOk};
-ghost use Rattle.dpc_model.specs.Lists.{list_any, range_with_len, place_of};
+ghost use Rattle.dpc_model.specs.Lists.{nth, list_any, range_with_len, place_of};
 ghost use Rattle.dpc_model.specs.Actors.{same_stream, inputs_of, nodes_of, roles_of, actors_where, senders_of, readers_of, replicas_of};
 ghost use Rattle.dpc_model.specs.declared.actors.Role.TheVariants.{Source as IsSource, Node as IsNode, Client as IsClient};
 ghost use Rattle.actor_lists.specs.Questions.{holds};
@@ -139,6 +139,13 @@ pub fn replicas_of(alloc: Global, plan: &Plan, frag: u64) -> Result<Vec<u64>, No
     ensures { IfOk result (λ actors. actors.items ≡ replicas_of plan.now frag) }
 {
     actors_where(alloc, plan, Question::IsReplicaOf(frag))
+}
+
+/// The actor at a place; 0 where there is none.
+pub fn actor_at(actors: &[u64], place: u64) -> u64
+    ensures { result ≡ nth 0 actors.now place }
+{
+    actors.get(place as usize).copied().unwrap_or(0)
 }
 
 /// The place of the first of the actors that is this one.

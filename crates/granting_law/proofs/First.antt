@@ -2,6 +2,7 @@
 use Rattle.std.proofs.Common.{◌≡◌, ℕ, zero, suc, ◌+◌, ◌<◌, Bool, true, false, cond, ◌&&◌, ◌||◌, ◌==◌, List, [], ◌∷◌, ◌++◌, map, length, refl, sym, ap, subst, ◌∙◌, arith, Option, Some, None, slice_get, ◌⊎◌, inl, inr}
 use Rattle.std.proofs.lemmas.List.{length-map}
 use Rattle.std.proofs.lemmas.List.FromFn.{length-range_with_len}
+use Rattle.std.proofs.lemmas.Bool.{or_left, or_right}
 use Rattle.dpc_model.specs.Lists.{nth, range_with_len, list_any, IsPrefixOf}
 use Rattle.dpc_model.specs.Inlets.{same_sess, sess_of}
 use Rattle.dpc_model.specs.Actors.{role_of, nodes_of, inputs_of, reads_from, sends_stream, same_stream}
@@ -118,17 +119,9 @@ any-weaker : {X : Type 0} (p q : X → Bool) (xs : List X) → ((x : X) → p x 
 any-weaker p q [] h e = cc
 any-weaker p q (x ∷ xs) h e =
     (elim (p x) as (λ b. p x ≡ b → (b || list_any p xs) ≡ true → (q x || list_any q xs) ≡ true) [
-      | true ↦ λ c d. or-left (q x) (list_any q xs) (h x c)
-      | false ↦ λ c d. or-right (q x) (list_any q xs) (any-weaker p q xs h d)
+      | true ↦ λ c d. or_left (q x) (list_any q xs) (h x c)
+      | false ↦ λ c d. or_right (q x) (list_any q xs) (any-weaker p q xs h d)
     ]) refl e
-  where
-    or-left : (a b : Bool) → a ≡ true → (a || b) ≡ true
-    or-left true b c = refl
-    or-left false b c = cc
-
-    or-right : (a b : Bool) → b ≡ true → (a || b) ≡ true
-    or-right true b c = refl
-    or-right false b c = c
 
 stream-turned : (s u : StreamRef) → same_stream s u ≡ true → same_stream u s ≡ true
 stream-turned (Source a) (Source b) e = eq-test b a (sym (eq-of a b e))

@@ -3,13 +3,15 @@ use Rattle.std.proofs.Common.{◌≡◌, ℕ, Bool, true, false, cond, ◌&&◌,
 use Rattle.dpc_model.specs.Lists.{list_any}
 use Rattle.dpc_model.specs.Inlets.{same_sess}
 use Rattle.dpc_model.specs.declared.messages.Event.{Event}
-use Rattle.dpc_model.specs.declared.messages.Event.TheVariants.{Phase, Emit, Release, Cut, Heal, Crash, Restart, Deliver, Tick, Mill}
+use Rattle.dpc_model.specs.declared.messages.Event.TheVariants.{Deliver}
 use Rattle.dpc_model.specs.declared.messages.Message.TheVariants as message
 use Rattle.dpc_model.specs.declared.messages.Subscribe.{Subscribe}
 use Rattle.node_model.specs.Mails.{Packet, Plain, SnapFor}
 use Rattle.world_model.specs.Worlds.{World, Envelope, happens}
 use Rattle.world_model.specs.SessionLaw.{Channel}
 use Rattle.world_safety.proofs.Growing.{event-grows}
+use Rattle.session_law.proofs.Asked.{brought as was-sent}
+use Rattle.std.proofs.lemmas.Bool.{or_left, or_right}
 use Rattle.dpc_model.proofs.Elements.{get-first}
 use Rattle.session_law.specs.Openings.{packet_asks, asks_for, brings, is_first_packet, has_first, asked_next}
 use Rattle.granting_law.specs.Taken.{index_in, index_of, subscribes_packet}
@@ -54,20 +56,12 @@ pub first-there : (l : Channel) (es : List Envelope) → list_any is_zero (index
 first-there l [] e = cc
 first-there l (x ∷ es) e =
     (elim (index_of l x) as (λ o. index_of l x ≡ o → list_any is_zero (elim o as (λ _. List ℕ) [ None ↦ indexes l es | Some j ↦ j ∷ indexes l es ]) ≡ true → (is_first l x || has_first l es) ≡ true) [
-      | None ↦ λ f g. or-right (is_first l x) (has_first l es) (first-there l es g)
+      | None ↦ λ f g. or_right (is_first l x) (has_first l es) (first-there l es g)
       | Some v ↦ λ f g. (elim (is_zero v) as (λ b. is_zero v ≡ b → (b || list_any is_zero (indexes l es)) ≡ true → (is_first l x || has_first l es) ≡ true) [
-        | true ↦ λ z d. or-left (is_first l x) (has_first l es) (first-envelope l x v f z)
-        | false ↦ λ z d. or-right (is_first l x) (has_first l es) (first-there l es d)
+        | true ↦ λ z d. or_left (is_first l x) (has_first l es) (first-envelope l x v f z)
+        | false ↦ λ z d. or_right (is_first l x) (has_first l es) (first-there l es d)
       ]) refl g
     ]) refl e
-  where
-    or-left : (a b : Bool) → a ≡ true → (a || b) ≡ true
-    or-left true b c = refl
-    or-left false b c = cc
-
-    or-right : (a b : Bool) → b ≡ true → (a || b) ≡ true
-    or-right true b c = refl
-    or-right false b c = c
 
 -- ---- who asked
 
@@ -92,20 +86,7 @@ delivery-brings l w k e there from to packet =
     let here : asks_for l e ≡ Some p.0 = rw (from, to) p.1 in (p.0, ap (λ (o : Option Envelope). elim o as (λ _. Option Subscribe) [ None ↦ None | Some x ↦ asks_for l x ]) there ∙ here)
 
 brought : (l : Channel) (w : World) (e : Event) (asked : Subscribe) → brings l w e ≡ Some asked → IsSentFor l w.envelopes asked
-brought l w (Deliver k) asked h =
-    (elim (slice_get w.envelopes k) as (λ o. slice_get w.envelopes k ≡ o → elim o as (λ _. Option Subscribe) [ None ↦ None | Some e ↦ asks_for l e ] ≡ Some asked → IsSentFor l w.envelopes asked) [
-      | None ↦ λ f g. cc
-      | Some e ↦ λ f g. record { number = k; envelope = e; there = f; asks = g }
-    ]) refl h
-brought l w (Phase p) asked h = cc
-brought l w (Emit s t) asked h = cc
-brought l w (Release s t) asked h = cc
-brought l w (Cut a b) asked h = cc
-brought l w (Heal a b) asked h = cc
-brought l w (Crash a) asked h = cc
-brought l w (Restart a i) asked h = cc
-brought l w (Tick a now) asked h = cc
-brought l w (Mill a r) asked h = cc
+brought l w e asked h = let s = was-sent l w e asked h in record { number = s.0; envelope = s.1; there = s.2; asks = s.3 }
 
 sent-later : (l : Channel) (w : World) (e : Event) (asked : Subscribe) → IsSentFor l w.envelopes asked → IsSentFor l (happens w e).envelopes asked
 sent-later l w e asked h =

@@ -1,5 +1,5 @@
 -- A subscription at a source: the session that it leaves, and its answer.
-use Rattle.std.proofs.Common.{◌≡◌, ℕ, ◌∙◌, ◌==◌, true, false, List, [], ◌∷◌, refl, sym, ap, arith, Option, Some, None, nat_lt}
+use Rattle.std.proofs.Common.{◌≡◌, ℕ, Bool, ◌<◌, length, slice_index_or, ◌∙◌, ◌==◌, true, false, List, [], ◌∷◌, refl, sym, ap, arith, Option, Some, None, nat_lt}
 use Rattle.std.proofs.lemmas.Bool.{le-ltb}
 use Rattle.dpc_model.specs.Lists.{nth, changed, place_of}
 use Rattle.dpc_model.specs.Sessions.{no_session, is_newer_than_kept, first_batch, Shown, Answered, answer_to}
@@ -10,8 +10,15 @@ use Rattle.dpc_model.specs.declared.plans.Plan.{Plan}
 use Rattle.dpc_model.specs.declared.sessions.Sub.{Sub}
 use Rattle.node_model.specs.Mails.{Mail, mail}
 use Rattle.node_model.specs.Sources.{source_readers, source_shown, source_subscribed, source_message}
-use Rattle.soutput.proofs.Answering.{changed-to-same}
+use Rattle.soutput.proofs.Answering.{changed-to-same, nth-is}
 use Rattle.source_core.specs.Emitting.{SourceValue, IsSourceOf, after_step}
+
+-- whether a reader's session is newer is whether it is newer than the one at its place
+pub newer-at : (newer : Bool) (asked : Subscribe) (v : SourceValue) (subs : List Sub) (reader : ℕ) (session : Sub) → subs ≡ v.state.subs → reader < length subs → session ≡ slice_index_or subs reader session →
+    newer ≡ is_newer_than_kept asked.sess session.kept → is_newer_than_kept asked.sess (nth no_session v.state.subs reader).kept ≡ newer
+newer-at newer asked v subs reader session same low at told =
+    ap (λ (ss : List Sub). is_newer_than_kept asked.sess (nth no_session ss reader).kept) (sym same)
+    ∙ ap (λ (s : Sub). is_newer_than_kept asked.sess s.kept) (nth-is no_session session reader subs low at) ∙ sym told
 
 -- by a session that is not newer nothing changes, and nothing is sent
 pub old-stays : (plan : Plan) (v : SourceValue) (k : ℕ) (asked : Subscribe) → is_newer_than_kept asked.sess (nth no_session v.state.subs k).kept ≡ false →

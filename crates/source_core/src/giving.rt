@@ -7,6 +7,7 @@ ghost use Rattle.node_model.specs.Mails.{mail, mails, to_readers};
 ghost use Rattle.node_model.specs.Sources.{source_beat};
 ghost use Rattle.source_core.specs.Emitting.{given_upto, is_nothing};
 
+use actor_lists::lists::actor_at;
 use dpc_model::faults::NoMemory;
 use dpc_model::messages::{Beat, Message, NodeState, Out, Sess};
 use dpc_model::sessions::Sub;
@@ -61,13 +62,6 @@ pub(crate) fn batches_upto(
     batches(alloc, items, sessions)
 }
 
-/// A reader as an actor.
-fn reader_at(readers: &[u64], place: u64) -> u64
-    ensures { result ≡ nth 0 readers.now place }
-{
-    readers.get(place as usize).copied().unwrap_or(0)
-}
-
 /// Messages to the readers by their numbers as actors.
 pub(crate) fn addressed(
     alloc: Global,
@@ -78,7 +72,7 @@ pub(crate) fn addressed(
 {
     let mut outs = Vec::with_capacity(alloc, sends.len())?;
     for (reader, message) in sends {
-        let to = reader_at(readers, reader);
+        let to = actor_at(readers, reader);
         outs.push(Out { to, message })?;
     }
     Ok(outs)

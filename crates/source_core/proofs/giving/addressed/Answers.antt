@@ -10,9 +10,9 @@ loop-reader-preserved c =
     let readers = c.args.readers.now in
     let rest = c.next.new.self.rest.items in
     let m : ℕ × Message = (c.in-Some.reader, c.in-Some.message) in
-    let o : Out = record { to = c.reader_at-to.result; message = c.in-Some.message } in
+    let o : Out = record { to = c.actor_at-to.result; message = c.in-Some.message } in
     let left : c.loop-reader.reader-iterator.rest.items ≡ m ∷ rest = (c.in-Some.ensures {u = tt}).steps.0 in
     ap (λ (outs : List Out). mails outs ++ to_readers readers rest) (c.in_ok-push.ensures {u = tt}).items
-    ∙ addressed-more readers c.loop-reader.outs.items o m rest c.reader_at-to.ensures refl
+    ∙ addressed-more readers c.loop-reader.outs.items o m rest c.actor_at-to.ensures refl
     ∙ ap (λ (ms : List (ℕ × Message)). mails c.loop-reader.outs.items ++ to_readers readers ms) (sym left)
     ∙ c.loop-reader.invariant

@@ -1,6 +1,5 @@
 use Rattle.std.proofs.Common.{◌≡◌, ◌∙◌, ◌<◌, ◌++◌, ◌∷◌, [], ap, sym, subst, refl, length, true, false, Some, List, arith}
 use Rattle.dpc_model.specs.Lists.{nth, changed}
-use Rattle.dpc_model.specs.Sessions.{no_session, is_newer_than_kept}
 use Rattle.dpc_model.specs.declared.sessions.Sub.{Sub}
 use Rattle.dpc_model.specs.declared.messages.Message.TheVariants as message
 use Rattle.dpc_model.specs.declared.messages.Out.{Out}
@@ -9,7 +8,7 @@ use Rattle.node_model.specs.Mails.{mails}
 use Rattle.soutput.proofs.Answering.{nth-is}
 use Rattle.source_core.specs.Emitting.{SourceValue}
 use Rattle.source_core.specs.contracts.source.SourceNode.{the_view}
-use Rattle.source_core.proofs.Subscribed.{old-stays, old-silent, new-opens, new-told}
+use Rattle.source_core.proofs.Subscribed.{newer-at, old-stays, old-silent, new-opens, new-told}
 use Rattle.source_core.proofs.source.SourceNode.answer.Goals as goal
 
 pub returns-then-not-is_older_than-clause-sends : goal.returns-then-not-is_older_than-clause-sends
@@ -20,11 +19,8 @@ returns-then-not-is_older_than-clause-sends c =
     let inside : reader < length c.self.inside.readers.items = subst (λ (v : SourceValue). reader < length v.readers) (sym c.self.view_is) c.requires.reader in
     let invariant : length c.self.inside.sessions.items ≡ length c.self.inside.readers.items = c.self.invariant in
     let low : reader < length c.self.inside.sessions.items = omega (arith, inside, invariant) in
-    let here = nth-is no_session c.index.result.now reader c.self.inside.sessions.items low c.index.ensures in
-    let was : is_newer_than_kept asked.sess (nth no_session c.self.inside.sessions.items reader).kept ≡ false =
-    ap (λ (s : Sub). is_newer_than_kept asked.sess s.kept) here ∙ sym c.if-not-is_older_than.ensures in
-    let newer : is_newer_than_kept asked.sess (nth no_session v.state.subs reader).kept ≡ false =
-    subst (λ (w : SourceValue). is_newer_than_kept asked.sess (nth no_session w.state.subs reader).kept ≡ false) c.self.view_is was in
+    let subs = ap (λ (w : SourceValue). w.state.subs) c.self.view_is in
+    let newer = newer-at false asked v c.self.inside.sessions.items reader c.index.result.now subs low c.index.ensures c.if-not-is_older_than.ensures in
     ap (λ (outs : List Out). mails outs) c.in_ok-outs.ensures.items ∙ old-silent c.args.plan.now v reader asked newer
 
 pub returns-then-not-is_older_than-clause-after : goal.returns-then-not-is_older_than-clause-after
@@ -35,11 +31,8 @@ returns-then-not-is_older_than-clause-after c =
     let inside : reader < length c.self.inside.readers.items = subst (λ (v : SourceValue). reader < length v.readers) (sym c.self.view_is) c.requires.reader in
     let invariant : length c.self.inside.sessions.items ≡ length c.self.inside.readers.items = c.self.invariant in
     let low : reader < length c.self.inside.sessions.items = omega (arith, inside, invariant) in
-    let here = nth-is no_session c.index.result.now reader c.self.inside.sessions.items low c.index.ensures in
-    let was : is_newer_than_kept asked.sess (nth no_session c.self.inside.sessions.items reader).kept ≡ false =
-    ap (λ (s : Sub). is_newer_than_kept asked.sess s.kept) here ∙ sym c.if-not-is_older_than.ensures in
-    let newer : is_newer_than_kept asked.sess (nth no_session v.state.subs reader).kept ≡ false =
-    subst (λ (w : SourceValue). is_newer_than_kept asked.sess (nth no_session w.state.subs reader).kept ≡ false) c.self.view_is was in
+    let subs = ap (λ (w : SourceValue). w.state.subs) c.self.view_is in
+    let newer = newer-at false asked v c.self.inside.sessions.items reader c.index.result.now subs low c.index.ensures c.if-not-is_older_than.ensures in
     old-stays c.args.plan.now v reader asked newer
 
 pub returns-clause-sends : goal.returns-clause-sends
@@ -50,11 +43,8 @@ returns-clause-sends c =
     let inside : reader < length c.self.inside.readers.items = subst (λ (v : SourceValue). reader < length v.readers) (sym c.self.view_is) c.requires.reader in
     let invariant : length c.self.inside.sessions.items ≡ length c.self.inside.readers.items = c.self.invariant in
     let low : reader < length c.self.inside.sessions.items = omega (arith, inside, invariant) in
-    let here = nth-is no_session c.index.result.now reader c.self.inside.sessions.items low c.index.ensures in
-    let was : is_newer_than_kept asked.sess (nth no_session c.self.inside.sessions.items reader).kept ≡ true =
-    ap (λ (s : Sub). is_newer_than_kept asked.sess s.kept) here ∙ sym c.if-not-is_older_than.ensures in
-    let newer : is_newer_than_kept asked.sess (nth no_session v.state.subs reader).kept ≡ true =
-    subst (λ (w : SourceValue). is_newer_than_kept asked.sess (nth no_session w.state.subs reader).kept ≡ true) c.self.view_is was in
+    let subs = ap (λ (w : SourceValue). w.state.subs) c.self.view_is in
+    let newer = newer-at true asked v c.self.inside.sessions.items reader c.index.result.now subs low c.index.ensures c.if-not-is_older_than.ensures in
     let items = c.in_ok-items.items in
     let o : Out = record { to = c.index-to.result.now; message = message.Batch asked.sess 0 items } in
     let to : c.index-to.result.now ≡ nth 0 v.readers reader =
@@ -70,15 +60,12 @@ returns-clause-after c =
     let inside : reader < length c.self.inside.readers.items = subst (λ (v : SourceValue). reader < length v.readers) (sym c.self.view_is) c.requires.reader in
     let invariant : length c.self.inside.sessions.items ≡ length c.self.inside.readers.items = c.self.invariant in
     let low : reader < length c.self.inside.sessions.items = omega (arith, inside, invariant) in
-    let here = nth-is no_session c.index.result.now reader c.self.inside.sessions.items low c.index.ensures in
-    let was : is_newer_than_kept asked.sess (nth no_session c.self.inside.sessions.items reader).kept ≡ true =
-    ap (λ (s : Sub). is_newer_than_kept asked.sess s.kept) here ∙ sym c.if-not-is_older_than.ensures in
-    let newer : is_newer_than_kept asked.sess (nth no_session v.state.subs reader).kept ≡ true =
-    subst (λ (w : SourceValue). is_newer_than_kept asked.sess (nth no_session w.state.subs reader).kept ≡ true) c.self.view_is was in
-    let subs = c.self.inside.sessions.items in
+    let subs = ap (λ (w : SourceValue). w.state.subs) c.self.view_is in
+    let newer = newer-at true asked v c.self.inside.sessions.items reader c.index.result.now subs low c.index.ensures c.if-not-is_older_than.ensures in
+    let sessions = c.self.inside.sessions.items in
     let opened : Sub = record { kept = Some asked.sess; is_open = true; batches = 1 } in
-    let set = set-changed subs reader (λ _. c.opened.result) c.index_mut.result.now c.opened.result low c.index_mut.ensures.value refl in
+    let set = set-changed sessions reader (λ _. c.opened.result) c.index_mut.result.now c.opened.result low c.index_mut.ensures.value refl in
     ap (λ (ss : List Sub). record (the_view c.self.inside) { state = record (the_view c.self.inside).state { subs = ss } })
-    (set ∙ ap (λ (s : Sub). changed reader (λ _. s) subs) c.opened.ensures)
+    (set ∙ ap (λ (s : Sub). changed reader (λ _. s) sessions) c.opened.ensures)
     ∙ ap (λ (w : SourceValue). record w { state = record w.state { subs = changed reader (λ _. opened) w.state.subs } }) c.self.view_is
     ∙ new-opens c.args.plan.now v reader asked newer
