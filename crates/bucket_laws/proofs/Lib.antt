@@ -1,5 +1,5 @@
 pub mod Accepted
 pub mod Advancing
 pub mod Closing
-mod Complete
+pub mod Complete
 pub mod Ordered

@@ -1,5 +1,5 @@
 -- What buckets add stands behind the output before them.
-use Rattle.std.proofs.Common.{◌≡◌, ℕ, ◌+◌, ◌*◌, ◌≤◌, List, [], ◌∷◌, ◌++◌, length, ap, sym, ◌∙◌, arith, All, Some, append-nil, append_assoc}
+use Rattle.std.proofs.Common.{◌≡◌, ℕ, ◌+◌, ◌*◌, ◌≤◌, List, [], ◌∷◌, ◌++◌, length, ap, sym, ◌∙◌, arith, All, append-nil, append_assoc}
 use Rattle.dpc_model.specs.Streams.{IsOrdered}
 use Rattle.dpc_model.specs.Operators.{all_of}
 use Rattle.dpc_model.specs.Engines.{IsBucket, LiesBelow, engine_value, added_output}
@@ -10,7 +10,7 @@ use Rattle.dpc_model.specs.declared.operators.OpSpec.{OpSpec}
 use Rattle.dpc_model.proofs.Buckets.{value-split, added-is, inputs-ordered, LiesBelow-next}
 use Rattle.dpc_model.proofs.IdealCausality.{cut-fragment_value}
 use Rattle.dpc_model.proofs.Order.{fragment-InOrder, tagged_time}
-use Rattle.checkpoint_redo.specs.Keeping.{AcceptsAll, added_by}
+use Rattle.checkpoint_redo.specs.Keeping.{added_by}
 use Rattle.checkpoint_redo.specs.Laws.{BucketsAdd}
 
 -- one bucket

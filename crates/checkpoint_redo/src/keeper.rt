@@ -1,5 +1,5 @@
 //! An engine, and the copy of its state before the tentative buckets.
-ghost use Rattle.std.specs.Prelude.{◌≡◌, ◌+◌, ◌^◌, ◌<◌, ◌++◌, ◌↔◌, ℕ, List, length, true, false, Some, None, unwrap_or, is_err, is_some, IsTrue, IfOk, OnOk};
+ghost use Rattle.std.specs.Prelude.{◌≡◌, ◌+◌, ◌^◌, ◌<◌, ◌++◌, ◌↔◌, ℕ, List, [], length, true, false, Some, None, unwrap_or, is_err, is_some, IsTrue, IfOk, OnOk};
 ghost use Rattle.dpc_model.specs.Operators.{all_of};
 ghost use Rattle.dpc_model.specs.Engines.{Accepts, engine_value, added_output};
 ghost use Rattle.dpc_model.specs.PartStands.{at_cursor};
@@ -150,9 +150,24 @@ impl<M: Engine + Drop> Keeper<M> {
         self.state = after;
     }
 
+    /// Begins anew before bucket 0, with no copy. It takes no memory.
+    pub fn reset(&mut self)
+        ensures after { M.after self.new.keeper.state [] 0 }
+        ensures next { M.next self.new.keeper.state ≡ 0 }
+        ensures fresh { M.is_spent self.new.keeper.state ≡ false }
+        ensures held { self.new.keeper.held ≡ None }
+        ensures operators { M.operators self.new.keeper.state ≡ M.operators self.old.keeper.state }
+        ensures width { M.width self.new.keeper.state ≡ M.width self.old.keeper.state }
+        ensures spent { self.new.spent ≡ self.old.spent }
+    {
+        self.state.reset();
+        self.held = None;
+    }
+
     /// A copy of the state before the tentative buckets.
     pub fn stand(&self, alloc: Global) -> Result<M, StepFault>
         ensures ok { IfOk result (λ m. m ≡ at_cursor self.now.keeper) }
+        ensures fresh { IfOk result (λ m. M.is_spent m ≡ false) }
         ensures spent { result ≡ Err StepFault.Spent ↔ self.now.spent ≡ true }
     {
         if self.spent {

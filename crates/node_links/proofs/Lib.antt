@@ -1,4 +1,4 @@
-mod Lawful
+pub mod Lawful
 mod Looping
 mod Viewing
 mod Within

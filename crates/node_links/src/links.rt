@@ -127,6 +127,13 @@ impl Links {
         place_of(self.replicas.as_slice(), actor)
     }
 
+    /// The node itself, as an actor.
+    pub fn own(&self) -> u64
+        ensures { result ≡ nth 0 self.now.replicas self.now.me }
+    {
+        self.replicas[self.me]
+    }
+
     /// The other replicas of the fragment, as actors.
     pub fn peers(&self) -> &[u64]
         ensures { result.now ≡ peers_in self.now }

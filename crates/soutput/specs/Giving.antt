@@ -1,9 +1,9 @@
 -- What an output gives its readers, on what contracts see of it.
-use Rattle.std.specs.Prelude.{◌≡◌, ℕ, ◌+◌, ◌-◌, ◌^◌, ◌<◌, Bool, true, false, not, ◌&&◌, is_none, nat_lt, List, [], ◌∷◌, ◌++◌, length, drop, Option, Some, None, unwrap_or, option_map, replicate}
+use Rattle.std.specs.Prelude.{◌≡◌, ℕ, ◌+◌, ◌-◌, ◌^◌, ◌<◌, Bool, true, false, not, ◌&&◌, is_none, nat_lt, List, [], ◌∷◌, ◌++◌, length, drop, Option, Some, None, unwrap_or, option_map, map, replicate}
 use Rattle.dpc_model.specs.Lists.{nth, changed, list_all, is_nil}
 use Rattle.dpc_model.specs.Parts.{Stream, shown_of}
 use Rattle.dpc_model.specs.PartStands.{OutputValue}
-use Rattle.dpc_model.specs.Sessions.{no_session, base_after, tentative_items, boundary_item, passed_item, item_if, Given, given_items, with_batches, Answered, answer_to}
+use Rattle.dpc_model.specs.Sessions.{no_session, with_session_shut, base_after, tentative_items, boundary_item, passed_item, item_if, Given, given_items, with_batches, Answered, answer_to}
 use Rattle.dpc_model.specs.declared.sessions.Sub.{Sub}
 use Rattle.dpc_model.specs.declared.tuples.Tuple.{Tuple}
 use Rattle.dpc_model.specs.declared.tuples.Item.{Item}
@@ -26,6 +26,20 @@ new_output readers base kept bound =
       passed = None;
       subs = replicate readers no_session;
       acks = replicate readers (0, 0);
+    }
+
+-- an output that begins anew: no session is open any more, and nothing is acknowledged
+abbrev pub restarted_output : ℕ → List Tuple → ℕ → OutputValue → OutputValue
+restarted_output base kept bound v =
+    record {
+      count = base + length kept;
+      kept = kept;
+      base = base;
+      bound = bound;
+      tentative = [];
+      passed = None;
+      subs = map with_session_shut v.subs;
+      acks = map (λ _. (0, 0)) v.acks;
     }
 
 -- the base follows the acknowledgements, and no tuple before it is kept

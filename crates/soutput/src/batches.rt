@@ -1,12 +1,12 @@
 //! The sessions of all readers, and a batch to each.
 ghost use Rattle.std.specs.Prelude.{◌≡◌, ◌+◌, ◌^◌, ◌<◌, ◌++◌, true, nat_lt, map, IfOk, OnOk};
 ghost use Rattle.dpc_model.specs.Lists.{list_all, list_any};
-ghost use Rattle.dpc_model.specs.Sessions.{with_batch, link_of, batches_of};
+ghost use Rattle.dpc_model.specs.Sessions.{opening_session, with_batch, with_session_shut, link_of, batches_of};
 ghost use Rattle.dpc_model.specs.declared.sessions.Sub.{Sub};
 ghost use Rattle.soutput.specs.Giving.{batch_to};
 
 use dpc_model::faults::NoMemory;
-use dpc_model::messages::Message;
+use dpc_model::messages::{Message, Sess};
 use dpc_model::sessions::Sub;
 use dpc_model::shared::Shared;
 use dpc_model::tuples::Item;
@@ -67,5 +67,35 @@ pub fn count_batches(sessions: &mut [Sub])
 {
     for session in sessions.iter_mut() {
         session.count_batch();
+    }
+}
+
+/// A session at the opening, to which nothing was sent yet.
+fn opening() -> Sub
+    ensures { result ≡ opening_session }
+{
+    Sub {
+        kept: Some(Sess { inc: 1, number: 1 }),
+        is_open: true,
+        batches: 0,
+    }
+}
+
+/// Opens each session as it is at the opening.
+pub fn open_all(sessions: &mut [Sub])
+    ensures { sessions.new ≡ map (λ _. opening_session) sessions.old }
+{
+    for session in sessions.iter_mut() {
+        *session = opening();
+    }
+}
+
+/// No session is open any more.
+pub fn shut_all(sessions: &mut [Sub])
+    ensures { sessions.new ≡ map with_session_shut sessions.old }
+{
+    for session in sessions.iter_mut() {
+        session.is_open = false;
+        session.batches = 0;
     }
 }

@@ -6,9 +6,10 @@ use Rattle.std.proofs.Math.Nat.{le-div_iff_mul-le}
 use Rattle.std.proofs.lemmas.Nat.{le-div}
 use Rattle.dpc_model.specs.Lists.{last_below, list_all}
 use Rattle.dpc_model.specs.Due.{reach, is_passed}
-use Rattle.dpc_model.specs.Reading.{Reader}
+use Rattle.dpc_model.specs.Inlets.{restarted_inlet}
+use Rattle.dpc_model.specs.Reading.{Reader, stable_reader}
 use Rattle.dpc_model.specs.PartStands.{InletValue}
-use Rattle.sunion.specs.Ports.{least_over, forgetting, passed_at, complete_at, passing_view}
+use Rattle.sunion.specs.Ports.{least_over, begun_anew, forgetting, passed_at, complete_at, passing_view}
 
 pub least_over-more : (f : InletValue → ℕ) (most : ℕ) (ports : List InletValue) (i : ℕ) (port : InletValue) → i < length ports → port ≡ slice_index_or ports i port →
     least_over f most (take (i + 1) ports) ≡ min (least_over f most (take i ports)) (f port)
@@ -47,6 +48,17 @@ forgetting-all time zero [] h = refl
 forgetting-all time (suc i) [] h = refl
 forgetting-all time zero (p ∷ ports) h = absurd (omega (arith, h))
 forgetting-all time (suc i) (p ∷ ports) h = ap (λ (ps : List InletValue). forgetting time p ∷ ps) (forgetting-all time i ports (omega (arith, h)))
+
+-- one port more begins anew
+pub anew-more : (time i : ℕ) (counts : List ℕ) (ports : List InletValue) (d e : InletValue) (n : ℕ) → i < length ports → length counts ≡ length ports →
+    e ≡ record { count = slice_index_or counts i n; state = restarted_inlet (stable_reader [] time) (slice_index_or ports i d).state.sess } →
+    begun_anew time (take (i + 1) counts) (take (i + 1) ports) ≡ begun_anew time (take i counts) (take i ports) ++ e ∷ []
+anew-more time i counts [] d e n low many is = absurd (omega (arith, low))
+anew-more time i [] (p ∷ ports) d e n low many is = absurd (omega (arith, many))
+anew-more time zero (m ∷ counts) (p ∷ ports) d e n low many is = rw is refl
+anew-more time (suc i) (m ∷ counts) (p ∷ ports) d e n low many is =
+    let next : suc i + 1 ≡ suc (i + 1) = omega arith in
+    rw next (ap (λ (vs : List InletValue). record { count = m; state = restarted_inlet (stable_reader [] time) p.state.sess } ∷ vs) (anew-more time i counts ports d e n (omega (arith, low)) (omega (arith, many)) is))
 
 -- ---- the last number that passes a test
 

@@ -1,5 +1,5 @@
 -- The laws of how inputs go on to stand for the plain ones.
-use Rattle.std.proofs.Common.{ℕ, zero, suc, ◌*◌, ◌<◌, List, [], ◌∷◌, map, length, replicate, refl, arith, length-append}
+use Rattle.std.proofs.Common.{◌≡◌, ap, ℕ, zero, suc, ◌*◌, ◌<◌, List, [], ◌∷◌, map, length, replicate, refl, arith, length-append}
 use Rattle.std.proofs.lemmas.List.Elements.{All-head, All-tail}
 use Rattle.std.specs.List.{All, AllZip}
 use Rattle.dpc_model.specs.Inlets.{InletState, new_inlet, restarted_inlet, sess_of, with_next_session, after_link}
@@ -8,8 +8,8 @@ use Rattle.dpc_model.specs.PartStands.{InletValue, StandsForInlet}
 use Rattle.dpc_model.specs.Reading.{stable_reader}
 use Rattle.dpc_model.specs.declared.tuples.Tuple.{Tuple}
 use Rattle.inlet.proofs.Standing.{new-stands, start_at-stands, reopen-stands, heard-stands, heard-tells, renumber-stands}
-use Rattle.sunion.specs.Laws.{StartStands, ClosingStands, UndoingStands, SessionsStand, HearingTells}
-use Rattle.sunion.specs.Ports.{at_opening, behind_snapshot}
+use Rattle.sunion.specs.Laws.{inlets_anew, StartStands, RestartingStands, ClosingStands, UndoingStands, SessionsStand, HearingTells}
+use Rattle.sunion.specs.Ports.{at_opening, behind_snapshot, begun_anew}
 use Rattle.sunion.specs.Unions.{bucket_in, no_inlet, no_value}
 use Rattle.dpc_model.specs.Lists.{nth}
 use Rattle.sunion.proofs.Standing.{stands-at, stands-changed}
@@ -31,6 +31,22 @@ start-stands = (
   λ ports width end delay inc. record { inlets = new-each (0 * width) inc ports; stamps = λ k. refl; cursor = refl; closed = refl },
   λ width end delay inc cursor streams low. record { inlets = restarted-each (cursor * width) inc streams low; stamps = λ k. refl; cursor = refl; closed = refl },
 )
+
+-- the session of a plain inlet is that of the one that stands for it
+anew-each : (b c : ℕ) (streams : List (List Tuple)) (vs : List InletValue) (xs : List InletState) → All (λ (ts : List Tuple). All (λ (t : Tuple). t.stime < c) ts) streams → AllZip (StandsForInlet b) vs xs →
+    AllZip (StandsForInlet c) (begun_anew c (map (λ (ts : List Tuple). length ts) streams) vs) (inlets_anew c streams xs)
+anew-each b c [] vs xs low h = tt
+anew-each b c (ts ∷ streams) [] [] low h = tt
+anew-each b c (ts ∷ streams) [] (x ∷ xs) low h = absurd h
+anew-each b c (ts ∷ streams) (v ∷ vs) [] low h = absurd h
+anew-each b c (ts ∷ streams) (v ∷ vs) (x ∷ xs) low h =
+    let same : v.state.sess ≡ x.sess = ap (λ (i : InletState). i.sess) h.0.rest in (
+      rw (← same) (start_at-stands c c v.state.sess ts (All-head (λ (ts : List Tuple). All (λ (t : Tuple). t.stime < c) ts) ts streams low)),
+      anew-each b c streams vs xs (All-tail (λ (ts : List Tuple). All (λ (t : Tuple). t.stime < c) ts) ts streams low) h.1,
+    )
+
+pub restarting-stands : RestartingStands
+restarting-stands v x cursor streams h low = record { inlets = anew-each (x.cursor * v.width) (cursor * v.width) streams v.union.inlets x.inlets low h.inlets; stamps = λ k. refl; cursor = refl; closed = refl }
 
 pub closing-stands : ClosingStands
 closing-stands v x h = record {

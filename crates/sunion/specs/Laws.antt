@@ -1,5 +1,5 @@
 -- How the inputs go on to stand for the plain ones, where a call's clause gives the new value.
-use Rattle.std.specs.Prelude.{◌≡◌, ℕ, ◌+◌, ◌*◌, ◌<◌, List, [], length, replicate, map, All, Option}
+use Rattle.std.specs.Prelude.{◌≡◌, ℕ, ◌+◌, ◌*◌, ◌<◌, List, [], ◌∷◌, length, replicate, map, All, Option}
 use Rattle.dpc_model.specs.Lists.{nth, changed}
 use Rattle.dpc_model.specs.Inlets.{InletState, new_inlet, restarted_inlet, sess_of, with_next_session, after_link, shows_loss}
 use Rattle.dpc_model.specs.Parts.{Inputs}
@@ -7,7 +7,7 @@ use Rattle.dpc_model.specs.Reading.{stable_reader}
 use Rattle.dpc_model.specs.declared.tuples.Tuple.{Tuple}
 use Rattle.dpc_model.specs.declared.messages.Sess.{Sess}
 use Rattle.sunion.specs.Values.{SUnionValue}
-use Rattle.sunion.specs.Unions.{StandsForInputs, no_inlet, no_value, new_union, union_at, with_closed, with_inlet_state, after_closing, without_closed}
+use Rattle.sunion.specs.Unions.{StandsForInputs, no_inlet, no_value, new_union, union_at, restarted_union, with_closed, with_inlet_state, after_closing, without_closed}
 
 -- the plain inputs with one inlet changed
 abbrev pub with_inlet : ℕ → (InletState → InletState) → Inputs → Inputs
@@ -27,6 +27,21 @@ StartStands =
     ((ports width end delay inc : ℕ) → StandsForInputs (new_union ports width end delay inc) (new_inputs ports inc))
     × ((width end delay inc cursor : ℕ) (streams : List (List Tuple)) → All (λ (ts : List Tuple). All (λ (t : Tuple). t.stime < cursor * width) ts) streams →
     StandsForInputs (union_at width end delay inc cursor (map (λ (ts : List Tuple). length ts) streams)) (inputs_at width inc cursor streams))
+
+-- the plain inlets begun anew with these tuples of each port, and the plain inputs with them
+abbrev pub inlets_anew : ℕ → List (List Tuple) → List InletState → List InletState
+inlets_anew time [] inlets = []
+inlets_anew time (ts ∷ streams) [] = []
+inlets_anew time (ts ∷ streams) (i ∷ inlets) = restarted_inlet (stable_reader ts time) i.sess ∷ inlets_anew time streams inlets
+
+abbrev pub inputs_anew : ℕ → ℕ → List (List Tuple) → Inputs → Inputs
+inputs_anew width cursor streams x = record { inlets = inlets_anew (cursor * width) streams x.inlets; stamps = []; cursor = cursor; closed = [] }
+
+-- inputs begun anew behind a snapshot stand for those with any tuples of those counts below the cursor's bucket, and the last session of each port
+abbrev pub RestartingStands : Type 0
+RestartingStands =
+    (v : SUnionValue) (x : Inputs) (cursor : ℕ) (streams : List (List Tuple)) → StandsForInputs v x → All (λ (ts : List Tuple). All (λ (t : Tuple). t.stime < cursor * v.width) ts) streams →
+    StandsForInputs (restarted_union cursor (map (λ (ts : List Tuple). length ts) streams) v) (inputs_anew v.width cursor streams x)
 
 -- it stands for the inputs whose next bucket is closed
 abbrev pub ClosingStands : Type 0

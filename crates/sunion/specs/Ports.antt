@@ -44,5 +44,11 @@ forgetting time i = record i { state = with_stable (from_first time i.state.held
 abbrev pub behind_snapshot : ℕ → ℕ → ℕ → InletValue
 behind_snapshot inc time count = record { count = count; state = restarted_inlet (stable_reader [] time) (sess_of inc 0) }
 
+-- for each of these inlets one that had so many tuples, all of them below a time, and keeps none
+abbrev pub begun_anew : ℕ → List ℕ → List InletValue → List InletValue
+begun_anew time [] ports = []
+begun_anew time (n ∷ counts) [] = []
+begun_anew time (n ∷ counts) (port ∷ ports) = record { count = n; state = restarted_inlet (stable_reader [] time) port.state.sess } ∷ begun_anew time counts ports
+
 abbrev pub at_opening : ℕ → InletValue
 at_opening inc = record { count = 0; state = new_inlet inc }

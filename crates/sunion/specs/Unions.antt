@@ -12,6 +12,7 @@ use Rattle.dpc_model.specs.declared.tuples.Item.{Item}
 use Rattle.dpc_model.specs.declared.batches.Taken.{Taken}
 use Rattle.dpc_model.specs.declared.batches.Taken.TheVariants as taken
 use Rattle.dpc_model.specs.declared.messages.Sess.{Sess}
+use Rattle.sunion.specs.Ports.{begun_anew}
 use Rattle.sunion.specs.Values.{SUnionValue}
 use Rattle.sunion.specs.declared.sunion.Verdict.{Verdict}
 use Rattle.sunion.specs.declared.sunion.Verdict.TheVariants as verdict
@@ -112,6 +113,10 @@ union_at width end delay inc cursor counts =
         closed = 0;
       };
     }
+
+-- the inputs begun anew behind a snapshot, each port with its last session
+abbrev pub restarted_union : ℕ → List ℕ → SUnionValue → SUnionValue
+restarted_union cursor counts v = record v { union = record { inlets = begun_anew (cursor * v.width) counts v.union.inlets; stamps = []; cursor = cursor; closed = 0 } }
 
 abbrev pub with_closed : ℕ → SUnionValue → SUnionValue
 with_closed n v = record v { union = record v.union { closed = n } }

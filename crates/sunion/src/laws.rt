@@ -1,10 +1,16 @@
 //! How the calls go on to stand for the plain inputs, where a clause gives the new value.
-ghost use Rattle.sunion.specs.Laws.{StartStands, ClosingStands, UndoingStands, SessionsStand, HearingTells};
+ghost use Rattle.sunion.specs.Laws.{StartStands, RestartingStands, ClosingStands, UndoingStands, SessionsStand, HearingTells};
 
 /// A new value stands for the plain inputs at the opening. One behind a snapshot stands for those that
 /// have any tuples of those counts below the cursor's bucket.
 pub fn a_new_union_stands()
     ensures { StartStands }
+{}
+
+/// Inputs begun anew behind a snapshot stand for those that have any tuples of those counts below the
+/// cursor's bucket, and the last session of each port.
+pub fn a_restarting_union_stands()
+    ensures { RestartingStands }
 {}
 
 /// Inputs that stood for plain ones stand for those with the next bucket closed.

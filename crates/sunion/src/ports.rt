@@ -1,6 +1,6 @@
 //! An inlet for each port.
-ghost use Rattle.std.specs.Prelude.{◌≡◌, map, replicate, IfOk};
-ghost use Rattle.sunion.specs.Ports.{at_opening, behind_snapshot, forgetting};
+ghost use Rattle.std.specs.Prelude.{◌≡◌, map, replicate, length, IfOk};
+ghost use Rattle.sunion.specs.Ports.{at_opening, behind_snapshot, begun_anew, forgetting};
 
 use dpc_model::faults::NoMemory;
 use dpc_model::messages::Sess;
@@ -34,6 +34,24 @@ pub fn restarted_ports(
         ports.push(Inlet::start_at(alloc, last, *count, time))?;
     }
     Ok(ports)
+}
+
+/// For each of these inlets one that had so many tuples, all of them below a time and none kept. Each has
+/// to ask for a session behind its last one.
+pub fn ports_begun_anew(
+    alloc: Global,
+    ports: &[Inlet],
+    counts: &[u64],
+    time: u64,
+) -> Result<Vec<Inlet>, NoMemory>
+    requires { length counts.now ≡ length ports.now }
+    ensures { IfOk result (λ others. others.items ≡ begun_anew time counts.now ports.now) }
+{
+    let mut others = Vec::with_capacity(alloc, ports.len())?;
+    for (port, inlet) in ports.iter().enumerate() {
+        others.push(Inlet::start_at(alloc, inlet.sess(), counts[port], time))?;
+    }
+    Ok(others)
 }
 
 /// Lets each port's first stable tuples go that lie below a time.

@@ -220,7 +220,7 @@ impl SUnion {
     /// what goes, and takes no memory.
     pub fn advance(&mut self, count: u64)
         requires range { (self.old.union.cursor + count) * self.old.width < 2 ^ 64 }
-        requires none_closed { self.old.union.closed ≡ 0 }
+        requires none_closed { 0 < count → self.old.union.closed ≡ 0 }
         ensures fixed { (self.new.width ≡ self.old.width) × (self.new.buckets ≡ self.old.buckets) × (self.new.delay ≡ self.old.delay) }
         ensures after { (x : Inputs) → StandsForInputs self.old x → StandsForInputs self.new (after_advancing count x) }
         ensures forgets { (x : Inputs) → StandsForInputs self.old x → AreInOrder x → ForgetsBelow ((self.old.union.cursor + count) * self.old.width) self.new.union.inlets }

@@ -1,20 +1,20 @@
 //! What the readers of an output ask and acknowledge, and what an output tells of itself.
-ghost use Rattle.std.specs.Prelude.{◌≡◌, ◌<◌, ◌≤◌, List, length, IfOk, OnErr, IsTrue, None, Some, false, ◌==◌, if◌then◌else◌};
+ghost use Rattle.std.specs.Prelude.{◌≡◌, ◌+◌, ◌^◌, ◌<◌, ◌≤◌, List, length, map, IfOk, OnOk, OnErr, IsTrue, None, Some, false, ◌==◌, if◌then◌else◌};
 ghost use Rattle.dpc_model.specs.Lists.{nth, changed};
 ghost use Rattle.dpc_model.specs.Parts.{shown_of};
 ghost use Rattle.dpc_model.specs.declared.tuples.Tuple.{Tuple};
 ghost use Rattle.dpc_model.specs.NodeStates.{is_stable};
-ghost use Rattle.dpc_model.specs.Sessions.{no_session, first_batch, after_ack, link_of};
-ghost use Rattle.soutput.specs.Giving.{with_base_after, stream_behind, HasRoom, IsAnswered};
+ghost use Rattle.dpc_model.specs.Sessions.{no_session, opening_session, with_session_shut, first_batch, after_ack, link_of};
+ghost use Rattle.soutput.specs.Giving.{restarted_output, with_base_after, stream_behind, HasRoom, IsAnswered};
 
-use crate::batches::can_count;
+use crate::batches::{can_count, open_all, shut_all};
 use crate::items::{first_items, is_done};
 use crate::output::SOutput;
 use dpc_model::faults::NoMemory;
 use dpc_model::messages::{Message, NodeState, Sess, Subscribe};
 use dpc_model::sessions::Sub;
 use dpc_model::shared::Shared;
-use dpc_model::tuples::{Item, Tuple};
+use dpc_model::tuples::{Item, Tuple, Tuples};
 use output_buffer::buffer::OutputBuffer;
 use std::alloc::Global;
 
@@ -93,6 +93,40 @@ impl SOutput {
         ensures { self.new ≡ record self.old { subs = changed reader (λ _. record { kept = Some sess; is_open = false; batches = 0 }) self.old.subs } }
     {
         self.sessions[reader] = Sub::shut(sess);
+    }
+
+    /// Each reader's session is the one of the opening, and nothing was sent in it. It takes no memory.
+    pub fn open_first(&mut self)
+        ensures { self.new ≡ record self.old { subs = map (λ _. opening_session) self.old.subs } }
+    {
+        open_all(self.sessions.as_mut_slice());
+    }
+
+    /// Begins anew, all stable up to `bound`, with these tuples, numbered from `base` on. No session is
+    /// open any more, and nothing is acknowledged. Want of memory may leave some of it.
+    pub fn restart_at(
+        &mut self,
+        alloc: Global,
+        base: u64,
+        kept: Tuples,
+        bound: u64,
+    ) -> Result<(), NoMemory>
+        requires { base + length kept < 2 ^ 64 }
+        ensures { OnOk result (self.new ≡ restarted_output base kept bound self.old) }
+    {
+        self.buffer = OutputBuffer::start_at(alloc, self.sessions.len(), base, kept)?;
+        self.bound = bound;
+        self.tentative = Vec::new(alloc);
+        self.passed = None;
+        self.shut();
+        Ok(())
+    }
+
+    /// No session is open any more.
+    fn shut(&mut self)
+        ensures { self.new ≡ record self.old { subs = map with_session_shut self.old.subs } }
+    {
+        shut_all(self.sessions.as_mut_slice());
     }
 
     /// The stable output that is kept. It takes no memory.

@@ -1,13 +1,17 @@
 //! The sessions of the ports, and what is told of them.
-ghost use Rattle.std.specs.Prelude.{◌≡◌, ◌+◌, ◌^◌, ◌<◌, length};
+ghost use Rattle.std.specs.Prelude.{◌≡◌, ◌+◌, ◌*◌, ◌^◌, ◌<◌, length, OnOk};
 ghost use Rattle.dpc_model.specs.Lists.{nth};
 ghost use Rattle.dpc_model.specs.Inlets.{with_next_session, after_link, shows_loss, asked_by, sess_of};
 ghost use Rattle.dpc_model.specs.Parts.{Inputs};
-ghost use Rattle.sunion.specs.Unions.{StandsForInputs, no_inlet, no_value, with_inlet_state};
+ghost use Rattle.sunion.specs.Unions.{StandsForInputs, no_inlet, no_value, with_inlet_state, restarted_union};
 
+use crate::ports::ports_begun_anew;
 use crate::sunion::SUnion;
+use dpc_model::faults::NoMemory;
 use dpc_model::messages::{Sess, Subscribe};
 use inlet::inlet::Inlet;
+use std::alloc::Global;
+use std::collections::VecDeque;
 
 impl SUnion {
     /// The next session of a port is asked for. It takes no memory.
@@ -36,6 +40,20 @@ impl SUnion {
         ensures { self.new ≡ with_inlet_state port (λ i. record i { sess = sess_of i.sess.inc number }) self.old }
     {
         self.ports[port].renumber(number);
+    }
+
+    /// Begins anew behind a snapshot: port p had `counts[p]` tuples, all below the cursor's bucket and none of
+    /// them kept. Each port has to ask for a session behind its last one. Want of memory may leave some of it.
+    pub fn restart_at(&mut self, alloc: Global, cursor: u64, counts: &[u64]) -> Result<(), NoMemory>
+        requires ports { length counts.now ≡ length self.old.union.inlets }
+        requires range { cursor * self.old.width < 2 ^ 64 }
+        ensures { OnOk result (self.new ≡ restarted_union cursor counts.now self.old) }
+    {
+        self.ports = ports_begun_anew(alloc, self.ports.as_slice(), counts, cursor * self.width)?;
+        self.clocks = VecDeque::new(alloc);
+        self.cursor = cursor;
+        self.closed = 0;
+        Ok(())
     }
 
     /// The first bucket that is not processed stably.

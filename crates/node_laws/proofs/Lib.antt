@@ -1,0 +1,6 @@
+pub mod Buckets
+pub mod FitNodes
+pub mod Fits
+pub mod Messages
+pub mod Stepped
+pub mod Viewed

@@ -1,0 +1,73 @@
+-- Work that was done apart is what processing the buckets here gives.
+use Rattle.std.proofs.Common.{◌≡◌, ℕ, ◌+◌, ◌*◌, ◌^◌, ◌<◌, List, [], ◌∷◌, ◌++◌, length, refl, sym, ap, subst, ◌∙◌}
+use Rattle.dpc_model.specs.Operators.{all_of}
+use Rattle.dpc_model.specs.Engines.{engine_value, added_output, nameless}
+use Rattle.dpc_model.specs.Parts.{Inputs, processed, Outputs}
+use Rattle.dpc_model.specs.PartStands.{at_cursor, StandsForPorts}
+use Rattle.dpc_model.specs.declared.operators.OpSpec.{OpSpec}
+use Rattle.dpc_model.specs.declared.tuples.Tuple.{Tuple}
+use Rattle.dpc_model.specs.declared.tuples.Tagged.{Tagged}
+use Rattle.dpc_model.proofs.Buckets.{nameless-value}
+use Rattle.bucket_laws.specs.Series.{buckets_from}
+use Rattle.checkpoint_redo.specs.Keeping.{KeptValue, added_by}
+use Rattle.fragment_mill.specs.Mills.{MillState, MillAfter, specs_of}
+use Rattle.mill_work.specs.Milling.{OrderValue}
+use Rattle.sunion.specs.Values.{SUnionValue}
+use Rattle.sunion.specs.Unions.{after_advancing}
+use Rattle.pipeline.specs.Flowing.{PipelineValue, IsMillOf}
+use Rattle.pipeline.specs.Running.{HasRun, HasAdvanced}
+use Rattle.pipeline.specs.Committing.{IsDone, CanPut}
+use Rattle.pipeline.proofs.Wholes.{data-work}
+use Rattle.pipeline.proofs.Work.{cursor-mill, work-advanced}
+
+-- names do not count
+nameless-added : (ops : List OpSpec) (w : ℕ) (before : List Tagged) (bs : List (List Tagged)) (k : ℕ) → added_by (engine_value (nameless ops)) w before bs k ≡ added_by (engine_value ops) w before bs k
+nameless-added ops w before [] k = refl
+nameless-added ops w before (b ∷ bs) k =
+    let here : added_output (engine_value (nameless ops)) w before b k ≡ added_output (engine_value ops) w before b k = rw (nameless-value ops before (k * w), nameless-value ops (before ++ b) ((k + 1) * w)) refl in
+    ap (λ (ts : List Tuple). ts ++ added_by (engine_value (nameless ops)) w (before ++ b) bs (k + 1)) here
+    ∙ ap (λ (ts : List Tuple). added_output (engine_value ops) w before b k ++ ts) (nameless-added ops w (before ++ b) bs (k + 1))
+
+-- an order that was milled is a run
+pub done-run : (ops : List OpSpec) (w k : ℕ) (before : List Tagged) (order : OrderValue MillState) (m n : MillState) (bs : List (List Tagged)) (added : List Tuple) → IsMillOf ops w m → MillAfter m before k →
+    order.before ≡ m → order.buckets ≡ bs → IsDone order n added → HasRun ops w n before bs k added
+done-run ops w k before order m n bs added mill stood engine buckets done =
+    let begins : order.cursor ≡ k = done.order.begins ∙ ap (λ (j : MillState). j.next) engine ∙ stood.next in
+    let at : MillAfter order.before before order.cursor = subst (λ (j : MillState). MillAfter j before order.cursor) (sym engine) (subst (λ (j : ℕ). MillAfter m before j) (sym begins) stood) in
+    let operators : specs_of order.before.stages ≡ nameless ops = ap (λ (j : MillState). specs_of j.stages) engine ∙ mill.operators in
+    let width : order.before.width ≡ w = ap (λ (j : MillState). j.width) engine ∙ mill.wide in
+    let same : n.width ≡ order.before.width = let wide = done.wide in cc in
+    let took = done.took before at in
+    record {
+      mill = record { operators = done.made_of ∙ operators; wide = same ∙ width };
+      after =
+          subst (λ (j : ℕ). MillAfter n (before ++ all_of bs) (j + length bs)) begins
+          (subst (λ (xs : List (List Tagged)). MillAfter n (before ++ all_of xs) (order.cursor + length xs)) buckets took);
+      output =
+          done.outputs before at
+          ∙ ap (λ (os : List OpSpec). added_by (engine_value os) order.before.width before order.buckets order.cursor) operators
+          ∙ ap (λ (j : ℕ). added_by (engine_value (nameless ops)) j before order.buckets order.cursor) width
+          ∙ nameless-added ops w before order.buckets order.cursor
+          ∙ ap (λ (xs : List (List Tagged)). added_by (engine_value ops) w before xs order.cursor) buckets
+          ∙ ap (λ (j : ℕ). added_by (engine_value ops) w before bs j) begins;
+    }
+
+-- the inputs and the operators go on behind the buckets
+pub put-advanced : (ops : List OpSpec) (old : PipelineValue) (u : SUnionValue) (k : KeptValue MillState) (x : Inputs) (o : Outputs) (count : ℕ) (after : MillState) (outputs : List Tuple) → CanPut ops old x o count after outputs →
+    u.width ≡ old.union.width → StandsForPorts u.width u.union (after_advancing count x) → k ≡ record old.keeper { keeper = record old.keeper.keeper { state = after } } → HasAdvanced ops u k old.union.width x count outputs
+put-advanced ops old u k x o count after outputs h wide ports is =
+    let w = old.union.width in
+    let can = h.can.stands in
+    let held = ap (λ (j : KeptValue MillState). j.keeper.held) is in
+    let state : after ≡ k.keeper.state = sym (ap (λ (j : KeptValue MillState). j.keeper.state) is) in
+    let mill : IsMillOf ops w (at_cursor old.keeper.keeper) = cursor-mill (IsMillOf ops w) old.keeper.keeper.held old.keeper.keeper.state can.state can.held in
+    let run = done-run ops w x.cursor (processed w x) h.order (at_cursor old.keeper.keeper) after (buckets_from w x x.cursor count) outputs mill (can.keeper.cursor refl) h.engine h.buckets h.milled in
+    work-advanced ops old.union u old.keeper k x count outputs wide ports held (data-work ops old x o can) h.can.ready
+    (subst (λ (m : MillState). HasRun ops w m (processed w x) (buckets_from w x x.cursor count) x.cursor outputs) state run)
+
+-- no bucket is closed, and the end is in range
+pub put-open : (ops : List OpSpec) (old : PipelineValue) (x : Inputs) (o : Outputs) (count : ℕ) (after : MillState) (outputs : List Tuple) → CanPut ops old x o count after outputs → old.union.union.closed ≡ 0
+put-open ops old x o count after outputs h = h.can.stands.ports.closed ∙ ap (λ (cs : List (List Tagged)). length cs) h.can.ready.none_closed
+
+pub put-end : (ops : List OpSpec) (old : PipelineValue) (x : Inputs) (o : Outputs) (count : ℕ) (after : MillState) (outputs : List Tuple) → CanPut ops old x o count after outputs → (old.union.union.cursor + count) * old.union.width < 2 ^ 64
+put-end ops old x o count after outputs h = subst (λ (k : ℕ). (k + count) * old.union.width < 2 ^ 64) (sym h.can.stands.ports.cursor) h.can.ready.end

@@ -1,0 +1,13 @@
+pub mod Adopted
+pub mod Arriving
+pub mod Begun
+pub mod Committed
+pub mod Counted
+pub mod Givings
+pub mod OneMore
+pub mod Opening
+pub mod Plainly
+pub mod Ranges
+pub mod Streaming
+pub mod Wholes
+pub mod Work

@@ -1,0 +1,35 @@
+//! What is asked of one inlet.
+ghost use Rattle.std.specs.Prelude.{◌≡◌, ◌≤◌, length, IsTrue};
+ghost use Rattle.dpc_model.specs.Inlets.{InletState};
+ghost use Rattle.dpc_model.specs.PartStands.{StandsForInlet};
+ghost use Rattle.dpc_model.specs.Streams.{InOrder, count_below};
+ghost use Rattle.inlet.specs.Forgotten.{HasRoom};
+
+use dpc_model::tuples::Tuple;
+use inlet::inlet::Inlet;
+use std::collections::VecDeque;
+
+/// Whether no number passes its range by a batch of so many items.
+pub(crate) fn has_room(inlet: &Inlet, items: usize) -> bool
+    ensures { IsTrue result → HasRoom inlet.now items }
+{
+    inlet.count().checked_add(items as u64).is_some() && inlet.next() < u64::MAX
+}
+
+/// The place of the first of the tuples, which are in order of time, that isn't below a time. It searches
+/// by halves.
+fn first_from(tuples: &VecDeque<Tuple>, time: u128) -> usize
+    ensures within { result ≤ length tuples.now.items }
+    ensures place { InOrder tuples.now.items → result ≡ count_below tuples.now.items time }
+{
+    tuples.partition_point(|tuple| u128::from(tuple.stime) < time)
+}
+
+/// How many stable tuples lie below a time, where those that were dropped do.
+pub(crate) fn count_done(inlet: &Inlet, time: u128) -> u64
+    ensures { (x : InletState) → InOrder x.held.stable → StandsForInlet time inlet.now x → result ≡ count_below x.held.stable time }
+{
+    let kept = inlet.kept();
+    let after = kept.len() - first_from(kept, time);
+    inlet.count().saturating_sub(after as u64)
+}

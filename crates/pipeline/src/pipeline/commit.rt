@@ -1,0 +1,66 @@
+//! Work that was done apart, and is put back.
+ghost use Rattle.std.specs.Prelude.{◌≡◌, ◌↔◌, List, IfOk, IsTrue};
+ghost use Rattle.dpc_model.specs.Parts.{Inputs, Outputs};
+ghost use Rattle.dpc_model.specs.declared.operators.OpSpec.{OpSpec};
+ghost use Rattle.pipeline.specs.Flowing.{IsMilled, IsSetAs};
+ghost use Rattle.pipeline.specs.Committing.{CanMillReady, IsAt, CanPut};
+
+use crate::milling::next_buckets;
+use crate::pipeline::Pipeline;
+use crate::running::give;
+use dpc_model::exact::Exact;
+use dpc_model::faults::NoMemory;
+use dpc_model::lists::Listed;
+use dpc_model::tuples::Tuples;
+use fragment_mill::mill::FragMill;
+use mill_work::order::Order;
+use soutput::batches::Sends;
+use soutput::fresh::Fresh;
+use std::alloc::Global;
+
+impl Pipeline {
+    /// Whether the engine at the cursor is that of an order, and the next ready buckets are its buckets.
+    pub fn is_at(&self, alloc: Global, order: &Order<FragMill>) -> Result<bool, NoMemory>
+        requires { (ops : List OpSpec) × (x : Inputs) × (o : Outputs) × CanMillReady ops self.now x o }
+        ensures { IfOk result (λ at. (ops : List OpSpec) → (x : Inputs) → (o : Outputs) → CanMillReady ops self.now x o
+            → (IsTrue at ↔ IsAt self.now x order.now)) }
+    {
+        let count = order.buckets.len() as u64;
+        if !self.keeper.same(&order.before) || self.ready() < count {
+            return Ok(false);
+        }
+        if count == 0 {
+            return Ok(true);
+        }
+        let buckets = next_buckets(alloc, &self.inputs, count)?;
+        Ok(buckets.same(&order.buckets))
+    }
+
+    /// Goes on behind so many ready buckets whose work was done apart, and gives what is new as `mill`.
+    pub fn put(
+        &mut self,
+        alloc: Global,
+        after: FragMill,
+        outputs: Tuples,
+        count: u64,
+        done: bool,
+    ) -> Result<Sends, NoMemory>
+        requires { (ops : List OpSpec) × (x : Inputs) × (o : Outputs) × CanPut ops self.old x o count after outputs }
+        ensures fixed { IfOk result (λ sends. IsSetAs self.old self.new) }
+        ensures milled { IfOk result (λ sends. (ops : List OpSpec) → (x : Inputs) → (o : Outputs) → CanPut ops self.old x o count after outputs
+            → IsMilled ops self.old self.new x o count done sends.items) }
+    {
+        self.keeper.replace(after);
+        self.inputs.advance(count);
+        let bound = self.inputs.cursor() * self.inputs.width();
+        let new = Fresh {
+            stable: outputs,
+            bound: Some(bound),
+            tentative: Listed::from_vec(Vec::new(alloc)),
+            passed: None,
+            done,
+        };
+        let sends = give(alloc, &mut self.output, new)?;
+        Ok(sends)
+    }
+}
