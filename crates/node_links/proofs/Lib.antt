@@ -1,4 +1,4 @@
 pub mod Lawful
 mod Looping
 mod Viewing
-mod Within
+pub mod Within

@@ -1,0 +1,126 @@
+-- Work that was done apart: whether the node still stands where it was taken, and what it is to be put back.
+use Rattle.std.proofs.Common.{◌≡◌, ◌↔◌, ℕ, ◌-◌, ◌<◌, ◌≤◌, Bool, true, false, not, ◌||◌, ◌==◌, nat_lt, List, length, refl, sym, ap, subst, ◌∙◌, arith, IsTrue, Result, Ok, Err}
+use Rattle.std.proofs.lemmas.Grind.{common_steps}
+use Rattle.dpc_model.specs.PartStands.{at_cursor}
+use Rattle.dpc_model.specs.declared.tuples.Tuple.{Tuple}
+use Rattle.dpc_model.specs.declared.tuples.Tagged.{Tagged}
+use Rattle.bucket_laws.specs.Series.{buckets_from, AreReady}
+use Rattle.fragment_mill.specs.Mills.{MillState}
+use Rattle.mill_work.specs.Milling.{OrderValue}
+use Rattle.pipeline.specs.Committing.{ready_in, CanMillReady, IsAt, IsDone, CanPut}
+use Rattle.node_model.specs.Nodes.{Home, spec_of, buckets_of, PlainNode, ready}
+use Rattle.node_model.specs.Views.{inputs_of, outputs_of}
+use Rattle.node_laws.specs.Fitting.{IsFit}
+use Rattle.node_laws.proofs.Buckets.{buckets-are}
+use Rattle.node_laws.proofs.Fits.{are-ready, some-ready}
+use Rattle.dpc_model.specs.Limits.{most_milled}
+use Rattle.node_core.specs.declared.faults.Point.{Point}
+use Rattle.node_core.specs.declared.faults.CommitFault.{CommitFault}
+use Rattle.node_core.specs.declared.faults.CommitFault.TheVariants.{Stale}
+use Rattle.node_core.specs.Milling.{CanMill, CanMillNode, next_buckets, Fits, IsBeside, needed_by, is_stale, WasStale}
+use Rattle.node_core.specs.Standing.{NodeValue, StandsForNode}
+use Rattle.node_core.proofs.Milled.{can-mill-path}
+use Rattle.node_core.proofs.Readying.{none-ready, all-ready}
+
+-- all ready buckets can be processed
+pub can-ready : (home : Home) (v : NodeValue) (p : PlainNode) → StandsForNode home v p → IsFit home p → CanMillReady (spec_of home).ops v.path (inputs_of p) (outputs_of p)
+can-ready home v p h fit =
+    let same = h.setting.width in
+    let pos = subst (λ (w : ℕ). 0 < w) same h.path.some in
+    record {
+      stands = h.path;
+      ready = λ count some few.
+          let ready = some-ready (inputs_of p) home.plan.width count some (subst (λ (w : ℕ). count ≤ ready_in w (inputs_of p)) same few) in
+          subst (λ (w : ℕ). AreReady w (inputs_of p) count) (sym same) (are-ready home.plan.width (buckets_of home.plan) home.plan.end count (inputs_of p) pos fit.end fit.inputs ready.0 ready.1);
+    }
+
+-- ---- whether it fits
+
+pub fits-at : (home : Home) (v : NodeValue) (p : PlainNode) (o : OrderValue MillState) → StandsForNode home v p → v.recovering ≡ false → IsAt v.path (inputs_of p) o → Fits home v p o
+fits-at home v p o h up at =
+    record {
+      engine = at.engine;
+      ready = subst (λ (k : ℕ). length o.buckets ≤ k) (sym (all-ready home v p h up)) at.few;
+      buckets = at.buckets ∙ ap (λ (w : ℕ). buckets_from w (inputs_of p) p.cursor (length o.buckets)) h.setting.width ∙ sym (buckets-are home p p.cursor (length o.buckets));
+    }
+
+pub at-fits : (home : Home) (v : NodeValue) (p : PlainNode) (o : OrderValue MillState) → StandsForNode home v p → v.recovering ≡ false → Fits home v p o → IsAt v.path (inputs_of p) o
+at-fits home v p o h up fits =
+    record {
+      engine = fits.engine;
+      few = subst (λ (k : ℕ). length o.buckets ≤ k) (all-ready home v p h up) fits.ready;
+      buckets = fits.buckets ∙ buckets-are home p p.cursor (length o.buckets) ∙ ap (λ (w : ℕ). buckets_from w (inputs_of p) p.cursor (length o.buckets)) (sym h.setting.width);
+    }
+
+-- a node that recovers has no ready bucket, and an order has some
+pub none-fits : (home : Home) (v : NodeValue) (p : PlainNode) (o : OrderValue MillState) → StandsForNode home v p → v.recovering ≡ true → 1 ≤ length o.buckets → Fits home v p o → IsTrue false
+none-fits home v p o h e some fits = let none = none-ready home v p h e in let few = fits.ready in absurd (omega (arith, none, few, some))
+
+-- ---- whether it is stale
+
+neither : (a b : Bool) → (a || b) ≡ false → (a ≡ false) × (b ≡ false)
+neither true b e = cc
+neither false b e = (refl, e)
+
+not-not : (a : Bool) → not a ≡ false → a ≡ true
+not-not true e = refl
+not-not false e = cc
+
+same-numbers : (a b : ℕ) → (a == b) ≡ true → a ≡ b
+same-numbers a b e = grind (arith, common_steps, e)
+
+pub record StandsThere (had needed : Point) : Type 0 where
+  pub inc : had.inc ≡ needed.inc
+  pub cursor : had.cursor ≡ needed.cursor
+  pub fits : had.fits ≡ true
+
+pub not-stale : (had needed : Point) → is_stale had needed ≡ false → StandsThere had needed
+not-stale had needed e =
+    let a = neither (not (had.inc == needed.inc) || not (had.cursor == needed.cursor) || nat_lt had.ready needed.ready) (not had.fits) e in
+    let b = neither (not (had.inc == needed.inc) || not (had.cursor == needed.cursor)) (nat_lt had.ready needed.ready) a.0 in
+    let c = neither (not (had.inc == needed.inc)) (not (had.cursor == needed.cursor)) b.0 in
+    record {
+      inc = same-numbers had.inc needed.inc (not-not (had.inc == needed.inc) c.0);
+      cursor = same-numbers had.cursor needed.cursor (not-not (had.cursor == needed.cursor) c.1);
+      fits = not-not had.fits a.1;
+    }
+
+-- ---- what is put back
+
+pub can-put : (home : Home) (v : NodeValue) (p : PlainNode) (o : OrderValue MillState) (after : MillState) (outputs : List Tuple) → 1 ≤ length o.buckets → IsDone o after outputs →
+    Fits home v p o → CanMill (length o.buckets) home v p → CanPut (spec_of home).ops v.path (inputs_of p) (outputs_of p) (length o.buckets) after outputs
+can-put home v p o after outputs some done fits can =
+    record {
+      can = can-mill-path home v p (length o.buckets) some can;
+      order = o;
+      engine = sym fits.engine;
+      buckets = fits.buckets ∙ buckets-are home p p.cursor (length o.buckets) ∙ ap (λ (w : ℕ). buckets_from w (inputs_of p) p.cursor (length o.buckets)) (sym can.stands.setting.width);
+      milled = done;
+    }
+
+-- what a point beside an order that is not stale says
+pub stands-there : (home : Home) (v : NodeValue) (p : PlainNode) (o : OrderValue MillState) (had needed : Point) → needed ≡ needed_by o → is_stale had needed ≡ false → IsBeside home v p o had →
+    (o.inc ≡ v.links.known.grants.inc) × (o.cursor ≡ v.path.union.union.cursor) × Fits home v p o
+stands-there home v p o had needed same e beside =
+    let there = not-stale had (needed_by o) (subst (λ (n : Point). is_stale had n ≡ false) same e) in
+    (sym there.inc ∙ beside.inc, sym there.cursor ∙ beside.cursor, beside.fits.0 (subst (λ (b : Bool). IsTrue b) (sym there.fits) refl))
+
+-- so many buckets may be processed then
+pub can-mill-there : (home : Home) (v : NodeValue) (p : PlainNode) (o : OrderValue MillState) → StandsForNode home v p → IsFit home p → 1 ≤ length o.buckets → length o.buckets ≤ most_milled →
+    Fits home v p o → CanMillNode (length o.buckets) v
+can-mill-there home v p o h fit some few fits = record { some = some; few = few; node = (home, p, record { stands = h; fit = fit; ready = fits.ready }) }
+
+-- where it is stale nothing changed
+pub was-stale : (v : NodeValue) (o : OrderValue MillState) (had needed : Point) → needed ≡ needed_by o → is_stale had needed ≡ true →
+    ((home : Home) (p : PlainNode) → StandsForNode home v p → IsFit home p → IsBeside home v p o had) → WasStale o v v had needed
+was-stale v o had needed same e beside = record { stays = refl; asked = same; stale = e; beside = beside }
+
+abbrev stale-of : {X : Type 0} → Result X CommitFault → CommitFault → CommitFault
+stale-of (Err fault) other = fault
+stale-of (Ok x) other = other
+
+same-points : (a b c d : Point) → Stale a b ≡ Stale c d → (a ≡ c) × (b ≡ d)
+same-points a b c d e = (cc, cc)
+
+pub same-stale : {X : Type 0} (a b c d : Point) → ◌≡◌ {A = Result X CommitFault} (Err (Stale a b)) (Err (Stale c d)) → (a ≡ c) × (b ≡ d)
+same-stale {X} a b c d e = same-points a b c d (ap (λ (r : Result X CommitFault). stale-of r (Stale a b)) e)

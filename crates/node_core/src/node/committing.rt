@@ -1,0 +1,118 @@
+//! Work that was done apart and is put back.
+ghost use Rattle.std.specs.Prelude.{◌≡◌, ◌↔◌, ◌≤◌, false, true, length, Err, IsTrue, IfOk};
+ghost use Rattle.node_model.specs.Nodes.{Home, PlainNode, spec_of};
+ghost use Rattle.node_model.specs.Views.{inputs_of, outputs_of};
+ghost use Rattle.pipeline.specs.Committing.{CanPut};
+ghost use Rattle.node_laws.specs.Fitting.{IsFit};
+ghost use Rattle.node_core.specs.declared.faults.Point.{Point};
+ghost use Rattle.node_core.specs.declared.faults.CommitFault.TheVariants as commit;
+ghost use Rattle.node_core.specs.Milling.{CanMill, CanMillNode, MillSteps, Fits, IsBeside, is_stale, IsCommitted, WasStale};
+ghost use Rattle.node_core.specs.Standing.{StandsForNode};
+ghost use Rattle.node_core.specs.Stepping.{IsSound};
+
+use crate::faults::{CommitFault, Point};
+use crate::node::Node;
+use crate::packets::Mail;
+use crate::sending::to_readers;
+use dpc_model::faults::NoMemory;
+use dpc_model::tuples::Tuples;
+use fragment_mill::mill::FragMill;
+use mill_work::milling::Milled;
+use mill_work::order::Order;
+use std::alloc::Global;
+
+/// Whether a node stands elsewhere than it would have to.
+fn is_stale(had: Point, needed: Point) -> bool
+    ensures { result ≡ is_stale had needed }
+{
+    had.inc != needed.inc || had.cursor != needed.cursor || had.ready < needed.ready || !had.fits
+}
+
+impl Node {
+    /// Puts work back that was done apart: exactly the step of `mill`, where the node still stands where
+    /// the order was taken. Where that is stale nothing changes.
+    pub fn commit(
+        &mut self,
+        alloc: Global,
+        milled: Milled<FragMill>,
+    ) -> Result<Vec<Mail>, CommitFault>
+        requires { self.old.spent ≡ false → IsSound self.old }
+        ensures ok { IfOk result (λ mails. IsCommitted milled.order self.old self.new mails.items) }
+        ensures stale { (had needed : Point) → result ≡ Err (commit.Stale had needed) → WasStale milled.order self.old self.new had needed }
+        ensures spent { result ≡ Err commit.Spent ↔ self.old.spent ≡ true }
+        ensures lost { result ≡ Err commit.NoMemory → self.new.spent ≡ true }
+    {
+        if self.spent {
+            return Err(CommitFault::Spent);
+        }
+        let (order, after, outputs) = milled.into_parts();
+        let Ok(had) = self.point(alloc, &order) else {
+            self.spent = true;
+            return Err(CommitFault::NoMemory);
+        };
+        let needed = Point {
+            up: true,
+            inc: order.inc,
+            cursor: order.cursor,
+            ready: order.buckets.len() as u64,
+            fits: true,
+        };
+        if is_stale(had, needed) {
+            return Err(CommitFault::Stale { had, needed });
+        }
+        let Ok(mails) = self.put(alloc, after, outputs, needed.ready) else {
+            self.spent = true;
+            return Err(CommitFault::NoMemory);
+        };
+        Ok(mails)
+    }
+
+    /// Puts the work of so many ready buckets back that was done apart.
+    fn put(
+        &mut self,
+        alloc: Global,
+        after: FragMill,
+        outputs: Tuples,
+        count: u64,
+    ) -> Result<Vec<Mail>, NoMemory>
+        requires can { CanMillNode count self.old }
+        requires made { (home : Home) → (p : PlainNode) → CanMill count home self.old p → CanPut (spec_of home).ops self.old.path (inputs_of p) (outputs_of p) count after outputs }
+        ensures spent { self.new.spent ≡ self.old.spent }
+        ensures after { IfOk result (λ mails. MillSteps count self.old self.new mails.items) }
+    {
+        let done = self.is_last(count);
+        let sends = self.path.put(alloc, after, outputs, count, done)?;
+        self.end_corrections(done)?;
+        let mails = to_readers(alloc, self.readers.as_slice(), sends)?;
+        Ok(mails)
+    }
+
+    /// Whether the engine at the cursor is the order's, and the next ready buckets begin with the order's.
+    fn fits(&self, alloc: Global, order: &Order<FragMill>) -> Result<bool, NoMemory>
+        requires sound { IsSound self.now }
+        requires some { 1 ≤ length order.now.buckets }
+        ensures { IfOk result (λ fits. (home : Home) (p : PlainNode) → StandsForNode home self.now p → IsFit home p → (IsTrue fits ↔ Fits home self.now p order.now)) }
+    {
+        if self.recovering {
+            return Ok(false);
+        }
+        let fits = self.path.is_at(alloc, order)?;
+        Ok(fits)
+    }
+
+    /// Where the node stands beside an order.
+    fn point(&self, alloc: Global, order: &Order<FragMill>) -> Result<Point, NoMemory>
+        requires sound { IsSound self.now }
+        requires some { 1 ≤ length order.now.buckets }
+        ensures { IfOk result (λ had. (home : Home) (p : PlainNode) → StandsForNode home self.now p → IsFit home p → IsBeside home self.now p order.now had) }
+    {
+        let fits = self.fits(alloc, order)?;
+        Ok(Point {
+            up: true,
+            inc: self.links.inc(),
+            cursor: self.cursor(),
+            ready: self.ready(),
+            fits,
+        })
+    }
+}
