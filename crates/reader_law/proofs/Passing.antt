@@ -328,7 +328,7 @@ module _ (home : Home) (I : List Port → List Sub → List Acked → ℕ → Ty
 
   -- ---- a tick
 
-  asking-passed : (n : PlainNode) → At I n → Ok (ask_step home n)
+  pub asking-passed : (n : PlainNode) → At I n → Ok (ask_step home n)
   asking-passed n h =
       elim (wants_to_reconcile home n && is_none n.grants.promise) as (λ b. Ok (cond b (cond (list_all is_silent (peer_watches home n)) (enter_step home n)
       (record { after = record n { grants = with_ask n.grants }; sends = to_each (message.Ask (own_key n.grants).0 (own_key n.grants).1) (peers_of home) })) (silent_step n))) [
@@ -347,7 +347,7 @@ module _ (home : Home) (I : List Port → List Sub → List Acked → ℕ → Ty
       let new = with_failure (with_closed home (count - r) (after_stable_buckets home r n)) in
       give-passed (given_items (length (out_stable home n)) (given_by home n new (nat_lt 0 r) (nat_lt r count))) new (stably-ok r n h)
 
-  processing-passed : (n : PlainNode) → At I n → Ok (processing_step home n)
+  pub processing-passed : (n : PlainNode) → At I n → Ok (processing_step home n)
   processing-passed n h =
       elim (is_stabilization n.state) as (λ b. Ok (cond b (silent_step n) (elim (due_at home n n.clock) [ None ↦ silent_step n | Some last ↦ processing_upto home last n ]))) [
         | true ↦ silent n h
@@ -357,7 +357,7 @@ module _ (home : Home) (I : List Port → List Sub → List Acked → ℕ → Ty
         ]
       ]
 
-  announcing-passed : (n : PlainNode) → At I n → Ok (announcing_step home n)
+  pub announcing-passed : (n : PlainNode) → At I n → Ok (announcing_step home n)
   announcing-passed n h =
       record {
         after = h;

@@ -297,7 +297,7 @@ module _ (w : World) (most x p : ℕ) (s : StreamRef) (fine : IsFine w most) (ma
 
   -- ---- every event
 
-  read-cases : AreCases w (λ e next. After next)
+  pub read-cases : AreCases w (λ e next. After next)
   read-cases =
       record {
         still = λ e. still-step w refl refl (λ c. refl) (λ k f there. inl there);

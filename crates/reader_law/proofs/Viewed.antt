@@ -180,7 +180,7 @@ none-yet : (plan : Plan) (l : Channel) → [] ≡ carried l (new_world plan).env
 none-yet plan l = sym (ap (λ (es : List Envelope). carried l es) (new-empty plan))
 
 -- what a node sent in a session that was answered in one incarnation
-node-order : (plan : Plan) (events : List Event) (a x f r k i : ℕ) (u : Sess) → IsCheckedPlan plan → IsNodeLine plan a x f r k → IsAnsweredIn plan events (record { sender = a; reader = x; sess = u }) i → SentOrder (run plan events) a x k i u
+pub node-order : (plan : Plan) (events : List Event) (a x f r k i : ℕ) (u : Sess) → IsCheckedPlan plan → IsNodeLine plan a x f r k → IsAnsweredIn plan events (record { sender = a; reader = x; sess = u }) i → SentOrder (run plan events) a x k i u
 unfolding run
 node-order plan events a x f r k i u checked line answered =
     sent-run (new_world plan) 1 events a x f r k i u (new_world-fine plan checked) (new_world-asking plan) (subst (λ (z : Plan). IsNodeLine z a x f r k) (sym (new_world-plan plan)) line)
@@ -205,7 +205,7 @@ unfolding run
 source-all plan events l v role = source-sent-after (new_world plan) events l v [] (ap (λ (z : Plan). role_of z l.sender) (new_world-plan plan) ∙ role) (none-yet plan l)
 
 -- a sub that is open in a session counts its batches, in the incarnation that answered
-counted : (u : Sess) (i many inc : ℕ) (sub : Sub) → SubHolds u i many inc sub → link_of sub ≡ Some (u, sub.batches) → (inc ≡ i) × (sub.batches ≡ many)
+pub counted : (u : Sess) (i many inc : ℕ) (sub : Sub) → SubHolds u i many inc sub → link_of sub ≡ Some (u, sub.batches) → (inc ≡ i) × (sub.batches ≡ many)
 counted u i many inc sub h link =
     elim (same-or inc i) [
       | inl same ↦ (same, (h.0 same).open_one u sub.batches link (same-self u))

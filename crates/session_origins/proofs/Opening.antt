@@ -89,7 +89,7 @@ never-subscribes l w (Restart a i) first h = refl
 never-subscribes l w (Tick a now) first h = refl
 never-subscribes l w (Mill a r) first h = refl
 
-answered-run : (l : Channel) (w : World) (events : List Event) → l.sess ≡ sess_of 1 1 → IsPastWorld w → EachStep (λ w e. subscribes l w e ≡ true → role_inc w l.sender (role_of w.plan l.sender) ≡ 1) w events
+pub answered-run : (l : Channel) (w : World) (events : List Event) → l.sess ≡ sess_of 1 1 → IsPastWorld w → EachStep (λ w e. subscribes l w e ≡ true → role_inc w l.sender (role_of w.plan l.sender) ≡ 1) w events
 answered-run l w [] first h = tt
 answered-run l w (e ∷ events) first h = (λ yes. let none = never-subscribes l w e first h in let clash : true ≡ false = sym yes ∙ none in cc, answered-run l (happens w e) events first (event-past w e h))
 

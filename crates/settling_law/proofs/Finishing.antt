@@ -103,7 +103,7 @@ ready-all home most n place good calm whole fine =
 
 -- ---- a node past its last bucket
 
-ideal-end : (plan : Plan) (s : StreamRef) → ideal plan s ≡ ideal_upto plan s plan.end
+pub ideal-end : (plan : Plan) (s : StreamRef) → ideal plan s ≡ ideal_upto plan s plan.end
 unfolding ideal
 ideal-end plan s = refl
 

@@ -94,11 +94,11 @@ took-whole plan events x p s k checked line q there first whole m link all low e
 
 -- ---- the answer
 
-not-not : (d : Bool) → d ≡ not (not d)
+pub not-not : (d : Bool) → d ≡ not (not d)
 not-not true = refl
 not-not false = refl
 
-take-prefix : (xs ys : List Tuple) → IsPrefixOf xs ys → xs ≡ take (length xs) ys
+pub take-prefix : (xs ys : List Tuple) → IsPrefixOf xs ys → xs ≡ take (length xs) ys
 take-prefix xs ys p = rw p.1 (whole xs p.0)
   where
     whole : (xs rest : List Tuple) → xs ≡ take (length xs) (xs ++ rest)

@@ -95,7 +95,7 @@ place-found a (x ∷ xs) (suc k) low e =
     ]
 
 -- and what stands there
-place-low : (a : ℕ) (xs : List ℕ) (r : ℕ) → place_of (λ b. a == b) xs ≡ Some r → (r < length xs) × (nth 0 xs r ≡ a)
+pub place-low : (a : ℕ) (xs : List ℕ) (r : ℕ) → place_of (λ b. a == b) xs ≡ Some r → (r < length xs) × (nth 0 xs r ≡ a)
 place-low a [] r e = cc
 place-low a (y ∷ ys) r e =
     (elim (a == y) as (λ b. (a == y) ≡ b → cond b (Some 0) (elim (place_of (λ b. a == b) ys) [ None ↦ None | Some i ↦ Some (suc i) ]) ≡ Some r → (r < length (y ∷ ys)) × (nth 0 (y ∷ ys) r ≡ a)) [

@@ -41,13 +41,13 @@ answered-first plan events l s role = record { opening = λ e. refl; subscribed 
 
 -- ---- as many batches as are counted
 
-range-below : (k n : ℕ) → list_all (λ i. nat_lt i (k + n)) (range_with_len k n) ≡ true
+pub range-below : (k n : ℕ) → list_all (λ i. nat_lt i (k + n)) (range_with_len k n) ≡ true
 range-below k zero = refl
 range-below k (suc n) =
     let next : k + suc n ≡ k + 1 + n = omega arith in
     both-of (nat_lt k (k + suc n)) _ (lt-test k (k + suc n) (omega arith)) (subst (λ (z : ℕ). list_all (λ i. nat_lt i z) (range_with_len (k + 1) n) ≡ true) (sym next) (range-below (k + 1) n))
 
-index-passes : (q : ℕ → Bool) (l : Channel) (es : List Envelope) (d j : ℕ) (e : Envelope) → list_all q (indexes l es) ≡ true → slice_get es d ≡ Some e → index_of l e ≡ Some j → q j ≡ true
+pub index-passes : (q : ℕ → Bool) (l : Channel) (es : List Envelope) (d j : ℕ) (e : Envelope) → list_all q (indexes l es) ≡ true → slice_get es d ≡ Some e → index_of l e ≡ Some j → q j ≡ true
 index-passes q l [] d j e all there index = cc
 index-passes q l (x ∷ es) zero j e all there index =
     let same : x ≡ e = some-envelope x e there in
@@ -71,7 +71,7 @@ index-passes q l (x ∷ es) (suc d) j e all there index =
     second true b h = h
     second false b h = cc
 
-get-inside : {X : Type 0} (xs : List X) (i : ℕ) → i < length xs → (x : X) × (slice_get xs i ≡ Some x)
+pub get-inside : {X : Type 0} (xs : List X) (i : ℕ) → i < length xs → (x : X) × (slice_get xs i ≡ Some x)
 get-inside [] i h = absurd (omega (arith, h))
 get-inside (x ∷ xs) zero h = (x, refl)
 get-inside (x ∷ xs) (suc i) h = get-inside xs i (omega (arith, h))

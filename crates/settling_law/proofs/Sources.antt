@@ -23,7 +23,7 @@ use Rattle.settling_law.proofs.Full.{run-holds}
 use Rattle.settling_law.proofs.Walking.{whole-late}
 
 -- a beginning that is as long as the whole
-whole-prefix : (xs ys : List Tuple) → IsPrefixOf xs ys → length ys ≤ length xs → xs ≡ ys
+pub whole-prefix : (xs ys : List Tuple) → IsPrefixOf xs ys → length ys ≤ length xs → xs ≡ ys
 whole-prefix xs ys p long = by-rest p.0 p.1
   where
     by-rest : (rest : List Tuple) → ys ≡ xs ++ rest → xs ≡ ys

@@ -45,7 +45,7 @@ due-waits n (y ∷ ys) h = elim (y.number == n) as (λ b. ((b && y.pending) || i
 ] h
 
 -- an actor that has a port is up, and is one of the plan's
-port-up : (w : World) (x p : ℕ) (q : Port) → port_of w x p ≡ Some q → is_up w x ≡ true
+pub port-up : (w : World) (x p : ℕ) (q : Port) → port_of w x p ≡ Some q → is_up w x ≡ true
 port-up w x p q there = by-role (role_of w.plan x) there
   where
     by-role : (role : Role) → role_port w x p role ≡ Some q → role_up w x role ≡ true
@@ -65,7 +65,7 @@ role-within plan x role is some = by-place (slice_get (roles_of plan) x) refl
     by-place (Some r) e = slice_get_within (roles_of plan) x r e
     by-place None e = absurd (some (sym is ∙ ap (λ (o : Option Role). unwrap_or o Nobody) e))
 
-port-within : (w : World) (x p : ℕ) (q : Port) → port_of w x p ≡ Some q → x < length (roles_of w.plan)
+pub port-within : (w : World) (x p : ℕ) (q : Port) → port_of w x p ≡ Some q → x < length (roles_of w.plan)
 port-within w x p q there = role-within w.plan x (role_of w.plan x) refl (λ none. nobody (role_of w.plan x) none there)
   where
     nobody : (role : Role) → role ≡ Nobody → role_port w x p role ≡ Some q → ⊥

@@ -61,7 +61,7 @@ shown-view home most n place up g =
     by-cursor false b e = let same : ◌≡◌ {A = ℕ × ℕ} (n.cursor * home.plan.width, length (out_stable home n)) b = cc in let count = ap (λ (x : ℕ × ℕ). x.1) same in omega (arith, count)
 
 -- the bound shown is the cursor's time
-shown-bound : (home : Home) (n : PlainNode) → bound_of (out_bound home n) ≡ n.cursor * home.plan.width
+pub shown-bound : (home : Home) (n : PlainNode) → bound_of (out_bound home n) ≡ n.cursor * home.plan.width
 shown-bound home n =
     (elim (n.cursor == 0) as (λ c. (n.cursor == 0) ≡ c → bound_of (cond c None (Some (n.cursor * home.plan.width, length (out_stable home n)))) ≡ n.cursor * home.plan.width) [
       | true ↦ λ e. let none : n.cursor ≡ 0 = eq-of n.cursor 0 e in rw none (omega arith)

@@ -1,0 +1,46 @@
+-- Readers that have a whole stream.
+use Rattle.std.specs.Prelude.{◌≡◌, ℕ, ◌<◌, ◌≤◌, false, IsTrue, List, ◌++◌, length, Some}
+use Rattle.dpc_model.specs.Lists.{nth}
+use Rattle.dpc_model.specs.Fragments.{ideal}
+use Rattle.dpc_model.specs.Reading.{Reader, is_sure}
+use Rattle.dpc_model.specs.Actors.{role_of, senders_of, readers_of}
+use Rattle.dpc_model.specs.Ports.{Port}
+use Rattle.dpc_model.specs.Sessions.{no_session, link_of}
+use Rattle.dpc_model.specs.declared.actors.Role.TheVariants.{Node as IsNode}
+use Rattle.dpc_model.specs.declared.messages.Event.{Event}
+use Rattle.dpc_model.specs.declared.plans.Plan.{Plan}
+use Rattle.dpc_model.specs.declared.plans.StreamRef.{StreamRef}
+use Rattle.dpc_model.specs.declared.plans.StreamRef.TheVariants.{Frag}
+use Rattle.dpc_model.specs.declared.scripts.Script.{Script}
+use Rattle.node_model.specs.Nodes.{PlainNode}
+use Rattle.world_model.specs.Worlds.{World, home_of, slot_of, run}
+use Rattle.world_model.specs.Schedules.{is_live}
+use Rattle.granting_law.specs.Taken.{port_of}
+use Rattle.reader_law.specs.Newest.{IsPortOf}
+use Rattle.reader_law.specs.Settling.{CanSettle}
+use Rattle.settling_law.specs.Finished.{IsFinished}
+
+-- a reader has the whole failure-free stream up to the end, and nothing that may be corrected
+pub record HasStream (plan : Plan) (s : StreamRef) (r : Reader) : Type 0 where
+  pub stable : r.stable ≡ ideal plan s
+  pub bound : r.bound ≡ plan.end
+  pub sure : IsTrue (is_sure r)
+
+-- a port that misses no batch took as many batches of its session as the replica that it reads sent in it; its reader has this place at the replica
+pub record TookAllOf (plan : Plan) (w : World) (x p f : ℕ) (q : Port) (r : ℕ) (n : PlainNode) : Type 0 where
+  pub port : port_of w x p ≡ Some q
+  pub whole : q.inlet.broken ≡ false
+  pub role : role_of plan (nth 0 (senders_of plan (Frag f)) q.chosen) ≡ IsNode f r
+  pub up : (slot_of w (nth 0 (senders_of plan (Frag f)) q.chosen)).node ≡ Some n
+  pub place : ℕ
+  pub low : place < length (readers_of plan (Frag f))
+  pub reader : nth 0 (readers_of plan (Frag f)) place ≡ x
+  pub many : ℕ
+  pub link : link_of (nth no_session n.subs place) ≡ Some (q.inlet.sess, many)
+  pub all : many ≤ q.inlet.next
+
+-- where the replica has finished, at whatever point of a live journal, such a port has the stream
+abbrev pub TakersHaveAll : Script → List Event → Type 0
+TakersHaveAll script events =
+    CanSettle script → IsTrue (is_live script events) → (done rest : List Event) → events ≡ done ++ rest → (x p f r : ℕ) (q : Port) (n : PlainNode) → IsPortOf script.plan x p (Frag f) →
+    TookAllOf script.plan (run script.plan done) x p f q r n → IsFinished (home_of script.plan (f, r)) n → HasStream script.plan (Frag f) q.inlet.held
