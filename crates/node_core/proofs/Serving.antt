@@ -16,46 +16,12 @@ use Rattle.node_model.specs.NodeSteps.{silent_step, then_do, after_clock, may_st
 use Rattle.node_model.specs.Views.{neighbours_of}
 use Rattle.node_laws.specs.Fitting.{AreFitInputs, IsFit}
 use Rattle.node_laws.proofs.Buckets.{processed-inputs}
-use Rattle.node_laws.proofs.Fits.{due-lies, fit-processed}
-use Rattle.node_laws.proofs.FitNodes.{fit-marks, fit-clock, fit-afresh, fit-choice, fit-ask}
+use Rattle.node_laws.proofs.FitNodes.{fit-marks, fit-clock, fit-afresh, fit-choice, fit-ask, fit-process}
 use Rattle.node_model.specs.Views.{inputs_of}
 use Rattle.node_core.specs.declared.packets.Mail as code_mail
 use Rattle.node_core.specs.Standing.{NodeValue, StandsForNode, AreMails}
 use Rattle.node_core.specs.Stepping.{IsSound, Follows, Steps}
 use Rattle.node_core.proofs.Mailing.{mails-append}
-
--- ---- fit behind the processing
-
-given-many : (items : List Item) (subs : List Sub) → length (with_batches items subs) ≡ length subs
-given-many [] subs = refl
-given-many (i ∷ items) subs = length-map subs with_batch
-
-fit-upto : (home : Home) (last : ℕ) (p : PlainNode) → 0 < home.plan.width → due_at home p p.clock ≡ Some last → IsFit home p → IsFit home (processing_upto home last p).after
-fit-upto home last p pos due fit =
-    let count = count_upto last p in
-    let r = stably home p count in
-    let items = given_items (length (out_stable home p)) (given_by home p (after_buckets home r count p) (nat_lt 0 r) (nat_lt r count)) in
-    let lies = due-lies (due_view home p) p.clock (buckets_of home.plan) last due in
-    record {
-      end = fit.end;
-      inputs = subst (λ (x : Inputs). AreFitInputs home.plan.width (buckets_of home.plan) home.plan.end x) (sym (processed-inputs home last p))
-          (fit-processed home.plan.width (buckets_of home.plan) home.plan.end last (inputs_of p) pos refl fit.end fit.inputs lies.0 lies.1);
-      ports = fit.ports;
-      readers = given-many items p.subs ∙ fit.readers;
-      silent = fit.silent;
-    }
-
--- whether the node recovers or not
-fit-process : (home : Home) (p : PlainNode) → 0 < home.plan.width → IsFit home p → IsFit home (processing_step home p).after
-fit-process home p pos fit =
-    (elim (is_stabilization p.state) as (λ (b : Bool). IsFit home (if b then silent_step p else elim (due_at home p p.clock) as (λ _. Stepped PlainNode) [ None ↦ silent_step p | Some last ↦ processing_upto home last p ]).after) [
-      | true ↦ fit
-      | false ↦ (elim (due_at home p p.clock) as (λ (o : Option ℕ). due_at home p p.clock ≡ o →
-          IsFit home (elim o as (λ _. Stepped PlainNode) [ None ↦ silent_step p | Some last ↦ processing_upto home last p ]).after) [
-            | None ↦ λ e. fit
-            | Some last ↦ λ e. fit-upto home last p pos e fit
-          ]) refl
-    ])
 
 -- ---- one step behind another
 

@@ -4,6 +4,7 @@ use Rattle.std.specs.List.{AllZip}
 use Rattle.dpc_model.specs.Due.{delay_of}
 use Rattle.dpc_model.specs.declared.plans.Plan.{Plan}
 use Rattle.dpc_model.specs.declared.plans.FragSpec.{FragSpec}
+use Rattle.dpc_model.specs.PartStands.{StandsForLinks}
 use Rattle.dpc_model.specs.declared.messages.NodeState.{NodeState}
 use Rattle.node_model.specs.Mails.{Snap, Packet, Plain, SnapFor, Mail}
 use Rattle.node_model.specs.Nodes.{Home, spec_of, own_readers, PlainNode}
@@ -34,7 +35,7 @@ pub record StandsForNode (home : Home) (v : NodeValue) (p : PlainNode) : Type 0 
   pub knows : KnowsNeighbours home v.links
   pub readers : v.readers ≡ own_readers home
   pub path : StandsForData (spec_of home).ops v.path (inputs_of p) (outputs_of p)
-  pub links : v.links.known ≡ neighbours_of p
+  pub links : StandsForLinks v.links.known (neighbours_of p)
   pub clock : v.clock ≡ p.clock
   pub state : v.state ≡ p.state
   pub recovering : v.recovering ≡ p.recovering

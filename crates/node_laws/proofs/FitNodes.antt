@@ -170,8 +170,8 @@ node-ready home p count pos some few fit =
     at-most false count k some h = h
 
 -- where the last bucket that is due is processed, the node fits
-pub fit-upto : (home : Home) (last : ℕ) (p : PlainNode) → 0 < home.plan.width → due_at home p p.clock ≡ Some last → IsFit home p → p.recovering ≡ false → IsFit home (processing_upto home last p).after
-fit-upto home last p pos due fit up =
+pub fit-upto : (home : Home) (last : ℕ) (p : PlainNode) → 0 < home.plan.width → due_at home p p.clock ≡ Some last → IsFit home p → IsFit home (processing_upto home last p).after
+fit-upto home last p pos due fit =
     let count = count_upto last p in
     let r = stably home p count in
     let items = given_items (length (out_stable home p)) (given_by home p (after_buckets home r count p) (nat_lt 0 r) (nat_lt r count)) in
@@ -185,13 +185,13 @@ fit-upto home last p pos due fit up =
       silent = fit.silent;
     }
 
-pub fit-process : (home : Home) (p : PlainNode) → 0 < home.plan.width → IsFit home p → p.recovering ≡ false → IsFit home (processing_step home p).after
-fit-process home p pos fit up =
+pub fit-process : (home : Home) (p : PlainNode) → 0 < home.plan.width → IsFit home p → IsFit home (processing_step home p).after
+fit-process home p pos fit =
     (elim (is_stabilization p.state) as (λ (b : Bool). IsFit home (if b then silent_step p else elim (due_at home p p.clock) as (λ _. Stepped PlainNode) [ None ↦ silent_step p | Some last ↦ processing_upto home last p ]).after) [
       | true ↦ fit
       | false ↦ (elim (due_at home p p.clock) as (λ (o : Option ℕ). due_at home p p.clock ≡ o →
           IsFit home (elim o as (λ _. Stepped PlainNode) [ None ↦ silent_step p | Some last ↦ processing_upto home last p ]).after) [
             | None ↦ λ e. fit
-            | Some last ↦ λ e. fit-upto home last p pos e fit up
+            | Some last ↦ λ e. fit-upto home last p pos e fit
           ]) refl
     ])

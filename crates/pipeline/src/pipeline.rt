@@ -27,8 +27,9 @@ mod commit;
 mod messages;
 mod recovery;
 
-/// The inputs of a node in buckets, its operators, and its output. A call that wants memory spoils it:
-/// nothing is known of it then, and the node that holds it is spent. Contracts see a `PipelineValue`.
+/// The inputs of a node in buckets, its operators, and its output. A call that wants memory spoils it,
+/// but where it says that nothing changes: nothing is known of it then, and the node that holds it is
+/// spent. Contracts see a `PipelineValue`.
 #[derive(Drop)]
 pub struct Pipeline {
     inputs: SUnion,

@@ -41,6 +41,7 @@ impl Node {
         ensures stale { (had needed : Point) → result ≡ Err (commit.Stale had needed) → WasStale milled.order self.old self.new had needed }
         ensures spent { result ≡ Err commit.Spent ↔ self.old.spent ≡ true }
         ensures lost { result ≡ Err commit.NoMemory → self.new.spent ≡ true }
+        ensures kept { IfOk result (λ mails. self.new.spent ≡ false) }
     {
         if self.spent {
             return Err(CommitFault::Spent);
