@@ -13,7 +13,7 @@ use Rattle.dpc_model.specs.declared.messages.Sess.{Sess}
 use Rattle.dpc_model.specs.declared.plans.Plan.{Plan}
 use Rattle.dpc_model.specs.declared.tuples.Item.{Item}
 use Rattle.dpc_model.specs.declared.tuples.Tuple.{Tuple}
-use Rattle.inlet.specs.Forgotten.{Keeps, HasRoom}
+use Rattle.inlet.specs.Forgotten.{Keeps}
 use Rattle.upstream.specs.Upstreams.{UpstreamValue}
 use Rattle.node_model.specs.Clients.{ClientState, client_stream, client_tick_step}
 use Rattle.node_model.specs.Mails.{mails}
@@ -44,17 +44,6 @@ pub record StandsForClient (plan : Plan) (c : ℕ) (v : ClientValue) (x : Client
 -- what a step makes of each plain client that it stood for it stands for afterwards
 abbrev pub Follows : (Plan → ℕ → ClientState → ClientState) → ClientValue → ClientValue → Type 0
 Follows step old new = (plan : Plan) (c : ℕ) (x : ClientState) → StandsForClient plan c old x → StandsForClient plan c new (step plan c x)
-
--- by a message no number passes the range
-abbrev pub HasRoomFor : Message → InletValue → Type 0
-HasRoomFor (message.Batch s index items) v = HasRoom v (length items)
-HasRoomFor (message.Subscribe asked) v = Unit {0}
-HasRoomFor (message.Truncated s base) v = Unit {0}
-HasRoomFor (message.Beat b) v = Unit {0}
-HasRoomFor (message.Ack i n) v = Unit {0}
-HasRoomFor (message.Ask i n) v = Unit {0}
-HasRoomFor (message.Grant i n) v = Unit {0}
-HasRoomFor (message.SnapAsk i n) v = Unit {0}
 
 -- the items that an answer adds
 abbrev pub items_of : Taken → List Item

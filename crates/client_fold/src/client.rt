@@ -74,6 +74,13 @@ impl Client {
         self.inlet.count()
     }
 
+    /// The clock of the last tick.
+    pub fn clock(&self) -> u64
+        ensures { result ≡ self.now.clock }
+    {
+        self.clock
+    }
+
     /// Up to where the stable tuples are known to be all.
     pub fn bound(&self) -> u64
         ensures { result ≡ self.now.inlet.state.held.bound }

@@ -1,6 +1,6 @@
 //! The actors of a plan, by number: sources, then the replicas of the fragments, then clients.
 ghost use Rattle.std.specs.Prelude.{◌≡◌, ◌+◌, length, slice_get, Some, IfOk, IfErr};
-ghost use Rattle.dpc_model.specs.Actors.{nodes_from, role_of, sends_stream, are_peers};
+ghost use Rattle.dpc_model.specs.Actors.{nodes_from, role_of, sends_stream, reads_from, are_peers, are_linked};
 ghost use Rattle.dpc_model.specs.Lists.{list_any};
 
 use crate::plans::{FragSpec, Plan, StreamRef};
@@ -75,4 +75,30 @@ pub fn are_replicas(a: Role, b: Role) -> bool
         (Role::Node(f, r), Role::Node(g, q)) => f == g && r != q,
         _ => false,
     }
+}
+
+/// Whether an actor reads what another one sends.
+fn reads_from(plan: &Plan, reader: Role, sender: Role) -> bool
+    ensures { result ≡ reads_from plan.now reader sender }
+{
+    match reader {
+        Role::Source(_) | Role::Nobody => false,
+        Role::Node(frag, _) => match plan.frags.as_slice().get(frag as usize) {
+            Some(frag) => sends_any(frag.inputs.as_slice(), sender),
+            None => false,
+        },
+        Role::Client(client) => match plan.clients.as_slice().get(client as usize) {
+            Some(client) => sends(client.input, sender),
+            None => false,
+        },
+    }
+}
+
+/// Whether a link joins the actors of these numbers.
+pub fn are_linked(plan: &Plan, a: u64, b: u64) -> bool
+    ensures { result ≡ are_linked plan.now a b }
+{
+    let x = role_of(plan, a);
+    let y = role_of(plan, b);
+    reads_from(plan, x, y) || reads_from(plan, y, x) || are_replicas(x, y)
 }

@@ -1,5 +1,5 @@
 -- What the code's nodes want of a world, and of a plan that they are made of.
-use Rattle.std.specs.Prelude.{◌≡◌, ℕ, ◌≤◌, Some, slice_get, All}
+use Rattle.std.specs.Prelude.{◌≡◌, ℕ, ◌^◌, ◌<◌, ◌≤◌, Some, slice_get, All}
 use Rattle.dpc_model.specs.Actors.{role_of}
 use Rattle.dpc_model.specs.declared.actors.Role.TheVariants.{Node as IsNode}
 use Rattle.dpc_model.specs.declared.plans.FragSpec.{FragSpec}
@@ -7,6 +7,7 @@ use Rattle.dpc_model.specs.declared.plans.Plan.{Plan}
 use Rattle.dpc_model.specs.declared.plans.TheConstants.{MOST_REPLICAS}
 use Rattle.node_model.specs.Nodes.{PlainNode}
 use Rattle.world_model.specs.Worlds.{World, Envelope, home_of, slot_of}
+use Rattle.world_safety.specs.Plans.{IsCheckedPlan}
 use Rattle.node_laws.specs.Fitting.{IsFit, IsFitPacket}
 
 -- ---- a world
@@ -26,3 +27,9 @@ PacketsAreFit w =
 -- no fragment has more replicas than this
 abbrev pub HasFewReplicas : Plan → Type 0
 HasFewReplicas plan = All (λ (frag : FragSpec). frag.replicas ≤ MOST_REPLICAS) plan.frags
+
+-- a plan that can be run: checked, with few replicas and an end in range
+pub record CanRun (plan : Plan) : Type 0 where
+  pub checked : IsCheckedPlan plan
+  pub few : HasFewReplicas plan
+  pub end : plan.end < 2 ^ 63

@@ -1,5 +1,5 @@
 -- What a node leaves and sends that takes a subscription, an acknowledgement, an ask or a grant, or is asked for a snapshot.
-use Rattle.std.proofs.Common.{◌≡◌, ℕ, suc, ◌<◌, Bool, true, false, ◌==◌, List, [], ◌∷◌, length, refl, sym, ap, subst, ◌∙◌, arith, Option, Some, None, Result, Ok, Err}
+use Rattle.std.proofs.Common.{◌≡◌, ℕ, suc, ◌<◌, Bool, true, false, ◌==◌, List, [], ◌∷◌, length, refl, sym, ap, subst, ◌∙◌, arith, Option, Some, None, Result, Ok, Err, Box, Global}
 use Rattle.std.proofs.lemmas.Grind.{common_steps}
 use Rattle.std.specs.Prelude.{if◌then◌else◌, IfOk}
 use Rattle.dpc_model.specs.Lists.{nth, changed, place_of}
@@ -15,11 +15,10 @@ use Rattle.dpc_model.specs.declared.messages.NodeState.{NodeState}
 use Rattle.dpc_model.specs.declared.messages.Subscribe.{Subscribe}
 use Rattle.dpc_model.specs.declared.tuples.Tuple.{Tuple}
 use Rattle.dpc_model.proofs.Places.{place-within}
-use Rattle.fragment_mill.specs.Mills.{MillState}
 use Rattle.soutput.specs.Laws.{outputs_at}
 use Rattle.node_links.specs.Linking.{LinksValue}
 use Rattle.node_model.specs.Mails.{Snap, Stepped, mail}
-use Rattle.node_model.specs.Stands.{SnapValue}
+use Rattle.pipeline.specs.declared.snapshots.Snapshot.{Snapshot}
 use Rattle.node_model.specs.Nodes.{Home, PlainNode, spec_of, own_readers, out_stable, shown}
 use Rattle.node_model.specs.NodeSteps.{silent_step, on_ack, on_subscribe, on_ask, on_snap_ask, reader_place, replica_number, snapshot}
 use Rattle.node_model.specs.Views.{inputs_of, outputs_of}
@@ -188,15 +187,15 @@ asked home v p links a r inc ask granted told h found test made sent =
 
 -- ---- snapshots
 
-pub snapshot-sent : (home : Home) (v : NodeValue) (p : PlainNode) (a inc number : ℕ) (s : SnapValue MillState) (told : List code_mail.Mail) → StandsForNode home v p → v.recovering ≡ false →
-    StandsForSnapshot (spec_of home).ops v.path.union.width s (snap_of v.path.union.width (inputs_of p) (outputs_of p)) → told ≡ record { to = a; packet = packet.SnapFor inc number s } ∷ [] →
+pub snapshot-sent : (home : Home) (v : NodeValue) (p : PlainNode) (a inc number : ℕ) (s : Box Snapshot Global) (told : List code_mail.Mail) → StandsForNode home v p → v.recovering ≡ false →
+    StandsForSnapshot (spec_of home).ops v.path.union.width s.value (snap_of v.path.union.width (inputs_of p) (outputs_of p)) → told ≡ record { to = a; packet = packet.SnapFor inc number s } ∷ [] →
     IsTakenAs v told home (unless_recovering (λ home p. on_snap_ask home a inc number p) home p)
 snapshot-sent home v p a inc number s told h up stands sent =
     let step = on_snap_ask home a inc number p in
     let ops = (spec_of home).ops in
-    let wide = subst (λ (w : ℕ). StandsForSnapshot ops w s (snap_of w (inputs_of p) (outputs_of p))) h.setting.width stands in
+    let wide = subst (λ (w : ℕ). StandsForSnapshot ops w s.value (snap_of w (inputs_of p) (outputs_of p))) h.setting.width stands in
     let same : snap_of home.plan.width (inputs_of p) (outputs_of p) ≡ snapshot home p =
     ap (λ (ts : List (List Tuple)). record { cursor = p.cursor; inputs = ts; base = p.base }) (sym (done-is home p)) in
-    let alike = subst (λ (t : Snap). StandsForSnapshot ops home.plan.width s t) same wide in
+    let alike = subst (λ (t : Snap). StandsForSnapshot ops home.plan.width s.value t) same wide in
     subst (λ (s : Stepped PlainNode). IsTakenAs v told home s) (sym (unless-up (λ home p. on_snap_ask home a inc number p) home v p h up))
     (record { after = h; sends = subst (λ (ms : List code_mail.Mail). AreMails home ms step.sends) (sym sent) (record { to = refl; packet = (snapshot home p, refl, alike) }, tt) })

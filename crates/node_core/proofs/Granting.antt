@@ -1,5 +1,5 @@
 -- What a node leaves and sends that is granted its ask, or gets a snapshot, and how it takes a packet.
-use Rattle.std.proofs.Common.{◌≡◌, ℕ, Bool, true, false, ◌==◌, ◌&&◌, List, [], ◌∷◌, length, refl, sym, ap, subst, ◌∙◌, arith, Option, Some, None}
+use Rattle.std.proofs.Common.{◌≡◌, ℕ, Bool, true, false, ◌==◌, ◌&&◌, List, [], ◌∷◌, length, refl, sym, ap, subst, ◌∙◌, arith, Option, Some, None, Box, Global}
 use Rattle.std.specs.Prelude.{if◌then◌else◌}
 use Rattle.dpc_model.specs.Parts.{Neighbours}
 use Rattle.dpc_model.specs.Granting.{with_ask, may_enter_by}
@@ -8,8 +8,7 @@ use Rattle.dpc_model.specs.declared.messages.Message.{Message}
 use Rattle.dpc_model.specs.declared.messages.NodeState.{NodeState}
 use Rattle.node_links.specs.Linking.{LinksValue}
 use Rattle.node_model.specs.Mails.{Snap, Packet, Plain, SnapFor, Stepped}
-use Rattle.node_model.specs.Stands.{SnapValue}
-use Rattle.fragment_mill.specs.Mills.{MillState}
+use Rattle.pipeline.specs.declared.snapshots.Snapshot.{Snapshot}
 use Rattle.node_model.specs.Nodes.{Home, PlainNode, out_stable}
 use Rattle.node_model.specs.NodeSteps.{silent_step, enter_step, after_adoption, on_grant, on_snap, on_message, packet_step, with_marks_ended}
 use Rattle.node_model.specs.Views.{neighbours_of}
@@ -84,8 +83,8 @@ unfolding packet_step
 message-packed home sender v new m p q told can taken = subst (λ (r : Packet). IsTaken sender new told home p r) (sym can.alike) taken
 
 -- and a snapshot may be adopted
-pub snap-may : (home : Home) (sender inc number : ℕ) (v mid : NodeValue) (snapshot : SnapValue MillState) (p : PlainNode) (q : Packet) →
-    (can : CanTake sender v (packet.SnapFor inc number snapshot) home p q) → Follows (λ home p. with_marks_ended p) v mid → CanAdopt mid snapshot home (with_marks_ended p) can.alike.0
+pub snap-may : (home : Home) (sender inc number : ℕ) (v mid : NodeValue) (snapshot : Box Snapshot Global) (p : PlainNode) (q : Packet) →
+    (can : CanTake sender v (packet.SnapFor inc number snapshot) home p q) → Follows (λ home p. with_marks_ended p) v mid → CanAdopt mid snapshot.value home (with_marks_ended p) can.alike.0
 snap-may home sender inc number v mid snapshot p q can ends =
     record {
       stands = ends home p can.stands can.fit;
@@ -94,7 +93,7 @@ snap-may home sender inc number v mid snapshot p q can ends =
       fits = subst (λ (r : Packet). IsFitPacket home sender p r) can.alike.1 can.fits;
     }
 
-pub snap-packed : (home : Home) (sender inc number : ℕ) (v new : NodeValue) (snapshot : SnapValue MillState) (p : PlainNode) (q : Packet) (told : List code_mail.Mail) →
+pub snap-packed : (home : Home) (sender inc number : ℕ) (v new : NodeValue) (snapshot : Box Snapshot Global) (p : PlainNode) (q : Packet) (told : List code_mail.Mail) →
     (can : CanTake sender v (packet.SnapFor inc number snapshot) home p q) → StandsForNode home new (on_snap home inc number can.alike.0 (with_marks_ended p)) → told ≡ [] → IsTaken sender new told home p q
 unfolding packet_step
 snap-packed home sender inc number v new snapshot p q told can h none =

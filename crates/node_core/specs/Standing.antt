@@ -45,7 +45,7 @@ pub record StandsForNode (home : Home) (v : NodeValue) (p : PlainNode) : Type 0 
 -- a message is sent as it is; a snapshot stands for the plain one
 abbrev pub StandsForPacket : Home → code.Packet → Packet → Type 0
 StandsForPacket home (packet.Plain m) q = q ≡ Plain m
-StandsForPacket home (packet.SnapFor inc try s) q = (t : Snap) × (q ≡ SnapFor inc try t) × StandsForSnapshot (spec_of home).ops home.plan.width s t
+StandsForPacket home (packet.SnapFor inc try s) q = (t : Snap) × (q ≡ SnapFor inc try t) × StandsForSnapshot (spec_of home).ops home.plan.width s.value t
 
 pub record StandsForMail (home : Home) (m : code_mail.Mail) (q : Mail) : Type 0 where
   pub to : m.to ≡ q.to

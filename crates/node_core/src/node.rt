@@ -169,6 +169,13 @@ impl Node {
         self.state
     }
 
+    /// The clock of the last tick.
+    pub fn clock(&self) -> u64
+        ensures { result ≡ self.now.clock }
+    {
+        self.clock
+    }
+
     /// Whether it has lost its state, and waits for a snapshot or for word that there is none.
     pub fn recovering(&self) -> bool
         ensures { result ≡ self.now.recovering }

@@ -7,7 +7,7 @@ use pipeline::snapshots::Snapshot;
 pub enum Packet {
     Plain(Message),
     /// A snapshot, for the recovery that an incarnation and a number name.
-    SnapFor(u64, u64, Snapshot),
+    SnapFor(u64, u64, Box<Snapshot>),
 }
 
 /// A packet with the actor that it goes to.

@@ -1,20 +1,12 @@
 //! What is asked of one inlet.
-ghost use Rattle.std.specs.Prelude.{◌≡◌, ◌≤◌, length, IsTrue};
+ghost use Rattle.std.specs.Prelude.{◌≡◌, ◌≤◌, length};
 ghost use Rattle.dpc_model.specs.Inlets.{InletState};
 ghost use Rattle.dpc_model.specs.PartStands.{StandsForInlet};
 ghost use Rattle.dpc_model.specs.Streams.{InOrder, count_below};
-ghost use Rattle.inlet.specs.Forgotten.{HasRoom};
 
 use dpc_model::tuples::Tuple;
 use inlet::inlet::Inlet;
 use std::collections::VecDeque;
-
-/// Whether no number passes its range by a batch of so many items.
-pub(crate) fn has_room(inlet: &Inlet, items: usize) -> bool
-    ensures { IsTrue result → HasRoom inlet.now items }
-{
-    inlet.count().checked_add(items as u64).is_some() && inlet.next() < u64::MAX
-}
 
 /// The place of the first of the tuples, which are in order of time, that isn't below a time. It searches
 /// by halves.

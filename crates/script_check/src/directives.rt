@@ -1,15 +1,24 @@
 //! The lines of directives and ticks, behind a plan without a fault.
 ghost use Rattle.std.specs.Prelude.{◌≡◌, ◌∷◌, [], ◌++◌, ℕ, Bool, map, flat_map, fold, unwrap_or};
+ghost use Rattle.dpc_model.specs.Actors as actors;
+ghost use Rattle.script_rules.specs.Reasons as reason;
 ghost use Rattle.script_rules.specs.Reasons.{first_of_tests, down_after};
 ghost use Rattle.script_rules.specs.Checking.{IsChecked, directive_statement, phase_statements};
 ghost use Rattle.script_check.specs.Judging.{told, Judges, bare, running};
 ghost use Rattle.script_check.specs.Locals as local;
 
-use crate::links::{are_linked, is_node};
+use dpc_model::actors::{Role, are_linked, role_of};
 use dpc_model::plans::Plan;
 use dpc_model::scripts::{Directive, Phase, PlanFault};
 use script_draft::ends::clock_of;
 use script_draft::limits::MOST_PHASES;
+
+/// Whether the actor of that number is a node.
+fn is_node(plan: &Plan, actor: u64) -> bool
+    ensures { result ≡ reason.is_node (actors.role_of plan.now actor) }
+{
+    matches!(role_of(plan, actor), Role::Node(_, _))
+}
 
 /// Whether a directive makes a node go down or come up, if either.
 fn change_of(directive: Directive, node: u64) -> Option<bool>

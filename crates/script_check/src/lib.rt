@@ -8,7 +8,6 @@ mod first_fault;
 mod fragments;
 mod headers;
 mod kinds;
-mod links;
 mod names;
 mod operator_ranges;
 mod operators;

@@ -20,7 +20,8 @@ use std::marker::Model;
 mod steps;
 
 /// One source: how much of its log was emitted, and its readers' sessions. The log stays in the plan,
-/// which each call is handed. Want of memory changes nothing. Contracts see a `SourceValue`.
+/// which each call is handed. Want of memory changes nothing; a number of batches that would pass its
+/// range counts as such. Contracts see a `SourceValue`.
 #[derive(Drop)]
 pub struct SourceNode {
     number: usize,
@@ -91,7 +92,6 @@ impl SourceNode {
     /// Emits what is logged below a time, in one batch to each open session.
     pub fn emit(&mut self, alloc: Global, plan: &Plan, time: u64) -> Result<Vec<Out>, NoMemory>
         requires source { IsSourceOf plan.now self.old }
-        requires room { HasRoom self.old }
         ensures sends { IfOk result (λ outs. mails outs.items ≡ (source_emits plan.now self.old.number time self.old.state).sends) }
         ensures after { OnOk result (self.new ≡ after_step self.old (source_emits plan.now self.old.number time self.old.state)) }
         ensures err { OnErr result (self.new ≡ self.old) }
@@ -103,7 +103,6 @@ impl SourceNode {
     /// Emits what is logged below a time, and says that it is all, where that goes past the last boundary.
     pub fn release(&mut self, alloc: Global, plan: &Plan, time: u64) -> Result<Vec<Out>, NoMemory>
         requires source { IsSourceOf plan.now self.old }
-        requires room { HasRoom self.old }
         ensures sends { IfOk result (λ outs. mails outs.items ≡ (source_releases plan.now self.old.number time self.old.state).sends) }
         ensures after { OnOk result (self.new ≡ after_step self.old (source_releases plan.now self.old.number time self.old.state)) }
         ensures err { OnErr result (self.new ≡ self.old) }
@@ -149,11 +148,18 @@ impl SourceNode {
     }
 
     /// Whether each session can count one batch more. It takes no memory.
-    pub fn has_room(&self) -> bool
+    fn has_room(&self) -> bool
         ensures yes { IsTrue result → HasRoom self.now }
         ensures no { HasRoom self.now → IsTrue result }
     {
         can_count(self.sessions.as_slice())
+    }
+
+    /// The clock of the last tick. It takes no memory.
+    pub fn clock(&self) -> u64
+        ensures { result ≡ self.now.state.clock }
+    {
+        self.clock
     }
 
     /// How many tuples were emitted. It takes no memory.

@@ -85,9 +85,6 @@ fn given(
     requires { IsSourceOf plan.now source.old }
     ensures { OnOk result (IsSourceOf plan.now source.new) }
 {
-    if !source.has_room() {
-        return Ok(Vec::new(alloc));
-    }
     let outs = if released {
         source.release(alloc, plan, time)?
     } else {

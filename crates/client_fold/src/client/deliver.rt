@@ -1,10 +1,9 @@
 //! What comes from a replica of the stream.
 ghost use Rattle.std.specs.Prelude.{◌≡◌, ◌<◌, length, OnOk, OnErr};
 ghost use Rattle.dpc_model.specs.declared.messages.Message.TheVariants as message_of;
-ghost use Rattle.inlet.specs.Forgotten.{HasRoom};
 ghost use Rattle.node_model.specs.Clients.{client_after_packet, client_message, client_marks_ended};
 ghost use Rattle.node_model.specs.Mails.{Plain};
-ghost use Rattle.client_fold.specs.Folding.{Follows, HasRoomFor, IsFolded};
+ghost use Rattle.client_fold.specs.Folding.{Follows, IsFolded};
 
 use crate::client::Client;
 use dpc_model::batches::Taken;
@@ -23,7 +22,8 @@ impl Client {
         self.upstream.end_marks(count);
     }
 
-    /// Takes a batch, and lets those stable tuples go that no one asks for.
+    /// Takes a batch, and lets those stable tuples go that no one asks for. A number that would pass its
+    /// range counts as want of memory.
     fn take(
         &mut self,
         alloc: Global,
@@ -31,10 +31,12 @@ impl Client {
         index: u64,
         items: &Shared<Item>,
     ) -> Result<(), NoMemory>
-        requires { HasRoom self.old.inlet (length items.now) }
         ensures ok { OnOk result (IsFolded sess index items.now self.old self.new) }
         ensures err { OnErr result (self.new ≡ self.old) }
     {
+        if !self.inlet.has_room(items.len()) {
+            return Err(NoMemory);
+        }
         self.taken.reserve(1)?;
         let Taken::Used(items) = self.inlet.take(alloc, sess, index, items)? else {
             return Ok(());
@@ -55,7 +57,6 @@ impl Client {
         index: u64,
         items: &Shared<Item>,
     ) -> Result<(), NoMemory>
-        requires { HasRoom self.old.inlet (length items.now) }
         ensures ok { OnOk result (Follows (λ plan c x. client_message r (message_of.Batch sess index items.now) (client_marks_ended x)) self.old self.new) }
         ensures err { OnErr result (self.new ≡ self.old) }
     {
@@ -94,9 +95,8 @@ impl Client {
     }
 
     /// A message comes. What is no batch, beat or truncation of a sender of the stream changes nothing
-    /// but marks. Want of memory changes nothing.
+    /// but marks. Want of memory changes nothing; a number that would pass its range counts as such.
     pub fn deliver(&mut self, alloc: Global, sender: u64, message: &Message) -> Result<(), NoMemory>
-        requires { HasRoomFor message.now self.old.inlet }
         ensures ok { OnOk result (Follows (λ plan c x. client_after_packet plan c sender (Plain message.now) x) self.old self.new) }
         ensures err { OnErr result (self.new ≡ self.old) }
     {

@@ -43,13 +43,16 @@ impl Client {
     }
 
     /// At a tick the replica to read is chosen, and a session opened anew where one is needed. Then each
-    /// sender is told how many stable tuples there are. Want of memory changes nothing.
+    /// sender is told how many stable tuples there are. Want of memory changes nothing; a session number
+    /// that would pass its range counts as such.
     pub fn tick(&mut self, alloc: Global, now: u64) -> Result<Vec<Out>, NoMemory>
-        requires { self.old.inlet.state.sess.number + 1 < 2 ^ 64 }
         ensures after { OnOk result (Follows (λ plan c x. (client_tick_step plan c now x).after) self.old self.new) }
         ensures sends { IfOk result (λ outs. Sends now self.old outs.items) }
         ensures err { OnErr result (self.new ≡ self.old) }
     {
+        if self.inlet.sess().number == u64::MAX {
+            return Err(NoMemory);
+        }
         let mut outs = acks(alloc, self.upstream.senders(), self.inlet.count())?;
         if let Some(out) = self.advance(now) {
             let Ok(()) = outs.insert(0, out) else {

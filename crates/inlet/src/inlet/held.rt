@@ -3,7 +3,7 @@ ghost use Rattle.std.specs.Prelude.{◌≡◌, ◌+◌, not, length, IsTrue};
 ghost use Rattle.dpc_model.specs.Reading.{is_sure};
 ghost use Rattle.dpc_model.specs.Streams.{InOrder};
 ghost use Rattle.dpc_model.specs.PartStands.{with_stable};
-ghost use Rattle.inlet.specs.Forgotten.{from_first};
+ghost use Rattle.inlet.specs.Forgotten.{HasRoom, from_first};
 
 use crate::inlet::Inlet;
 use crate::items::drop_first_below;
@@ -26,6 +26,14 @@ impl Inlet {
         ensures { result ≡ self.now.count }
     {
         self.count
+    }
+
+    /// Whether no number passes its range by a batch of so many items.
+    pub fn has_room(&self, items: usize) -> bool
+        ensures yes { IsTrue result → HasRoom self.now items }
+        ensures no { HasRoom self.now items → IsTrue result }
+    {
+        self.count.checked_add(items as u64).is_some() && self.next < u64::MAX
     }
 
     /// Up to where the stable tuples are known to be all.

@@ -223,7 +223,8 @@ impl Node {
         if self.recovering {
             return Ok(Vec::new(alloc));
         }
-        let packet = Packet::SnapFor(inc, number, self.path.snapshot(alloc)?);
+        let snapshot = self.path.snapshot(alloc)?;
+        let packet = Packet::SnapFor(inc, number, Box::new(alloc, snapshot)?);
         let mut mails = Vec::new(alloc);
         mails.push(Mail { to: sender, packet })?;
         Ok(mails)

@@ -13,7 +13,7 @@ ghost use Rattle.sunion.specs.Unions.{AreInOrder, no_inlet, no_value, last_due_i
 ghost use Rattle.pipeline.specs.Flowing.{StandsForData, IsSetAs, stream_at};
 ghost use Rattle.pipeline.specs.Messages.{IsTakenAt, IsReopened, HasAnswered};
 
-use crate::inlets::{count_done, has_room};
+use crate::inlets::count_done;
 use crate::pipeline::Pipeline;
 use dpc_model::faults::NoMemory;
 use dpc_model::messages::{Message, NodeState, Sess, Subscribe};
@@ -39,7 +39,7 @@ impl Pipeline {
             → IsTakenAt ops port sess index items.now now self.old self.new x o told) }
         ensures err { OnErr result (self.new ≡ self.old) }
     {
-        if !has_room(self.inputs.inlet(port), items.len()) {
+        if !self.inputs.inlet(port).has_room(items.len()) {
             return Err(NoMemory);
         }
         let verdict = self.inputs.accept(alloc, port, sess, index, items, now)?;

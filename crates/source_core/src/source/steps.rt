@@ -47,11 +47,13 @@ impl SourceNode {
         boundary: Option<(u64, u64)>,
     ) -> Result<Vec<Out>, NoMemory>
         requires source { IsSourceOf plan.now self.old }
-        requires room { HasRoom self.old }
         ensures sends { IfOk result (λ outs. mails outs.items ≡ (source_gives plan.now self.old.number time boundary self.old.state).sends) }
         ensures after { OnOk result (self.new ≡ after_step self.old (source_gives plan.now self.old.number time boundary self.old.state)) }
         ensures err { OnErr result (self.new ≡ self.old) }
     {
+        if !self.has_room() {
+            return Err(NoMemory);
+        }
         let log = log_of(plan, self.number);
         let first = self.emitted;
         let upto = first.max(count_below(log, time));

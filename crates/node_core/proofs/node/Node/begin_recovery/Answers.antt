@@ -1,4 +1,4 @@
-use Rattle.std.proofs.Common.{◌≡◌, sym, ap, subst}
+use Rattle.std.proofs.Common.{sym, subst}
 use Rattle.node_model.specs.Nodes.{spec_of}
 use Rattle.node_model.specs.Views.{inputs_of, outputs_of}
 use Rattle.node_core.specs.Standing.{NodeValue, StandsForNode}

@@ -1,13 +1,13 @@
-use Rattle.std.proofs.Common.{◌≡◌, ◌∙◌, ℕ, false, true, List, length, refl, sym, ap, subst, Err}
+use Rattle.std.proofs.Common.{◌≡◌, ◌∙◌, ℕ, false, true, List, length, sym, ap, subst}
 use Rattle.dpc_model.specs.declared.tuples.Tuple.{Tuple}
 use Rattle.fragment_mill.specs.Mills.{MillState}
 use Rattle.mill_work.specs.Milling.{OrderValue}
-use Rattle.pipeline.specs.Committing.{IsDone, CanPut}
+use Rattle.pipeline.specs.Committing.{CanPut}
 use Rattle.node_model.specs.Nodes.{Home, PlainNode, spec_of}
 use Rattle.node_model.specs.Views.{inputs_of, outputs_of}
 use Rattle.node_laws.specs.Fitting.{IsFit}
 use Rattle.node_core.specs.declared.faults.Point.{Point}
-use Rattle.node_core.specs.Milling.{CanMill, CanMillNode, MillSteps, Fits, IsBeside, needed_by, is_stale, IsCommitted, WasStale}
+use Rattle.node_core.specs.Milling.{CanMill, CanMillNode, MillSteps, Fits, IsBeside, needed_by, is_stale, WasStale}
 use Rattle.node_core.specs.Standing.{NodeValue, StandsForNode}
 use Rattle.node_core.specs.Stepping.{IsSound}
 use Rattle.node_core.proofs.Committed.{can-put, stands-there, can-mill-there, was-stale, same-stale}

@@ -1,5 +1,5 @@
-use Rattle.std.proofs.Common.{◌≡◌, ◌↔◌, false, sym, ap, subst, IsTrue}
-use Rattle.node_model.specs.Nodes.{Home, PlainNode, spec_of}
+use Rattle.std.proofs.Common.{false, sym, subst, IsTrue}
+use Rattle.node_model.specs.Nodes.{spec_of}
 use Rattle.node_model.specs.Views.{inputs_of, outputs_of}
 use Rattle.node_core.specs.Milling.{Fits}
 use Rattle.node_core.specs.Standing.{NodeValue, StandsForNode}

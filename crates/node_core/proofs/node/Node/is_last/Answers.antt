@@ -1,4 +1,4 @@
-use Rattle.std.proofs.Common.{rules, ◌≡◌, ◌∙◌, ◌==◌, ◌&&◌, ℕ, true, sym, ap, subst}
+use Rattle.std.proofs.Common.{rules, ◌≡◌, ◌∙◌, ◌==◌, ◌&&◌, ℕ, sym, ap, subst}
 use Rattle.dpc_model.specs.NodeStates.{is_stabilization}
 use Rattle.dpc_model.specs.declared.messages.NodeState.{NodeState}
 use Rattle.dpc_model.specs.declared.messages.NodeState.TheVariants.{Stabilization}

@@ -1,7 +1,6 @@
-use Rattle.std.proofs.Common.{rules, ◌≡◌, ◌∙◌, ◌&&◌, sym, subst, ap, true, ℕ, Bool}
+use Rattle.std.proofs.Common.{rules, ◌≡◌, ◌∙◌, ◌&&◌, sym, subst, ap, true, Bool}
 use Rattle.dpc_model.specs.Granting.{may_enter_by}
 use Rattle.dpc_model.specs.NodeStates.{is_up_failure}
-use Rattle.node_model.specs.Nodes.{PlainNode, Home}
 use Rattle.node_core.specs.Standing.{NodeValue, StandsForNode}
 use Rattle.node_core.proofs.Answering.{if-ok, steps-by}
 use Rattle.node_core.proofs.Granting.{granted}

@@ -1,8 +1,7 @@
-use Rattle.std.proofs.Common.{◌≡◌, ◌∙◌, sym, subst, ap, refl, List}
+use Rattle.std.proofs.Common.{◌∙◌, sym, subst, ap, refl, List}
 use Rattle.dpc_model.specs.declared.tuples.Item.{Item}
 use Rattle.dpc_model.specs.declared.messages.Message.{Message}
 use Rattle.dpc_model.specs.declared.messages.Message.TheVariants as message_of
-use Rattle.node_model.specs.Nodes.{PlainNode, Home}
 use Rattle.node_core.specs.Stepping.{CanTakeMessage}
 use Rattle.node_core.proofs.Answering.{if-ok}
 use Rattle.node_core.proofs.Granting.{told-by, silent-by}

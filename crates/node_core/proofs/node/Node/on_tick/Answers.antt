@@ -1,4 +1,4 @@
-use Rattle.std.proofs.Common.{rules, ◌≡◌, ◌∙◌, ◌++◌, ℕ, List, true, false, sym, ap, subst}
+use Rattle.std.proofs.Common.{rules, ◌≡◌, ◌∙◌, ◌++◌, List, true, false, sym, ap, subst}
 use Rattle.node_links.specs.Linking.{nobody_can_help}
 use Rattle.node_model.specs.NodeSteps.{with_fresh_start, tick_step}
 use Rattle.node_laws.proofs.FitNodes.{fit-afresh}

@@ -1,7 +1,7 @@
-use Rattle.std.proofs.Common.{◌≡◌, ◌∙◌, ◌<◌, length, sym, subst, ap, false, true}
+use Rattle.std.proofs.Common.{◌∙◌, ◌<◌, length, sym, subst, ap, false, true}
 use Rattle.dpc_model.specs.Lists.{nth}
 use Rattle.sunion.specs.Unions.{no_value}
-use Rattle.node_model.specs.Nodes.{PlainNode, Home}
+use Rattle.node_model.specs.Nodes.{PlainNode}
 use Rattle.node_core.specs.Standing.{NodeValue, StandsForNode}
 use Rattle.node_core.proofs.Delivering.{sender-is, sender-low}
 use Rattle.node_core.proofs.Truncating.{truncation-left, truncation-marked, stand-as}

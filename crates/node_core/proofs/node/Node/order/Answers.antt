@@ -1,5 +1,4 @@
 use Rattle.std.proofs.Common.{◌≡◌, ◌∙◌, sym, ap, subst}
-use Rattle.dpc_model.specs.PartStands.{at_cursor}
 use Rattle.mill_work.specs.Milling.{OrderValue}
 use Rattle.fragment_mill.specs.Mills.{MillState}
 use Rattle.bucket_laws.specs.Series.{buckets_from}

@@ -1,4 +1,4 @@
-use Rattle.std.proofs.Common.{◌≡◌, ◌∙◌, true, false, sym, ap, subst}
+use Rattle.std.proofs.Common.{sym, subst}
 use Rattle.node_core.specs.Standing.{NodeValue, StandsForNode}
 use Rattle.node_core.specs.contracts.node.Node.{the_view}
 use Rattle.node_core.proofs.Readying.{none-ready, told-ready}

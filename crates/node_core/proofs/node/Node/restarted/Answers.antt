@@ -1,5 +1,4 @@
-use Rattle.std.proofs.Common.{rules, ◌≡◌, ℕ, List, ap, sym, length, ◌==◌, subst, Some, slice_get}
-use Rattle.dpc_model.specs.declared.plans.FragSpec.{FragSpec}
+use Rattle.std.proofs.Common.{rules, ◌≡◌, ℕ, length, subst}
 use Rattle.node_model.specs.Nodes.{Home}
 use Rattle.pipeline.specs.Flowing.{StandsForData}
 use Rattle.pipeline.specs.Recovery.{restarted_inputs, restarted_outputs}

@@ -1,9 +1,6 @@
-use Rattle.std.proofs.Common.{◌≡◌, ◌∙◌, ℕ, sym, ap, subst}
-use Rattle.node_model.specs.Mails.{Snap}
+use Rattle.std.proofs.Common.{sym, subst}
 use Rattle.node_model.specs.Nodes.{spec_of}
 use Rattle.node_model.specs.Views.{inputs_of, outputs_of}
-use Rattle.pipeline.specs.Recovery.{StandsForSnapshot, snap_of}
-use Rattle.node_laws.proofs.Viewed.{done-is}
 use Rattle.node_core.specs.Standing.{NodeValue, StandsForNode}
 use Rattle.node_core.specs.contracts.node.Node.{the_view}
 use Rattle.node_core.proofs.Recovering.{snapshot-stands}
