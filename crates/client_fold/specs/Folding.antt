@@ -1,5 +1,5 @@
 -- What contracts see of a client that forgot some of its stream, and how it stands for the plain one.
-use Rattle.std.specs.Prelude.{◌≡◌, ℕ, List, [], ◌∷◌, ◌++◌, length, map}
+use Rattle.std.specs.Prelude.{◌≡◌, ℕ, ◌+◌, List, [], ◌∷◌, ◌++◌, length, map}
 use Rattle.dpc_model.specs.Actors.{senders_of}
 use Rattle.dpc_model.specs.Inlets.{InletState, take_batch}
 use Rattle.dpc_model.specs.PartStands.{InletValue}
@@ -40,6 +40,13 @@ pub record StandsForClient (plan : Plan) (c : ℕ) (v : ClientValue) (x : Client
   pub end : v.end ≡ plan.end
   pub taken : v.taken ≡ x.taken
   pub clock : v.clock ≡ x.clock
+
+-- the clients from number c on, up to the plan's last one
+abbrev pub StandForClients : Plan → ℕ → List ClientValue → List ClientState → Type 0
+StandForClients plan c [] [] = c ≡ length plan.clients
+StandForClients plan c (v ∷ vs) (x ∷ xs) = StandsForClient plan c v x × StandForClients plan (c + 1) vs xs
+StandForClients plan c [] (x ∷ xs) = ⊥
+StandForClients plan c (v ∷ vs) [] = ⊥
 
 -- what a step makes of each plain client that it stood for it stands for afterwards
 abbrev pub Follows : (Plan → ℕ → ClientState → ClientState) → ClientValue → ClientValue → Type 0

@@ -1,6 +1,7 @@
 //! A client, and what it has.
 ghost use Rattle.std.specs.Prelude.{◌≡◌, ◌<◌, ◌≤◌, ℕ, length, IfOk};
 ghost use Rattle.dpc_model.specs.Actors.{senders_of};
+ghost use Rattle.dpc_model.specs.Reading.{is_settled};
 ghost use Rattle.dpc_model.specs.declared.plans.Plan.{Plan};
 ghost use Rattle.dpc_model.specs.declared.plans.TheConstants.{MOST_REPLICAS};
 ghost use Rattle.node_model.specs.Clients.{ClientState, client_stream, new_client, client_settled};
@@ -111,7 +112,8 @@ impl Client {
 
     /// Whether the whole stream was taken, and nothing of it may be corrected.
     pub fn settled(&self) -> bool
-        ensures { (plan : Plan) (c : ℕ) (x : ClientState) → StandsForClient plan c self.now x → result ≡ client_settled plan x }
+        ensures is { result ≡ is_settled self.now.end self.now.inlet.state.held }
+        ensures stands { (plan : Plan) (c : ℕ) (x : ClientState) → StandsForClient plan c self.now x → result ≡ client_settled plan x }
     {
         self.inlet.bound() == self.end && !self.inlet.unsure()
     }

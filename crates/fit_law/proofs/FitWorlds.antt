@@ -57,7 +57,7 @@ world-packets w most checked fine =
 run-of-plan : (plan : Plan) (events : List Event) → IsCheckedPlan plan → (run plan events).plan ≡ plan
 run-of-plan plan events checked = (run-good plan events checked).of_plan
 
-run-world : (plan : Plan) (events : List Event) → IsCheckedPlan plan → IsFineWorld (run plan events) (1 + length events)
+pub run-world : (plan : Plan) (events : List Event) → IsCheckedPlan plan → IsFineWorld (run plan events) (1 + length events)
 run-world plan events checked =
     let same = sym (run-of-plan plan events checked) in
     record {

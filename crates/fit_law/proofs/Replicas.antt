@@ -44,7 +44,7 @@ source-sender s (IsNode f r) h = cc
 source-sender s (IsClient c) h = cc
 source-sender s Nobody h = cc
 
-few-senders : (plan : Plan) (s : StreamRef) → HasFewReplicas plan → 0 < length (senders_of plan s) → length (senders_of plan s) ≤ MOST_REPLICAS
+pub few-senders : (plan : Plan) (s : StreamRef) → HasFewReplicas plan → 0 < length (senders_of plan s) → length (senders_of plan s) ≤ MOST_REPLICAS
 few-senders plan (Source s) few some =
     let test = sends_stream (Source s) in
     let role = source-sender s (role_of plan (nth 0 (senders_of plan (Source s)) 0)) (all-nth (λ a. test (role_of plan a)) 0 (senders_of plan (Source s)) 0 some (actors-pass test plan)) in

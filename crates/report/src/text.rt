@@ -74,7 +74,7 @@ fn put_item(text: &mut Vec<u8>, item: &Item) -> Result<(), NoMemory>
 
 /// One line for each item.
 #[tactic(auto, using(line_writer::proofs::Kept::kept_behind, line_writer::proofs::Kept::kept_then))]
-fn put_items(text: &mut Vec<u8>, items: &[Item]) -> Result<(), NoMemory>
+pub fn put_items(text: &mut Vec<u8>, items: &[Item]) -> Result<(), NoMemory>
     ensures put { OnOk result (text.new.items ≡ text.old.items ++ text_of (map item_words items.now)) }
     ensures kept { OnErr result (StartsWith text.new.items text.old.items) }
 {
@@ -87,7 +87,7 @@ fn put_items(text: &mut Vec<u8>, items: &[Item]) -> Result<(), NoMemory>
 
 /// The line of a client's name.
 #[tactic(auto, using(line_writer::proofs::Kept::kept_behind, line_writer::proofs::Kept::kept_then))]
-fn put_name(text: &mut Vec<u8>, name: &[u8]) -> Result<(), NoMemory>
+pub fn put_name(text: &mut Vec<u8>, name: &[u8]) -> Result<(), NoMemory>
     ensures put { OnOk result (text.new.items ≡ text.old.items ++ line_of (codes "client" ∷ name.now ∷ [])) }
     ensures kept { OnErr result (StartsWith text.new.items text.old.items) }
 {

@@ -1,0 +1,129 @@
+//! The world of a run.
+ghost use Rattle.std.specs.Prelude.{◌≡◌, ◌↔◌, ℕ, [], ◌∷◌, ◌++◌, true, false, Err, IfOk, OnOk, OnErr};
+ghost use Rattle.world_model.specs.Worlds.{passes_limit};
+ghost use Rattle.fit_law.specs.Fits.{CanRun};
+ghost use Rattle.world_parts.specs.Events.{IsSomeWorld, Happened, WouldPass};
+ghost use Rattle.world_parts.specs.declared.faults.EventFault.TheVariants as part_fault;
+ghost use Rattle.world_core.specs.Runs.{world_of, WouldReach};
+ghost use Rattle.world_core.specs.declared.faults.ApplyFault.TheVariants as fault;
+
+use crate::faults::ApplyFault;
+use dpc_model::faults::NoMemory;
+use dpc_model::messages::Event;
+use dpc_model::plans::Plan;
+use std::alloc::Global;
+use std::marker::Model;
+use world_parts::faults::EventFault;
+use world_parts::parts::Parts;
+
+mod telling;
+
+/// A run: what stands is what its events make of the opening, one after another. An event that wants
+/// memory, or would pass a limit of runs, leaves it spent. Contracts see a `RunOf`.
+#[derive(Drop)]
+pub struct World {
+    plan: Plan,
+    parts: Parts,
+    events: Vec<Event>,
+    spent: bool,
+}
+
+impl Model for World {
+    ghost use Rattle.std.specs.Prelude.{◌≡◌, false};
+    ghost use Rattle.std.specs.Coded.{codes};
+    ghost use Rattle.dpc_model.specs.FormulaCode.{coded_formula};
+    ghost use Rattle.world_model.specs.Worlds.{run};
+    ghost use Rattle.fit_law.specs.Fits.{CanRun};
+    ghost use Rattle.world_parts.specs.Parts.{StandsForWorld};
+    ghost use Rattle.world_core.specs.Runs.{RunOf};
+
+    ghost Value = { RunOf };
+
+    ghost coded = { Prim.hlevel (codes, coded_formula) };
+
+    ghost view = { λ w. record { plan = w.plan; events = w.events.items; spent = w.spent } };
+
+    ghost invariant = { λ w. CanRun w.plan × (w.spent ≡ false → StandsForWorld w.plan w.parts (run w.plan w.events.items)) };
+}
+
+/// What an event makes of all actors and envelopes.
+fn happen(alloc: Global, plan: &Plan, parts: &mut Parts, e: Event) -> Result<(), EventFault>
+    requires plan { CanRun plan.now }
+    requires some { IsSomeWorld plan.now parts.old }
+    ensures ok { OnOk result (Happened plan.now parts.old parts.new e) }
+    ensures long { (envelopes items : ℕ) → result ≡ Err (part_fault.TooLong envelopes items) → WouldPass plan.now parts.old e envelopes items }
+{
+    match e {
+        Event::Phase(number) => parts.open_phase(plan, number),
+        Event::Emit(actor, time) => parts.emit(alloc, plan, actor, time)?,
+        Event::Release(actor, time) => parts.release(alloc, plan, actor, time)?,
+        Event::Cut(a, b) => parts.cut(plan, a, b)?,
+        Event::Heal(a, b) => parts.heal(plan, a, b),
+        Event::Crash(actor) => parts.crash(plan, actor),
+        Event::Restart(actor, inc) => parts.restart(alloc, plan, actor, inc)?,
+        Event::Deliver(k) => parts.deliver(alloc, plan, k)?,
+        Event::Tick(actor, now) => parts.tick(alloc, plan, actor, now)?,
+        Event::Mill(actor, count) => parts.mill(alloc, plan, actor, count)?,
+    }
+    Ok(())
+}
+
+impl World {
+    /// No event happened yet.
+    pub fn new(alloc: Global, plan: Plan) -> Result<World, NoMemory>
+        requires { CanRun plan }
+        ensures { IfOk result (λ w. w ≡ record { plan = plan; events = []; spent = false }) }
+    {
+        let parts = Parts::new(alloc, &plan)?;
+        Ok(World {
+            plan,
+            parts,
+            events: Vec::new(alloc),
+            spent: false,
+        })
+    }
+
+    /// One more event happens. Where it wants memory, or would pass a limit, the world is spent, and its
+    /// events are those that were.
+    pub fn apply(&mut self, alloc: Global, e: Event) -> Result<(), ApplyFault>
+        ensures ok { OnOk result (self.new ≡ record self.old { events = self.old.events ++ e ∷ [] }) }
+        ensures within { OnOk result (passes_limit (world_of self.old) e ≡ false) }
+        ensures long { (envelopes items : ℕ) → result ≡ Err (fault.TooLong envelopes items) → WouldReach (world_of self.old) e envelopes items }
+        ensures err { OnErr result (self.new ≡ record self.old { spent = true }) }
+        ensures spent { result ≡ Err fault.Spent ↔ self.old.spent ≡ true }
+    {
+        if self.spent {
+            return Err(ApplyFault::Spent);
+        }
+        // spent, but where all goes well
+        self.spent = true;
+        self.events.reserve(1)?;
+        happen(alloc, &self.plan, &mut self.parts, e)?;
+        let Ok(()) = self.events.push(e) else {
+            unreachable!()
+        };
+        self.spent = false;
+        Ok(())
+    }
+
+    /// The plan.
+    pub fn plan(&self) -> &Plan
+        ensures { result.now ≡ self.now.plan }
+    {
+        &self.plan
+    }
+
+    /// The events in order.
+    pub fn journal(&self) -> &[Event]
+        ensures { result.now ≡ self.now.events }
+    {
+        self.events.as_slice()
+    }
+
+    /// Whether an earlier event wanted memory, or would have passed a limit.
+    pub fn is_spent(&self) -> bool
+        ensures { result ≡ self.now.spent }
+    {
+        self.spent
+    }
+}

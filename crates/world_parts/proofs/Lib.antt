@@ -1,0 +1,17 @@
+pub mod Posting
+pub mod Sources
+pub mod SourceEvents
+pub mod NodePlaces
+pub mod NodeEvents
+pub mod NodeLeads
+pub mod NodeCalls
+pub mod PartFrames
+pub mod CutLinks
+pub mod Arrivals
+pub mod ClientPlaces
+pub mod ClientTicks
+pub mod NobodyTicks
+pub mod NewParts
+pub mod SlotPlaces
+pub mod EnvelopeEnds
+pub mod SettledClients

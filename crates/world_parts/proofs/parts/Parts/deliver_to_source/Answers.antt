@@ -1,0 +1,64 @@
+use Rattle.std.proofs.Common.{ap, sym, length, arith, ◌∙◌}
+use Rattle.dpc_model.specs.declared.messages.Event.TheVariants.{Deliver}
+use Rattle.node_model.specs.Sources.{source_message}
+use Rattle.world_parts.specs.Parts.{PartsValue, EnvelopeValue}
+use Rattle.world_parts.proofs.Posting.{envelope-seen}
+use Rattle.world_parts.proofs.Sources.{source-low, source-here, source-of, step-ok, step-would}
+use Rattle.world_parts.proofs.SourceEvents.{deliver-step, no-snapshot}
+use Rattle.world_parts.proofs.parts.Parts.deliver_to_source.Goals as goal
+
+pub returns-in_default-clause-ok : goal.returns-in_default-clause-ok
+returns-in_default-clause-ok c =
+    let comes = c.requires.comes in
+    let plain = no-snapshot c.args.plan.now c.args.self.now c.args.k c.args.source c.requires.some comes in
+    let read = c.envelope.view_is ∙ envelope-seen c.args.self.now _ c.args.k comes.envelope c.index-envelope.result.now c.self.view_is comes.is c.index-envelope.ensures in
+    absurd (c.in_default.not-Plain plain.0 (ap (λ (e : EnvelopeValue). e.packet) read ∙ plain.1))
+
+pub index_mut-requires : goal.index_mut-requires
+index_mut-requires c =
+    let low = source-low c.args.plan.now c.args.self.now c.requires.comes.envelope.to c.args.source c.requires.some c.requires.comes.to in
+    let same = ap (λ (v : PartsValue). length v.sources) c.self.view_is in omega (arith, low, same, c.self.inside.sources.ok)
+
+pub deliver-requires : goal.deliver-requires
+deliver-requires c =
+    let plan = c.args.plan.now in
+    let old = c.args.self.now in
+    let s = c.args.source in
+    let v = c.index_mut.result.now in
+    source-of plan old s v c.requires.some (source-here plan old _ c.requires.comes.envelope.to s v c.requires.some c.requires.comes.to c.self.view_is c.index_mut.ensures.value)
+
+pub returns-clause-ok : goal.returns-clause-ok
+returns-clause-ok c =
+    let plan = c.args.plan.now in
+    let old = c.args.self.now in
+    let k = c.args.k in
+    let s = c.args.source in
+    let sender = c.envelope.inside.sender in
+    let a = c.envelope.inside.to in
+    let m = c.in-Plain.message in
+    let v = c.index_mut.result.now in
+    let outs = c.in_ok-outs.outs.items in
+    let comes = c.requires.comes in
+    let read = sym (c.envelope.view_is ∙ envelope-seen old _ k comes.envelope c.index-envelope.result.now c.self.view_is comes.is c.index-envelope.ensures) in
+    let did = deliver-step plan old _ k s sender a m v outs c.requires.some comes (ap (λ (e : EnvelopeValue). e.sender) read) (ap (λ (e : EnvelopeValue). e.to) read) (ap (λ (e : EnvelopeValue). e.packet) read ∙ c.in-Plain.is)
+    c.self.view_is c.index_mut.ensures.value c.in_ok-outs.ensures.sends in
+    step-ok plan old _ c.post.new.self a s (Deliver k) (λ y. source_message plan v.number sender m y) v c.deliver.new.self outs c.in_ok-mails.mails.items c.post.result c.self.view_is did c.in_ok-outs.ensures.after c.in_ok-mails.ensures
+    c.post.ensures.ok c.post.ensures.within
+
+pub returns-clause-long : goal.returns-clause-long
+returns-clause-long c = λ envelopes items long.
+    let plan = c.args.plan.now in
+    let old = c.args.self.now in
+    let k = c.args.k in
+    let s = c.args.source in
+    let sender = c.envelope.inside.sender in
+    let a = c.envelope.inside.to in
+    let m = c.in-Plain.message in
+    let v = c.index_mut.result.now in
+    let outs = c.in_ok-outs.outs.items in
+    let comes = c.requires.comes in
+    let read = sym (c.envelope.view_is ∙ envelope-seen old _ k comes.envelope c.index-envelope.result.now c.self.view_is comes.is c.index-envelope.ensures) in
+    let did = deliver-step plan old _ k s sender a m v outs c.requires.some comes (ap (λ (e : EnvelopeValue). e.sender) read) (ap (λ (e : EnvelopeValue). e.to) read) (ap (λ (e : EnvelopeValue). e.packet) read ∙ c.in-Plain.is)
+    c.self.view_is c.index_mut.ensures.value c.in_ok-outs.ensures.sends in
+    step-would plan old _ a s (Deliver k) (λ y. source_message plan v.number sender m y) v c.deliver.new.self outs c.in_ok-mails.mails.items envelopes items c.self.view_is did c.in_ok-outs.ensures.after c.in_ok-mails.ensures
+    (c.post.ensures.long envelopes items long)

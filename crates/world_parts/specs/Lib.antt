@@ -1,0 +1,6 @@
+pub mod Counting
+pub mod Events
+pub mod Opening
+pub mod Parts
+pub mod Slots
+pub mod Telling

@@ -1,0 +1,82 @@
+//! A node that is up mills, takes what comes, and ticks.
+ghost use Rattle.std.specs.Prelude.{◌≡◌, ℕ, Err, OnOk};
+ghost use Rattle.dpc_model.specs.Actors.{role_of};
+ghost use Rattle.dpc_model.specs.declared.actors.Role.TheVariants.{Node as IsNode};
+ghost use Rattle.dpc_model.specs.declared.messages.Event.TheVariants as event;
+ghost use Rattle.world_parts.specs.declared.faults.EventFault.TheVariants as fault;
+ghost use Rattle.fit_law.specs.Fits.{CanRun};
+ghost use Rattle.world_parts.specs.Events.{IsSomeWorld, IsComing, Happened, WouldPass};
+
+use crate::faults::EventFault;
+use crate::parts::Parts;
+use dpc_model::actors::{Role, role_of};
+use dpc_model::plans::Plan;
+use std::alloc::Global;
+
+impl Parts {
+    /// A node processes so many ready buckets.
+    pub fn mill(
+        &mut self,
+        alloc: Global,
+        plan: &Plan,
+        actor: u64,
+        count: u64,
+    ) -> Result<(), EventFault>
+        requires plan { CanRun plan.now }
+        requires some { IsSomeWorld plan.now self.old }
+        ensures ok { OnOk result (Happened plan.now self.old self.new (event.Mill actor count)) }
+        ensures long { (envelopes items : ℕ) → result ≡ Err (fault.TooLong envelopes items) → WouldPass plan.now self.old (event.Mill actor count) envelopes items }
+    {
+        let place = self.node_place(plan, actor);
+        if let Role::Node(_, _) = role_of(plan, actor) {
+            let mails = self.nodes[place].mill(alloc, count)?;
+            self.post(actor, mails)?;
+        }
+        Ok(())
+    }
+
+    /// Envelope number k comes to that replica of a fragment, where it is up.
+    pub(crate) fn deliver_to_node(
+        &mut self,
+        alloc: Global,
+        plan: &Plan,
+        k: usize,
+        frag: u64,
+        replica: u64,
+    ) -> Result<(), EventFault>
+        requires plan { CanRun plan.now }
+        requires some { IsSomeWorld plan.now self.old }
+        requires comes { IsComing plan.now self.old k (IsNode frag replica) }
+        ensures ok { OnOk result (Happened plan.now self.old self.new (event.Deliver k)) }
+        ensures long { (envelopes items : ℕ) → result ≡ Err (fault.TooLong envelopes items) → WouldPass plan.now self.old (event.Deliver k) envelopes items }
+    {
+        let to = self.envelopes[k].to;
+        let place = self.node_place(plan, to);
+        let envelope = &self.envelopes[k];
+        let mails = self.nodes[place].deliver(alloc, envelope.sender, &envelope.packet)?;
+        self.post(to, mails)?;
+        Ok(())
+    }
+
+    /// That replica of a fragment ticks, where it is up and its clock does not fall.
+    pub(crate) fn tick_node(
+        &mut self,
+        alloc: Global,
+        plan: &Plan,
+        actor: u64,
+        frag: u64,
+        replica: u64,
+        now: u64,
+    ) -> Result<(), EventFault>
+        requires plan { CanRun plan.now }
+        requires some { IsSomeWorld plan.now self.old }
+        requires role { role_of plan.now actor ≡ IsNode frag replica }
+        ensures ok { OnOk result (Happened plan.now self.old self.new (event.Tick actor now)) }
+        ensures long { (envelopes items : ℕ) → result ≡ Err (fault.TooLong envelopes items) → WouldPass plan.now self.old (event.Tick actor now) envelopes items }
+    {
+        let place = self.node_place(plan, actor);
+        let mails = self.nodes[place].tick(alloc, now)?;
+        self.post(actor, mails)?;
+        Ok(())
+    }
+}

@@ -1,0 +1,52 @@
+//! A node crashes, and restarts.
+ghost use Rattle.std.specs.Prelude.{◌≡◌, OnOk};
+ghost use Rattle.dpc_model.specs.declared.messages.Event.TheVariants as event;
+ghost use Rattle.world_model.specs.Worlds.{node_place};
+ghost use Rattle.fit_law.specs.Fits.{CanRun};
+ghost use Rattle.world_parts.specs.Events.{IsSomeWorld, Happened};
+
+use crate::parts::Parts;
+use dpc_model::actors::{Role, role_of};
+use dpc_model::faults::NoMemory;
+use dpc_model::plans::Plan;
+use std::alloc::Global;
+
+impl Parts {
+    /// The place of a node among the nodes.
+    pub(crate) fn node_place(&self, plan: &Plan, actor: u64) -> usize
+        ensures { result ≡ node_place plan.now actor }
+    {
+        (actor as usize).saturating_sub(plan.sources.len())
+    }
+
+    /// A node loses all that it has.
+    pub fn crash(&mut self, plan: &Plan, actor: u64)
+        requires plan { CanRun plan.now }
+        requires some { IsSomeWorld plan.now self.old }
+        ensures { Happened plan.now self.old self.new (event.Crash actor) }
+    {
+        if let Role::Node(_, _) = role_of(plan, actor) {
+            let place = self.node_place(plan, actor);
+            self.nodes[place].crash();
+        }
+    }
+
+    /// A node that is down begins anew, with a later incarnation than its last one.
+    pub fn restart(
+        &mut self,
+        alloc: Global,
+        plan: &Plan,
+        actor: u64,
+        inc: u64,
+    ) -> Result<(), NoMemory>
+        requires plan { CanRun plan.now }
+        requires some { IsSomeWorld plan.now self.old }
+        ensures { OnOk result (Happened plan.now self.old self.new (event.Restart actor inc)) }
+    {
+        if let Role::Node(frag, replica) = role_of(plan, actor) {
+            let place = self.node_place(plan, actor);
+            self.nodes[place].restart(alloc, plan, frag, replica, inc)?;
+        }
+        Ok(())
+    }
+}
