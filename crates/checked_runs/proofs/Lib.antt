@@ -1,1 +1,3 @@
 pub mod Plans
+pub mod Lines
+pub mod Names

@@ -1,6 +1,6 @@
 -- From what engines rely on to what a run asks of its plan.
-use Rattle.std.proofs.Common.{◌≡◌, ◌≤◌, ◌<◌, ◌^◌, ℕ, zero, suc, true, List, [], ◌∷◌, length, arith}
-use Rattle.std.specs.Prelude.{◌&&◌, nat_le, slice_index_or}
+use Rattle.std.proofs.Common.{◌≡◌, ◌≤◌, ◌<◌, ℕ, zero, suc, true, List, [], ◌∷◌, length, arith}
+use Rattle.std.specs.Prelude.{nat_le, slice_index_or}
 use Rattle.std.proofs.lemmas.Bool.{and_parts, leb-true}
 use Rattle.dpc_model.specs.Lists.{list_all}
 use Rattle.dpc_model.specs.declared.plans.FragSpec.{FragSpec}

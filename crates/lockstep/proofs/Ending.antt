@@ -1,0 +1,140 @@
+-- The whole run of a script.
+use Rattle.std.proofs.Common.{◌≡◌, ℕ, ◌+◌, Bool, true, false, cond, List, [], map, length, refl, sym, ap, subst, ◌∙◌, arith, Option, Some, None, Result, Err}
+use Rattle.std.specs.Prelude.{reverse, fold}
+use Rattle.std.specs.Result.{IsErr, IsErrAnd}
+use Rattle.std.proofs.lemmas.Result.{err_from_is_err_and}
+use Rattle.dpc_model.specs.declared.messages.Event.{Event}
+use Rattle.dpc_model.specs.declared.plans.Plan.{Plan}
+use Rattle.dpc_model.specs.declared.scripts.Phase.{Phase as PhaseSpec}
+use Rattle.dpc_model.specs.declared.scripts.Script.{Script}
+use Rattle.world_model.specs.Worlds.{Sums, new_world, run}
+use Rattle.world_model.specs.Schedules.{Told, tell_phases, tell_quiet, tell_rest, lockstep, lock_of, quiet_limit, last_clock}
+use Rattle.world_core.specs.Runs.{RunOf, excess}
+use Rattle.lockstep.specs.Locking.{IsAt, Follows, Exceeds}
+use Rattle.lockstep.specs.declared.phase.Lock.{Lock}
+use Rattle.lockstep.specs.declared.faults.RunFault.{RunFault}
+use Rattle.lockstep.specs.declared.faults.RunFault.TheVariants.{TooLong}
+use Rattle.lockstep.proofs.Standing.{Grows, grows-nothing, exceeds-more}
+use Rattle.lockstep.proofs.Phasing.{grows-quiet}
+
+-- ---- the opening
+
+abbrev pub opening : Plan → RunOf
+opening plan = record { plan = plan; events = []; spent = false }
+
+abbrev start : Plan → Told
+start plan = record { world = new_world plan; events = [] }
+
+start-stands : (plan : Plan) → IsAt (opening plan) (start plan)
+unfolding run
+start-stands plan = record { live = refl; world = refl; events = refl; within = refl }
+
+-- ---- the end
+
+pub record Ends (script : Script) (w : RunOf) : Type 0 where
+  pub is : w ≡ record { plan = script.plan; events = lock_of script; spent = false }
+  pub within : excess script.plan (lock_of script) ≡ None
+
+-- the phases, from the first envelope and the start
+abbrev phases_of : Script → Told → ℕ × Told
+phases_of script x = tell_phases 1 0 script.phases x
+
+abbrev pub phased : Script → Told → Told
+phased script x = (phases_of script x).1
+
+ends : (script : Script) (w : RunOf) → w.plan ≡ script.plan → IsAt w (tell_rest script (phases_of script (start script.plan))) → Ends script w
+unfolding lockstep lock_of
+ends script w same at =
+    record {
+      is = ap (λ (plan : Plan). record w { plan = plan }) same ∙ ap (λ (es : List Event). record { plan = script.plan; events = es; spent = w.spent }) (sym at.events)
+          ∙ ap (λ (b : Bool). record { plan = script.plan; events = reverse (tell_rest script (phases_of script (start script.plan))).events; spent = b }) at.live;
+      within = ap (λ (es : List Event). excess script.plan es) at.events ∙ ap (λ (plan : Plan). excess plan w.events) (sym same) ∙ at.within;
+    }
+
+abbrev rest_of : Bool → Script → ℕ × Told → Told
+rest_of b script z = cond b (tell_quiet (quiet_limit script.plan) (length script.phases + 1) z.0 (last_clock script + 1) z.1) z.1
+
+-- what the phases of a script make of a run so far
+pub record ArePhases (specs : List PhaseSpec) (old new : Lock) : Type 0 where
+  pub follows : Follows (λ x. (tell_phases old.phase old.first specs x).1) old.world new.world
+  pub number : new.phase ≡ old.phase + length specs
+  pub sent : (x : Told) → IsAt old.world x → (tell_phases old.phase old.first specs x).0 ≡ new.first
+  pub clock : new.now ≡ fold (λ _ now. now) old.now (map (λ (p : PhaseSpec). p.now) specs)
+
+abbrev pub first_lock : Plan → Lock
+first_lock plan = record { world = opening plan; phase = 1; first = 0; now = 0 }
+
+-- they are those of the script, from the first one on
+pub of-script : (script : Script) (specs : List PhaseSpec) (w : RunOf) (old new : Lock) → w ≡ opening script.plan → old ≡ record { world = w; phase = 1; first = 0; now = 0 } → specs ≡ script.phases →
+    ArePhases specs old new → ArePhases script.phases (first_lock script.plan) new
+of-script script specs w old new opened begun same a =
+    let whole : old ≡ first_lock script.plan = begun ∙ ap (λ (w : RunOf). record { world = w; phase = 1; first = 0; now = 0 }) opened in
+    subst (λ (l : Lock). ArePhases script.phases l new) whole (subst (λ (ss : List PhaseSpec). ArePhases ss old new) same a)
+
+pub plain-ends : (script : Script) (new : Lock) → script.settle ≡ false → ArePhases script.phases (first_lock script.plan) new → Ends script new.world
+plain-ends script new plain a =
+    ends script new.world a.follows.plan
+    (subst (λ (t : Bool). IsAt new.world (rest_of t script (phases_of script (start script.plan)))) (sym plain) (a.follows.after (start script.plan) (start-stands script.plan)))
+
+quiet-way : (script : Script) (limit : ℕ) (new : Lock) → limit ≡ quiet_limit script.plan → ArePhases script.phases (first_lock script.plan) new →
+    tell_quiet limit new.phase new.first (new.now + 1) (phased script (start script.plan)) ≡ rest_of true script (phases_of script (start script.plan))
+quiet-way script limit new most a =
+    let number : new.phase ≡ length script.phases + 1 = omega (arith, a.number) in
+    let x : Told = phased script (start script.plan) in
+    ap (λ (n : ℕ). tell_quiet n new.phase new.first (new.now + 1) x) most ∙ ap (λ (n : ℕ). tell_quiet (quiet_limit script.plan) n new.first (new.now + 1) x) number
+    ∙ ap (λ (n : ℕ). tell_quiet (quiet_limit script.plan) (length script.phases + 1) n (new.now + 1) x) (sym (a.sent (start script.plan) (start-stands script.plan)))
+    ∙ ap (λ (n : ℕ). tell_quiet (quiet_limit script.plan) (length script.phases + 1) (phases_of script (start script.plan)).0 (n + 1) x) a.clock
+
+pub settled-ends : (script : Script) (limit : ℕ) (new : Lock) (last : RunOf) → limit ≡ quiet_limit script.plan → script.settle ≡ true → ArePhases script.phases (first_lock script.plan) new →
+    Follows (tell_quiet limit new.phase new.first (new.now + 1)) new.world last → Ends script last
+settled-ends script limit new last most settles a q =
+    let at : IsAt last (tell_quiet limit new.phase new.first (new.now + 1) (phased script (start script.plan))) =
+    q.after (phased script (start script.plan)) (a.follows.after (start script.plan) (start-stands script.plan)) in
+    ends script last (q.plan ∙ a.follows.plan)
+    (subst (λ (t : Bool). IsAt last (rest_of t script (phases_of script (start script.plan)))) (sym settles) (subst (λ (x : Told). IsAt last x) (quiet-way script limit new most a) at))
+
+-- ---- a fault
+
+abbrev reached : ℕ → ℕ → Option Sums
+reached envelopes items = Some (record { envelopes = envelopes; items = items })
+
+excess-of : (script : Script) (x : Told) (envelopes items : ℕ) → x ≡ tell_rest script (phases_of script (start script.plan)) → excess script.plan (reverse x.events) ≡ reached envelopes items →
+    excess script.plan (lock_of script) ≡ reached envelopes items
+unfolding lockstep lock_of
+excess-of script x envelopes items is h = ap (λ (y : Told). excess script.plan (reverse y.events)) (sym is) ∙ h
+
+grows-rest : (script : Script) (t : Bool) (first : ℕ) → Grows (λ x. rest_of t script (first, x))
+grows-rest script true first = grows-quiet (quiet_limit script.plan) (length script.phases + 1) first (last_clock script + 1)
+grows-rest script false first = grows-nothing
+
+pub phases-excess : (script : Script) (specs : List PhaseSpec) (w : RunOf) (old : Lock) (fault : RunFault) → w ≡ opening script.plan → old ≡ record { world = w; phase = 1; first = 0; now = 0 } → specs ≡ script.phases →
+    Exceeds (λ x. (tell_phases old.phase old.first specs x).1) old.world fault → (envelopes items : ℕ) → fault ≡ TooLong envelopes items → excess script.plan (lock_of script) ≡ reached envelopes items
+phases-excess script specs w old fault opened begun same h envelopes items is =
+    let whole : old ≡ first_lock script.plan = begun ∙ ap (λ (w : RunOf). record { world = w; phase = 1; first = 0; now = 0 }) opened in
+    let told : Exceeds (λ x. (tell_phases old.phase old.first specs x).1) old.world (TooLong envelopes items) = subst (λ (f : RunFault). Exceeds (λ x. (tell_phases old.phase old.first specs x).1) old.world f) is h in
+    let past : Exceeds (phased script) (opening script.plan) (TooLong envelopes items) =
+    subst (λ (l : Lock). Exceeds (λ x. (tell_phases l.phase l.first script.phases x).1) l.world (TooLong envelopes items)) whole
+    (subst (λ (ss : List PhaseSpec). Exceeds (λ x. (tell_phases old.phase old.first ss x).1) old.world (TooLong envelopes items)) same told) in
+    let first = (phases_of script (start script.plan)).0 in
+    excess-of script (rest_of script.settle script (first, phased script (start script.plan))) envelopes items refl
+    (exceeds-more (phased script) (λ x. rest_of script.settle script (first, x)) (opening script.plan) (TooLong envelopes items) (grows-rest script script.settle first) past (start script.plan)
+    (start-stands script.plan))
+
+pub settle-excess : (script : Script) (limit : ℕ) (new : Lock) (fault : RunFault) → limit ≡ quiet_limit script.plan → script.settle ≡ true → ArePhases script.phases (first_lock script.plan) new →
+    Exceeds (tell_quiet limit new.phase new.first (new.now + 1)) new.world fault → (envelopes items : ℕ) → fault ≡ TooLong envelopes items → excess script.plan (lock_of script) ≡ reached envelopes items
+settle-excess script limit new fault most settles a h envelopes items is =
+    let x = phased script (start script.plan) in
+    let told : Exceeds (tell_quiet limit new.phase new.first (new.now + 1)) new.world (TooLong envelopes items) = subst (λ (f : RunFault). Exceeds (tell_quiet limit new.phase new.first (new.now + 1)) new.world f) is h in
+    let past : excess new.world.plan (reverse (tell_quiet limit new.phase new.first (new.now + 1) x).events) ≡ reached envelopes items = told x (a.follows.after (start script.plan) (start-stands script.plan)) in
+    excess-of script (tell_quiet limit new.phase new.first (new.now + 1) x) envelopes items
+    (quiet-way script limit new most a ∙ ap (λ (t : Bool). rest_of t script (phases_of script (start script.plan))) (sym settles))
+    (ap (λ (plan : Plan). excess plan (reverse (tell_quiet limit new.phase new.first (new.now + 1) x).events)) (sym a.follows.plan) ∙ past)
+
+-- the exit of a `?`
+pub raised-past : {X : Type 0} (r : Result X RunFault) (fault : RunFault) (plan : Plan) (es : List Event) → IsErr r × IsErrAnd r (λ e. e ≡ fault) →
+    ((envelopes items : ℕ) → fault ≡ TooLong envelopes items → excess plan es ≡ Some (record { envelopes = envelopes; items = items })) →
+    (envelopes items : ℕ) → r ≡ Err (TooLong envelopes items) → excess plan es ≡ Some (record { envelopes = envelopes; items = items })
+raised-past {X} r fault plan es is h envelopes items e =
+    let p = err_from_is_err_and r is.1 in
+    let same : ◌≡◌ {A = Result X RunFault} (Err p.0) (Err (TooLong envelopes items)) = sym p.1 ∙ e in
+    h envelopes items (sym p.2 ∙ cc)

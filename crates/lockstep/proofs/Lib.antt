@@ -1,0 +1,5 @@
+mod Counting
+mod Excess
+mod Standing
+mod Phasing
+mod Ending

@@ -1,0 +1,8 @@
+use Rattle.std.proofs.Common.{take}
+use Rattle.std.specs.Prelude.{fold}
+use Rattle.world_model.specs.Schedules.{tell_directive}
+use Rattle.lockstep.specs.Locking.{Follows}
+use Rattle.lockstep.proofs.telling.direct_all.Given as goal
+
+abbrev pub invariant-loop-directive : goal.invariant-loop-directive
+invariant-loop-directive l = Follows (λ x. fold tell_directive x (take l.directive-index l.directives)) l.initial.world l.world

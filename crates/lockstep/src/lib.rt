@@ -1,0 +1,9 @@
+//! The one-thread schedule of a script.
+#![tactic(auto)]
+
+mod deliveries;
+mod events;
+pub mod faults;
+pub mod lock;
+mod phase;
+mod telling;

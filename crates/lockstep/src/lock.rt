@@ -1,0 +1,57 @@
+//! The run of a script by one thread.
+ghost use Rattle.std.specs.Prelude.{◌≡◌, ℕ, false, Some, None, Err, IfOk, fold, map, max};
+ghost use Rattle.dpc_model.specs.declared.plans.Plan.{Plan};
+ghost use Rattle.world_model.specs.Schedules.{quiet_limit, lock_of};
+ghost use Rattle.fit_law.specs.Fits.{CanRun};
+ghost use Rattle.world_core.specs.Runs.{excess};
+ghost use Rattle.lockstep.specs.declared.faults.RunFault.TheVariants as fault;
+
+use crate::faults::RunFault;
+use crate::phase::Lock;
+use dpc_model::plans::{FragSpec, Plan};
+use dpc_model::scripts::Script;
+use std::alloc::Global;
+use world_core::world::World;
+
+/// The most replicas of a fragment.
+fn most_replicas(frags: &[FragSpec]) -> u64
+    ensures { result ≡ fold max 0 (map (λ f. f.replicas) frags.now) }
+{
+    let mut most: u64 = 0;
+    for frag in frags {
+        most = most.max(frag.replicas);
+    }
+    most
+}
+
+/// The most quiet phases of a run.
+fn quiet_limit(plan: &Plan) -> u128
+    ensures { result ≡ quiet_limit plan.now }
+{
+    let frags = plan.frags.as_slice();
+    (frags.len() as u128 + 1) * (most_replicas(frags) as u128 + 1) * 38
+}
+
+/// The world after the one-thread journal of a script, quiet phases included; or the numbers that its
+/// first event past a limit of runs would reach. Time is linear in the events, and in each phase in the
+/// actors, the directives and the envelopes that are pending.
+pub fn run(alloc: Global, script: Script) -> Result<World, RunFault>
+    requires { CanRun script.plan }
+    ensures ok { IfOk result (λ w. w ≡ record { plan = script.plan; events = lock_of script; spent = false }) }
+    ensures within { IfOk result (λ w. excess script.plan (lock_of script) ≡ None) }
+    ensures long { (envelopes items : ℕ) → result ≡ Err (fault.TooLong envelopes items)
+        → excess script.plan (lock_of script) ≡ Some (record { envelopes = envelopes; items = items }) }
+{
+    let limit = quiet_limit(&script.plan);
+    let Script {
+        plan,
+        phases,
+        settle,
+    } = script;
+    let mut lock = Lock::new(World::new(alloc, plan)?);
+    lock.phases(alloc, phases.as_slice())?;
+    if settle {
+        lock.settle(alloc, limit)?;
+    }
+    Ok(lock.world)
+}

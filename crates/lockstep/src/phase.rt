@@ -1,0 +1,96 @@
+//! A run so far, and its phases.
+ghost use Rattle.std.specs.Prelude.{◌≡◌, ◌+◌, false, fold, length, map, OnOk, IfErr};
+ghost use Rattle.world_model.specs.Schedules.{tell_phase, tell_phases, tell_quiet, Told};
+ghost use Rattle.world_core.specs.Runs.{world_of};
+ghost use Rattle.lockstep.specs.Locking.{IsAt, Follows, Exceeds};
+
+use crate::events::phase_events;
+use crate::faults::RunFault;
+use crate::telling::{direct_all, tell, tell_all};
+use dpc_model::messages::Event;
+use dpc_model::scripts::{Directive, Phase};
+use std::alloc::Global;
+use world_core::world::World;
+
+/// A run so far. Each phase hands over the envelopes that were sent since the one before it began.
+#[derive(Drop)]
+pub struct Lock {
+    pub world: World,
+    /// The number of the next phase.
+    phase: u64,
+    /// The first envelope that was sent since the last phase began.
+    first: u64,
+    /// The clock of the last phase, 0 before the first one.
+    now: u64,
+}
+
+impl Lock {
+    /// Before the first phase.
+    pub fn new(world: World) -> Lock
+        ensures { result ≡ record { world = world; phase = 1; first = 0; now = 0 } }
+    {
+        Lock {
+            world,
+            phase: 1,
+            first: 0,
+            now: 0,
+        }
+    }
+
+    /// The next phase.
+    pub fn phase(
+        &mut self,
+        alloc: Global,
+        directives: &[Directive],
+        now: u64,
+    ) -> Result<(), RunFault>
+        requires { self.old.world.spent ≡ false }
+        ensures ok { OnOk result (Follows (tell_phase self.old.phase self.old.first directives.now now) self.old.world self.new.world) }
+        ensures phase { OnOk result (self.new.phase ≡ self.old.phase + 1) }
+        ensures first { OnOk result (self.new.first ≡ length (world_of self.old.world).envelopes) }
+        ensures clock { OnOk result (self.new.now ≡ now) }
+        ensures long { IfErr result (Exceeds (tell_phase self.old.phase self.old.first directives.now now) self.old.world) }
+    {
+        let next = self.phase.checked_add(1).ok_or(RunFault::NoMemory)?;
+        let sent = self.world.envelope_count();
+        tell(&mut self.world, alloc, Event::Phase(self.phase))?;
+        direct_all(&mut self.world, alloc, directives)?;
+        let events = phase_events(alloc, &self.world, directives, self.first, sent, now)?;
+        tell_all(&mut self.world, alloc, events.as_slice())?;
+        self.phase = next;
+        self.first = sent;
+        self.now = now;
+        Ok(())
+    }
+
+    /// The phases of a script.
+    pub fn phases(&mut self, alloc: Global, phases: &[Phase]) -> Result<(), RunFault>
+        requires { self.old.world.spent ≡ false }
+        ensures ok { OnOk result (Follows (λ x. (tell_phases self.old.phase self.old.first phases.now x).1) self.old.world self.new.world) }
+        ensures phase { OnOk result (self.new.phase ≡ self.old.phase + length phases.now) }
+        ensures first { OnOk result ((x : Told) → IsAt self.old.world x → (tell_phases self.old.phase self.old.first phases.now x).0 ≡ self.new.first) }
+        ensures clock { OnOk result (self.new.now ≡ fold (λ _ now. now) self.old.now (map (λ p. p.now) phases.now)) }
+        ensures long { IfErr result (Exceeds (λ x. (tell_phases self.old.phase self.old.first phases.now x).1) self.old.world) }
+    {
+        for phase in phases {
+            self.phase(alloc, phase.directives.as_slice(), phase.now)?;
+        }
+        Ok(())
+    }
+
+    /// Quiet phases, at most so many, until every client is settled.
+    pub fn settle(&mut self, alloc: Global, most: u128) -> Result<(), RunFault>
+        requires { self.old.world.spent ≡ false }
+        ensures ok { OnOk result (Follows (tell_quiet most self.old.phase self.old.first (self.old.now + 1)) self.old.world self.new.world) }
+        ensures long { IfErr result (Exceeds (tell_quiet most self.old.phase self.old.first (self.old.now + 1)) self.old.world) }
+    {
+        for _ in 0..most {
+            if self.world.settled() {
+                return Ok(());
+            }
+            let now = self.now.checked_add(1).ok_or(RunFault::NoMemory)?;
+            self.phase(alloc, &[], now)?;
+        }
+        Ok(())
+    }
+}

@@ -1,0 +1,79 @@
+//! Events that happen one after another in the world of a run.
+ghost use Rattle.std.specs.Prelude.{◌≡◌, false, fold, OnOk, IfOk, IfErr};
+ghost use Rattle.world_model.specs.Schedules.{event_of, tell, tell_all, tell_directive};
+ghost use Rattle.world_core.specs.Runs.{world_of};
+ghost use Rattle.lockstep.specs.Locking.{Follows, Exceeds};
+
+use crate::faults::RunFault;
+use dpc_model::faults::NoMemory;
+use dpc_model::messages::Event;
+use dpc_model::scripts::Directive;
+use std::alloc::Global;
+use world_core::world::World;
+
+/// One event.
+pub fn tell(world: &mut World, alloc: Global, event: Event) -> Result<(), RunFault>
+    ensures ok { OnOk result (Follows (λ x. tell x event) world.old world.new) }
+    ensures long { IfErr result (Exceeds (λ x. tell x event) world.old) }
+{
+    world.apply(alloc, event)?;
+    Ok(())
+}
+
+/// Events in order.
+pub fn tell_all(world: &mut World, alloc: Global, events: &[Event]) -> Result<(), RunFault>
+    ensures ok { OnOk result (Follows (λ x. tell_all x events.now) world.old world.new) }
+    ensures long { IfErr result (Exceeds (λ x. tell_all x events.now) world.old) }
+{
+    for event in events {
+        tell(world, alloc, *event)?;
+    }
+    Ok(())
+}
+
+/// The event of a directive, where it has one. A restart takes the next incarnation.
+fn event_of(world: &World, directive: Directive) -> Result<Option<Event>, NoMemory>
+    requires { world.now.spent ≡ false }
+    ensures { IfOk result (λ event. event ≡ event_of (world_of world.now) directive) }
+{
+    Ok(match directive {
+        Directive::Emit(source, time) => Some(Event::Emit(source, time)),
+        Directive::Release(source, time) => Some(Event::Release(source, time)),
+        Directive::Cut(a, b) => Some(Event::Cut(a, b)),
+        Directive::Heal(a, b) => Some(Event::Heal(a, b)),
+        Directive::Lose(_, _) | Directive::Repeat(_, _) => None,
+        Directive::Crash(node) => Some(Event::Crash(node)),
+        Directive::Restart(node) => Some(Event::Restart(
+            node,
+            world.last_inc(node).checked_add(1).ok_or(NoMemory)?,
+        )),
+    })
+}
+
+/// One directive.
+fn direct(world: &mut World, alloc: Global, directive: Directive) -> Result<(), RunFault>
+    requires { world.old.spent ≡ false }
+    ensures ok { OnOk result (Follows (λ x. tell_directive x directive) world.old world.new) }
+    ensures long { IfErr result (Exceeds (λ x. tell_directive x directive) world.old) }
+{
+    if let Some(event) = event_of(world, directive)? {
+        tell(world, alloc, event)?;
+    }
+    Ok(())
+}
+
+/// The directives of a phase in order.
+pub fn direct_all(
+    world: &mut World,
+    alloc: Global,
+    directives: &[Directive],
+) -> Result<(), RunFault>
+    requires { world.old.spent ≡ false }
+    ensures ok { OnOk result (Follows (λ x. fold tell_directive x directives.now) world.old world.new) }
+    ensures long { IfErr result (Exceeds (λ x. fold tell_directive x directives.now) world.old) }
+{
+    for directive in directives {
+        direct(world, alloc, *directive)?;
+    }
+    Ok(())
+}
