@@ -85,24 +85,16 @@ fn items_value(alloc: Global, taken: &[Shared<Item>]) -> Result<Value, NoMemory>
 fn client_object(alloc: Global, name: &str, items: Value, told: &Summary) -> Result<Value, NoMemory>
     ensures { IfOk result (λ value. view value ≡ client_object name.now (view items) told.now) }
 {
-    let mut members = Map::new(alloc);
-    put(&mut members, alloc, "bound", Value::from(told.bound))?;
-    put(&mut members, alloc, "items", items)?;
-    put(
-        &mut members,
-        alloc,
-        "name",
-        Value::String(String::from_str(alloc, name)?),
-    )?;
-    put(&mut members, alloc, "settled", Value::Bool(told.settled))?;
-    put(&mut members, alloc, "stable", Value::from(told.stable))?;
-    put(
-        &mut members,
-        alloc,
-        "tentative",
-        Value::from(told.tentative),
-    )?;
-    Ok(Value::Object(members))
+    // not by `json!`: what that builds of six members isn't proved by itself
+    let name = Value::String(String::from_str(alloc, name)?);
+    let mut map = Map::new(alloc);
+    put(&mut map, alloc, "bound", Value::from(told.bound))?;
+    put(&mut map, alloc, "items", items)?;
+    put(&mut map, alloc, "name", name)?;
+    put(&mut map, alloc, "settled", Value::Bool(told.settled))?;
+    put(&mut map, alloc, "stable", Value::from(told.stable))?;
+    put(&mut map, alloc, "tentative", Value::from(told.tentative))?;
+    Ok(Value::Object(map))
 }
 
 /// One client under this name.

@@ -97,7 +97,8 @@ summary d stable 0 bound 0 tentative 0 open
     assert_eq!(rt; text.as_slice(), wanted.as_bytes());
     let text = report_json(alloc, &plan, clients.as_slice())?;
     let wanted =
-        "{\"clients\":[{\"bound\":5,\"items\":[[\"stable\",0,1,[7]],[\"boundary\",5,1],[\"tentative\",6,[-9]]],\"name\":\"c\",\"settled\":false,\"stable\":1,\"tentative\":1},{\"bound\":0,\"items\":[],\"name\":\"d\",\"settled\":false,\"stable\":0,\"tentative\":0}]}\n";
+        r#"{"clients":[{"bound":5,"items":[["stable",0,1,[7]],["boundary",5,1],["tentative",6,[-9]]],"name":"c","settled":false,"stable":1,"tentative":1},{"bound":0,"items":[],"name":"d","settled":false,"stable":0,"tentative":0}]}
+"#;
     assert_eq!(rt; text.as_slice(), wanted.as_bytes());
     Ok(())
 }
