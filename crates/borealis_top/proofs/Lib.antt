@@ -1,4 +1,5 @@
 pub mod Known
+pub mod Runs
 pub mod Ended
 pub mod Commands
 pub mod Ideals

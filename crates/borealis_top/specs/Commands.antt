@@ -1,6 +1,8 @@
 -- Which words are a command.
 use Rattle.std.specs.Prelude.{ℕ, ◌&&◌, nat_le, if◌then◌else◌, List, [], ◌∷◌, Option, Some, None, option_map, codes, bytes_eq}
 use Rattle.script_rules.specs.Spelling.{is_numeral, number}
+use Rattle.borealis_top.specs.declared.command.Form.{Form}
+use Rattle.borealis_top.specs.declared.command.Form.TheVariants.{Text, Short, Json}
 use Rattle.borealis_top.specs.declared.command.Reading.{Reading}
 use Rattle.borealis_top.specs.declared.command.Reading.TheVariants.{Run, Check, Print, Ideal}
 use Rattle.borealis_top.specs.declared.command.Command.{Command}
@@ -9,7 +11,7 @@ use Rattle.borealis_top.specs.declared.command.Command.TheVariants.{Read, Gen, H
 -- what is done with a script that is read
 abbrev pub reading_word : List ℕ → Option Reading
 reading_word w =
-    if bytes_eq w (codes "run") then Some Run
+    if bytes_eq w (codes "run") then Some (Run Text)
     else (if bytes_eq w (codes "check") then Some Check
     else (if bytes_eq w (codes "print") then Some Print
     else (if bytes_eq w (codes "ideal") then Some Ideal
@@ -26,9 +28,20 @@ command_word w =
 abbrev pub seed_of : List ℕ → Option ℕ
 seed_of w = if is_numeral w && nat_le 1 (number w) && nat_le (number w) 1000 then Some (number w) else None
 
+-- the form of a report other than the text
+abbrev pub form_word : List ℕ → Option Form
+form_word w = if bytes_eq w (codes "short") then Some Short else (if bytes_eq w (codes "json") then Some Json else None)
+
+-- the command that two words are
+abbrev pub two_words : List ℕ → List ℕ → Option Command
+two_words w v =
+    if bytes_eq w (codes "gen") then option_map Gen (seed_of v)
+    else (if bytes_eq w (codes "run") then option_map (λ form. Read (Run form)) (form_word v)
+    else None)
+
 -- the command that the words are
 abbrev pub command_of : List (List ℕ) → Option Command
 command_of [] = None
 command_of (w ∷ []) = command_word w
-command_of (w ∷ v ∷ []) = if bytes_eq w (codes "gen") then option_map Gen (seed_of v) else None
+command_of (w ∷ v ∷ []) = two_words w v
 command_of (w ∷ v ∷ u ∷ words) = None

@@ -19,7 +19,7 @@ CommandEnds (Some Help) input input_new out out_new err err_new result =
 CommandEnds (Some Version) input input_new out out_new err err_new result =
     IsTold out out_new version_text Done result × (err_new ≡ err) × (input_new ≡ input)
 CommandEnds (Some (Read reading)) input input_new out out_new err err_new result =
-    ReadEnds reading input input_new out out_new err err_new result × ReadIsWhole reading input input_new out out_new result
+    ReadEnds reading input input_new out out_new err err_new result × ReadIsWhole reading input input_new out out_new err err_new result
 CommandEnds (Some (Gen seed)) input input_new out out_new err err_new result =
     GenEnds seed out out_new result × (err_new ≡ err) × (input_new ≡ input)
 

@@ -1,14 +1,25 @@
 //! What the words of the command line ask for.
 ghost use Rattle.std.specs.Prelude.{◌≡◌, map, string_bytes, bytes_eq};
-ghost use Rattle.borealis_top.specs.Commands.{reading_word, seed_of, command_word, command_of};
+ghost use Rattle.borealis_top.specs.Commands.{reading_word, form_word, seed_of, command_word, two_words, command_of};
 
 use script_words::spelling::number;
+
+/// How a run is reported.
+#[derive(Clone, Copy, PartialEq, Eq, Debug)]
+pub enum Form {
+    /// What each client took, and its summary.
+    Text,
+    /// The summaries alone.
+    Short,
+    /// Both as JSON.
+    Json,
+}
 
 /// What is to be done with a script that is read.
 #[derive(Clone, Copy, PartialEq, Eq, Debug)]
 pub enum Reading {
-    /// Writes the report of its run.
-    Run,
+    /// Runs it, and writes a report.
+    Run(Form),
     /// Writes `ok`.
     Check,
     /// Writes it in canonical form.
@@ -45,7 +56,7 @@ fn reading_in(word: &String) -> Option<Reading>
     ensures { result ≡ reading_word (string_bytes word.now) }
 {
     if is_word(word, b"run") {
-        Some(Reading::Run)
+        Some(Reading::Run(Form::Text))
     } else if is_word(word, b"check") {
         Some(Reading::Check)
     } else if is_word(word, b"print") {
@@ -70,6 +81,32 @@ fn lone_command(word: &String) -> Option<Command>
     }
 }
 
+/// The form of a report other than the text.
+fn form_in(word: &String) -> Option<Form>
+    ensures { result ≡ form_word (string_bytes word.now) }
+{
+    if is_word(word, b"short") {
+        Some(Form::Short)
+    } else if is_word(word, b"json") {
+        Some(Form::Json)
+    } else {
+        None
+    }
+}
+
+/// The command that two words are.
+fn command_of_two(first: &String, second: &String) -> Option<Command>
+    ensures { result ≡ two_words (string_bytes first.now) (string_bytes second.now) }
+{
+    if is_word(first, b"gen") {
+        Some(Command::Gen(seed_in(second)?))
+    } else if is_word(first, b"run") {
+        Some(Command::Read(Reading::Run(form_in(second)?)))
+    } else {
+        None
+    }
+}
+
 /// The number of a generated script.
 fn seed_in(word: &String) -> Option<u64>
     ensures { result ≡ seed_of (string_bytes word.now) }
@@ -83,13 +120,7 @@ pub fn command_in(words: &[String]) -> Option<Command>
 {
     match words {
         [word] => lone_command(word),
-        [first, second] => {
-            if is_word(first, b"gen") {
-                Some(Command::Gen(seed_in(second)?))
-            } else {
-                None
-            }
-        }
+        [first, second] => command_of_two(first, second),
         _ => None,
     }
 }

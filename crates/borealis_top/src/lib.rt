@@ -1,6 +1,7 @@
 //! The commands of the program, over any source and any sinks.
 #![tactic(auto)]
 
+mod answer;
 mod command;
 pub mod plain;
 pub mod program;

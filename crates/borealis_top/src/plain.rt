@@ -3,12 +3,12 @@ ghost use Rattle.std.specs.Prelude.{◌≡◌, ◌⊎◌, ℕ, IfOk, Some, None,
 ghost use Rattle.dpc_edge.specs.Edges.{Stays};
 ghost use Rattle.dpc_model.specs.ScriptText.{script_text};
 ghost use Rattle.load_gen.specs.Generated.{generated};
-ghost use Rattle.ideal_run.specs.IdealPlans.{IsIdealPlan};
 ghost use Rattle.borealis_top.specs.Commands.{command_of};
 ghost use Rattle.borealis_top.specs.Texts.{help_text, version_text, unknown_words_line, refusal_line};
-ghost use Rattle.borealis_top.specs.Ends.{IsTold, answer_to, fault_line, ReadEnds, ReadIsWhole, GenEnds};
+ghost use Rattle.borealis_top.specs.Ends.{IsTold, IsToldOpen, fault_line, ReadEnds, ReadIsWhole, GenEnds};
 ghost use Rattle.borealis_top.specs.declared.command.Reading as reading;
 
+use crate::answer::{Answer, answer_script};
 use crate::command::{Command, Reading, command_in};
 use crate::status::Status;
 use crate::transfer::{InputFault, read_whole, write_whole};
@@ -18,22 +18,17 @@ use diagram_reader::read_script;
 use dpc_edge::sink::Sink;
 use dpc_edge::source::Source;
 use dpc_model::faults::NoMemory;
-use dpc_model::scripts::{PlanFault, Script};
-use ideal_run::ideal_text;
+use dpc_model::scripts::PlanFault;
 use itoa::Buffer;
 use load_gen::generate;
-use small_run::small_report::small_report;
 use std::alloc::{AllocError, Global};
 
 /// What `--help` writes.
 const HELP: &[u8] =
-    b"borealis run < SCRIPT    runs a script, and writes what each client received\nborealis check < SCRIPT  tells whether a script is right, or its first faulty line and why\nborealis print < SCRIPT  writes a script in canonical form\nborealis ideal < SCRIPT  writes the failure-free stream of each client\nborealis gen N           writes the generated script of a number, 1 to 1000\nborealis --help          writes these lines\nborealis --version       writes the version\nThe script language, and the reasons: docs/SCRIPT.md\n";
+    b"borealis run < SCRIPT        runs a script, and writes what each client received\nborealis run short < SCRIPT  the summary lines alone\nborealis run json < SCRIPT   the same as JSON\nborealis check < SCRIPT      tells whether a script is right, or its first faulty line and why\nborealis print < SCRIPT      writes a script in canonical form\nborealis ideal < SCRIPT      writes the failure-free stream of each client\nborealis gen N               writes the generated script of a number, 1 to 1000\nborealis --help              writes these lines\nborealis --version           writes the version\nThe script language, and the reasons: docs/SCRIPT.md\n";
 
 /// What `--version` writes.
 const VERSION: &[u8] = b"borealis 0.1\n";
-
-/// What `check` writes of a right script.
-const RIGHT: &[u8] = b"ok\n";
 
 /// The line for words that are no command.
 const UNKNOWN_WORDS: &[u8] = b"borealis: unknown words\n";
@@ -44,8 +39,8 @@ const TOO_LONG: PlanFault = PlanFault {
     reason: 14,
 };
 
-/// The refusal of a script that is right, and asks for what is not built yet.
-const NOT_BUILT: PlanFault = PlanFault { line: 0, reason: 0 };
+/// The line on clients that are not settled after all quiet phases.
+const NOT_SETTLED: &[u8] = b"not settled\n";
 
 /// Does what the words say, over any input and any sinks for the text and for one line on what is
 /// wrong. It waits for nobody.
@@ -71,7 +66,7 @@ pub fn plain<S: Source, O: Sink, E: Sink>(
     ensures read { (what : reading.Reading) → command_of (map string_bytes words.now) ≡ Some (Command.Read what)
         → ReadEnds what (S.edge input.old) (S.edge input.new) (O.edge out.old) (O.edge out.new) (E.edge err.old) (E.edge err.new) result }
     ensures complete { (what : reading.Reading) → command_of (map string_bytes words.now) ≡ Some (Command.Read what)
-        → ReadIsWhole what (S.edge input.old) (S.edge input.new) (O.edge out.old) (O.edge out.new) result }
+        → ReadIsWhole what (S.edge input.old) (S.edge input.new) (O.edge out.old) (O.edge out.new) (E.edge err.old) (E.edge err.new) result }
 {
     match command_in(words) {
         None => told(err, UNKNOWN_WORDS, Status::Words),
@@ -110,21 +105,6 @@ fn gen_script<O: Sink>(alloc: Global, seed: u64, out: &mut O) -> Status
     }
 }
 
-/// What is to be written of a script, where that is built.
-fn answer(alloc: Global, reading: Reading, script: &Script) -> Result<Option<Vec<u8>>, NoMemory>
-    requires { IsIdealPlan script.now.plan }
-    ensures { IfOk result (λ r. MatchOption r
-        (answer_to reading script.now ≡ None)
-        (λ text. answer_to reading script.now ≡ Some text.items)) }
-{
-    match reading {
-        Reading::Run => small_report(alloc, script),
-        Reading::Check => Ok(Some(Vec::from_slice(alloc, RIGHT)?)),
-        Reading::Print => Ok(Some(print_script(alloc, script)?)),
-        Reading::Ideal => Ok(Some(ideal_text(alloc, &script.plan)?)),
-    }
-}
-
 /// Reads a script, and writes what is asked of it.
 fn read<S: Source, O: Sink, E: Sink>(
     alloc: Global,
@@ -134,7 +114,7 @@ fn read<S: Source, O: Sink, E: Sink>(
     err: &mut E,
 ) -> Status
     ensures ends { ReadEnds reading (S.edge input.old) (S.edge input.new) (O.edge out.old) (O.edge out.new) (E.edge err.old) (E.edge err.new) result }
-    ensures complete { ReadIsWhole reading (S.edge input.old) (S.edge input.new) (O.edge out.old) (O.edge out.new) result }
+    ensures complete { ReadIsWhole reading (S.edge input.old) (S.edge input.new) (O.edge out.old) (O.edge out.new) (E.edge err.old) (E.edge err.new) result }
 {
     let text = match read_whole(alloc, input) {
         Ok(text) => text,
@@ -143,13 +123,24 @@ fn read<S: Source, O: Sink, E: Sink>(
         Err(InputFault::TooLong) => return refused(alloc, err, TOO_LONG),
     };
     match read_script(alloc, text.as_slice()) {
-        Ok(script) => match answer(alloc, reading, &script) {
-            Ok(Some(answer)) => told(out, answer.as_slice(), Status::Done),
-            Ok(None) => refused(alloc, err, NOT_BUILT),
+        Ok(script) => match answer_script(alloc, reading, script) {
+            Ok(Answer::Text(text)) => told(out, text.as_slice(), Status::Done),
+            Ok(Answer::Open(text)) => told_open(out, err, text.as_slice()),
+            Ok(Answer::TooLong(line)) => told(err, line.as_slice(), Status::TooLong),
             Err(NoMemory) => Status::NoMemory,
         },
         Err(ScriptFault::NoMemory) => Status::NoMemory,
         Err(ScriptFault::Refused(fault)) => refused(alloc, err, fault),
+    }
+}
+
+/// Writes the report of a run that left a client open, and then the line that says so.
+fn told_open<O: Sink, E: Sink>(out: &mut O, err: &mut E, text: &[u8]) -> Status
+    ensures { IsToldOpen (O.edge out.old) (O.edge out.new) (E.edge err.old) (E.edge err.new) text.now result }
+{
+    match write_whole(out, text) {
+        Ok(()) => told(err, NOT_SETTLED, Status::NotSettled),
+        Err(_) => Status::WriteFault,
     }
 }
 

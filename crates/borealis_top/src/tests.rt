@@ -14,6 +14,10 @@ const SMALLEST: &str =
 const REPORT: &str =
     "client c\nstable 0 3 5\nstable 1 12 7\nboundary 30 2\nsummary c stable 2 bound 30 tentative 0 settled\n";
 
+/// The same as JSON.
+const JSON: &str =
+    "{\"clients\":[{\"bound\":30,\"items\":[[\"stable\",0,3,[5]],[\"stable\",1,12,[7]],[\"boundary\",30,2]],\"name\":\"c\",\"settled\":true,\"stable\":2,\"tentative\":0}]}\n";
+
 /// A source of this text, so many bytes a call, that fails its call 1 where told.
 fn source(alloc: Global, text: &str, piece: u64, fails: bool) -> Result<MemSource, AllocError> {
     let mut failing = Vec::new(alloc);
@@ -53,6 +57,47 @@ fn a_run_writes_its_report(rt: HostRuntime) -> Result<(), Fail> {
     assert_eq!(rt; status, Status::Done);
     assert_eq!(rt; out.bytes(), REPORT.as_bytes());
     assert_eq!(rt; err.bytes().len(), 0);
+    Ok(())
+}
+
+#[test]
+fn a_run_is_told_in_each_form(rt: HostRuntime) -> Result<(), Fail> {
+    let alloc = rt.alloc();
+    let rows = [
+        ("short", "summary c stable 2 bound 30 tentative 0 settled\n"),
+        ("json", JSON),
+    ];
+    for (form, wanted) in rows {
+        let words = words(alloc, "run", form)?;
+        let mut input = source(alloc, SMALLEST, 1000, false)?;
+        let mut out = sink(alloc, 1000, false)?;
+        let mut err = sink(alloc, 1000, false)?;
+        let status = plain(alloc, words.as_slice(), &mut input, &mut out, &mut err);
+        assert_eq!(rt; status, Status::Done, "at {form}");
+        assert_eq!(rt; out.bytes(), wanted.as_bytes(), "at {form}");
+        assert_eq!(rt; err.bytes().len(), 0, "at {form}");
+    }
+    Ok(())
+}
+
+#[test]
+fn a_client_is_left_open(rt: HostRuntime) -> Result<(), Fail> {
+    let alloc = rt.alloc();
+    let run = words(alloc, "run", "short")?;
+    let Some((before, _)) = SMALLEST.split_once("release") else {
+        return Ok(assert!(rt; false, "nothing is released"));
+    };
+    let text = format!(in alloc; "{before}settle\n")?;
+    let mut input = source(alloc, text.as_str(), 1000, false)?;
+    let mut out = sink(alloc, 1000, false)?;
+    let mut err = sink(alloc, 1000, false)?;
+    let status = plain(alloc, run.as_slice(), &mut input, &mut out, &mut err);
+    assert_eq!(rt; status, Status::NotSettled);
+    assert_eq!(rt;
+        out.bytes(),
+        "summary c stable 0 bound 0 tentative 0 open\n".as_bytes()
+    );
+    assert_eq!(rt; err.bytes(), "not settled\n".as_bytes());
     Ok(())
 }
 
@@ -156,8 +201,6 @@ fn each_reason_refuses(rt: HostRuntime) -> Result<(), Fail> {
         ("tick 2\n", "tick 0\n", "line 15: reason 13\n"),
         ("tick 3\n", "settle\n", "line 17: reason 6\n"),
         ("tick 4\n", "release s 30\n", "line 18: reason 12\n"),
-        ("fragment f 1 s\n", "fragment f 2 s\n", "line 0: reason 0\n"),
-        ("release s 30\n", "emit s 30\n", "line 0: reason 0\n"),
     ];
     for (line, other, wanted) in rows {
         let Some((before, behind)) = SMALLEST.split_once(line) else {

@@ -1,0 +1,54 @@
+-- What holds of the run of a script that was read.
+use Rattle.std.proofs.Common.{◌≡◌, ◌⊎◌, inl, inr, ℕ, ◌+◌, List, length, Result, Ok, Err, IfOk, Bool, true, ap}
+use Rattle.std.specs.Prelude.{not}
+use Rattle.std.proofs.lemmas.Bool.{and_parts}
+use Rattle.dpc_model.specs.declared.messages.Event.{Event}
+use Rattle.dpc_model.specs.declared.plans.Plan.{Plan}
+use Rattle.dpc_model.specs.declared.scripts.Script.{Script}
+use Rattle.script_rules.specs.Reading.{reading, script_in}
+use Rattle.script_rules.proofs.ReadForms.{reads_have_facts}
+use Rattle.fit_law.specs.Fits.{CanRun}
+use Rattle.checked_runs.proofs.Plans.{can_run}
+use Rattle.world_safety.proofs.Law.{run-good, run-safe}
+use Rattle.world_model.specs.Worlds.{run, all_settled}
+use Rattle.world_model.specs.Schedules.{lock_of, quiet_limit}
+use Rattle.schedule_law.specs.Journals.{phases_in}
+use Rattle.schedule_law.proofs.Lockstep.{lock-live}
+use Rattle.schedule_law.proofs.Timely.{live-ends}
+use Rattle.borealis_top.specs.declared.command.Reading.{Reading}
+use Rattle.borealis_top.specs.declared.command.Reading.TheVariants.{Run, Check, Print, Ideal}
+use Rattle.borealis_top.specs.Ends.{run_of, IsGoodRun, Holds}
+
+-- so its plan can be run
+pub read_can_run : (text : List ℕ) (s : Script) → reading text ≡ Ok s → CanRun s.plan
+read_can_run text s e = can_run s (reads_have_facts text s (ap script_in e))
+
+-- the world of a run is one of its plan
+pub run-plan : (plan : Plan) (events : List Event) → CanRun plan → (run plan events).plan ≡ plan
+run-plan plan events can = (run-good plan events can.checked).of_plan
+
+-- a client is left open behind settle only where all quiet phases went by
+quiet-so : (b : Bool) (p : ℕ) (q : ℕ) → (b ≡ true) ⊎ (p ≡ q) → not b ≡ true → p ≡ q
+quiet-so b p q (inl settled) open_still = absurd (cc)
+quiet-so b p q (inr all) open_still = all
+
+good-run : (s : Script) → CanRun s.plan → IsGoodRun s
+good-run s can =
+    record {
+      safe = run-safe s.plan (lock_of s) can.checked;
+      live = lock-live s;
+      quiet = λ e.
+          let both = and_parts s.settle (not (all_settled (run_of s))) e in
+          quiet-so (all_settled (run_of s)) (phases_in (lock_of s)) (length s.phases + quiet_limit s.plan) ((live-ends s (lock_of s) (lock-live s)).1 both.0) both.1;
+    }
+
+pub read-Holds : (what : Reading) (text : List ℕ) (s : Script) → reading text ≡ Ok s → Holds what s
+read-Holds (Run form) text s e = good-run s (read_can_run text s e)
+read-Holds Check text s e = tt
+read-Holds Print text s e = tt
+read-Holds Ideal text s e = tt
+
+-- what holds of a value, if there is one, gives what follows from it; what holds stands before what follows, which it tells the type of
+pub then-IfOk : {A E : Type 0} {P : A → Type 0} (r : Result A E) → IfOk r P → (Q : A → Type 0) → ((x : A) → P x → Q x) → IfOk r Q
+then-IfOk (Ok x) p Q f = f x p
+then-IfOk (Err e) p Q f = tt
