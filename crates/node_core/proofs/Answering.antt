@@ -8,12 +8,13 @@ use Rattle.dpc_model.specs.Fragments.{fragment_value}
 use Rattle.dpc_model.specs.Actors.{replicas_of}
 use Rattle.dpc_model.specs.Granting.{grants, with_promise}
 use Rattle.dpc_model.specs.NodeStates.{is_stable}
-use Rattle.dpc_model.specs.Sessions.{Answered, Shown, after_ack, no_session, answer_to}
+use Rattle.dpc_model.specs.Sessions.{Answered, Shown, after_ack, no_session, answer_to, view_items}
 use Rattle.dpc_model.specs.declared.messages.Message.{Message}
 use Rattle.dpc_model.specs.declared.messages.Message.TheVariants as message
 use Rattle.dpc_model.specs.declared.messages.NodeState.{NodeState}
 use Rattle.dpc_model.specs.declared.messages.Subscribe.{Subscribe}
 use Rattle.dpc_model.specs.declared.tuples.Tuple.{Tuple}
+use Rattle.dpc_model.specs.declared.tuples.Item.{Item}
 use Rattle.dpc_model.proofs.Places.{place-within}
 use Rattle.soutput.specs.Laws.{outputs_at}
 use Rattle.node_links.specs.Linking.{LinksValue}
@@ -199,3 +200,12 @@ snapshot-sent home v p a inc number s told h up stands sent =
     let alike = subst (λ (t : Snap). StandsForSnapshot ops home.plan.width s.value t) same wide in
     subst (λ (s : Stepped PlainNode). IsTakenAs v told home s) (sym (unless-up (λ home p. on_snap_ask home a inc number p) home v p h up))
     (record { after = h; sends = subst (λ (ms : List code_mail.Mail). AreMails home ms step.sends) (sym sent) (record { to = refl; packet = (snapshot home p, refl, alike) }, tt) })
+
+-- ---- the view
+
+-- what the output that is stood for shows is what the plain node shows
+pub view-shown : (home : Home) (v : NodeValue) (p : PlainNode) (items : List Item) → StandsForNode home v p →
+    items ≡ view_items (shown_of (stream_at (spec_of home).ops v.path (inputs_of p)) p.base (is_stable p.state)) → items ≡ view_items (shown home p)
+view-shown home v p items h told =
+    let pos : 0 < home.plan.width = subst (λ (w : ℕ). 0 < w) h.setting.width h.path.some in
+    told ∙ ap (λ (s : Stream). view_items (shown_of s p.base (is_stable p.state))) (stream-alike home v p h) ∙ ap (λ (s : Shown). view_items s) (sym (shown-is home p pos))

@@ -1,11 +1,11 @@
 -- An output goes on to stand for the plain one.
-use Rattle.std.proofs.Common.{◌≡◌, ℕ, ◌+◌, ◌-◌, ◌≤◌, List, [], ◌∷◌, ◌++◌, take, drop, length, refl, sym, ap, subst, ◌∙◌, arith, max, min, length-append, Option, Some, None}
+use Rattle.std.proofs.Common.{◌≡◌, ℕ, ◌+◌, ◌-◌, ◌≤◌, Bool, List, [], ◌∷◌, ◌++◌, take, drop, length, refl, sym, ap, subst, ◌∙◌, arith, max, min, length-append, Option, Some, None}
 use Rattle.std.specs.Prelude.{unwrap_or}
 use Rattle.std.proofs.lemmas.List.{drop-drop, length-take-le, drop-append-le, take-append-drop}
 use Rattle.dpc_model.specs.Lists.{nth, changed}
 use Rattle.dpc_model.specs.Parts.{Stream, Outputs, shown_of}
 use Rattle.dpc_model.specs.PartStands.{OutputValue, StandsForOutput}
-use Rattle.dpc_model.specs.Sessions.{Acked, no_session, base_after, after_ack, given_items, batches_of, with_batches, Answered, answer_to}
+use Rattle.dpc_model.specs.Sessions.{Acked, no_session, base_after, after_ack, given_items, batches_of, with_batches, Answered, answer_to, view_items}
 use Rattle.dpc_model.specs.declared.tuples.Tuple.{Tuple}
 use Rattle.dpc_model.specs.declared.tuples.Item.{Item}
 use Rattle.dpc_model.specs.declared.tuples.Item.TheVariants.{Undo}
@@ -107,6 +107,14 @@ answering-stands stable_now k asked told s v w x h a =
             acks = h.acks;
           }),
     )
+
+-- what a reader that holds nothing tentative is sent first is what the plain output shows
+pub view-stands : (stable_now : Bool) (items : List Item) (s : Stream) (v : OutputValue) (x : Outputs) → StandsForOutput s v x →
+    ((gone : List Tuple) (stable_now : Bool) → length gone ≡ v.base → items ≡ view_items (shown_of (stream_behind gone v) v.base stable_now)) → items ≡ view_items (shown_of s x.base stable_now)
+view-stands stable_now items s v x h told =
+    told (take x.base s.stable) stable_now (length-take-le x.base s.stable h.within ∙ sym h.base)
+    ∙ ap (λ (t : Stream). view_items (shown_of t v.base stable_now)) (stream-is s v x h)
+    ∙ ap (λ (b : ℕ). view_items (shown_of s b stable_now)) h.base
 
 pub acking-stands : AckingStands
 acking-stands k i n s v x h =

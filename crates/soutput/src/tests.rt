@@ -33,19 +33,21 @@ fn asked(n: u64, tentative: bool) -> Subscribe {
     }
 }
 
+/// Whether these are exactly those items.
+fn are_items(items: &[Item], wanted: &[Item]) -> bool {
+    items.len() == wanted.len()
+        && items
+            .iter()
+            .zip(wanted)
+            .all(|(item, other)| item.same(other))
+}
+
 /// Whether a message is the batch of this number in the first session, with exactly these items.
 fn is_batch(message: &Message, number: u64, wanted: &[Item]) -> bool {
     let Message::Batch(sess, index, items) = message else {
         return false;
     };
-    let items = items.as_slice();
-    *sess == FIRST
-        && *index == number
-        && items.len() == wanted.len()
-        && items
-            .iter()
-            .zip(wanted)
-            .all(|(item, other)| item.same(other))
+    *sess == FIRST && *index == number && are_items(items.as_slice(), wanted)
 }
 
 /// Whether so many batches of these items went to readers 0, 1, .., by these numbers.
@@ -179,5 +181,19 @@ fn tuples_that_are_gone_are_not_sent(rt: HostRuntime) -> Result<(), Fail> {
     assert!(rt; matches!(answer, Some(Message::Truncated(sess, 2)) if sess == FIRST));
     assert!(rt; output.readers() == 1);
     assert!(rt; output.newest(0) == Some(FIRST) && output.link(0).is_none());
+    Ok(())
+}
+
+#[test]
+fn a_view_has_all_that_is_kept(rt: HostRuntime) -> Result<(), Fail> {
+    let alloc = rt.alloc();
+    let output = SOutput::start_at(alloc, 1, 2, tuples(alloc, &[20, 21])?, 30)?;
+    let view = output.view(alloc)?;
+    let wanted = [
+        Item::Stable(2, tuple(alloc, 20)?),
+        Item::Stable(3, tuple(alloc, 21)?),
+        Item::Boundary(30, 4),
+    ];
+    assert!(rt; are_items(view.as_slice(), &wanted));
     Ok(())
 }

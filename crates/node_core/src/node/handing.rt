@@ -1,8 +1,9 @@
 //! Work and snapshots that a node hands out, and going on from a snapshot.
 ghost use Rattle.std.specs.Prelude.{◌≡◌, ◌↔◌, false, true, ℕ, Err, IsTrue, is_err, IfOk, OnOk};
+ghost use Rattle.dpc_model.specs.Sessions.{view_items};
 ghost use Rattle.dpc_model.specs.declared.faults.StepFault.TheVariants as fault;
 ghost use Rattle.node_model.specs.Mails.{Snap};
-ghost use Rattle.node_model.specs.Nodes.{Home, PlainNode, spec_of};
+ghost use Rattle.node_model.specs.Nodes.{Home, PlainNode, spec_of, shown};
 ghost use Rattle.node_model.specs.NodeSteps.{snapshot, after_adoption};
 ghost use Rattle.pipeline.specs.Recovery.{StandsForSnapshot};
 ghost use Rattle.node_laws.specs.Fitting.{IsFit};
@@ -12,6 +13,7 @@ ghost use Rattle.node_core.specs.Stepping.{IsSound, CanAdopt};
 
 use crate::node::Node;
 use dpc_model::faults::StepFault;
+use dpc_model::tuples::Items;
 use fragment_mill::mill::FragMill;
 use mill_work::order::Order;
 use pipeline::snapshots::Snapshot;
@@ -52,6 +54,20 @@ impl Node {
             return Err(StepFault::NoMemory);
         };
         Ok(snapshot)
+    }
+
+    /// What a reader that holds nothing tentative is sent first, where it asks for all that is kept.
+    pub fn view(&self, alloc: Global) -> Result<Items, StepFault>
+        ensures view { IfOk result (λ items. (home : Home) (p : PlainNode) → StandsForNode home self.now p → items ≡ view_items (shown home p)) }
+        ensures spent { result ≡ Err fault.Spent ↔ self.now.spent ≡ true }
+    {
+        if self.spent {
+            return Err(StepFault::Spent);
+        }
+        let Ok(items) = self.path.view(alloc) else {
+            return Err(StepFault::NoMemory);
+        };
+        Ok(items)
     }
 
     /// A recovering node goes on from a snapshot.

@@ -1,10 +1,10 @@
 //! What comes to single ports, what goes to single readers, and what a node needs to know of both.
-ghost use Rattle.std.specs.Prelude.{◌≡◌, ◌*◌, ◌<◌, List, length, IfOk, OnErr};
+ghost use Rattle.std.specs.Prelude.{◌≡◌, ◌*◌, ◌<◌, Bool, List, length, IfOk, OnErr};
 ghost use Rattle.dpc_model.specs.Lists.{nth, changed};
 ghost use Rattle.dpc_model.specs.Inlets.{InletState, after_link};
 ghost use Rattle.dpc_model.specs.NodeStates.{is_stable};
-ghost use Rattle.dpc_model.specs.Parts.{Inputs, Outputs};
-ghost use Rattle.dpc_model.specs.Sessions.{no_session, after_ack, link_of};
+ghost use Rattle.dpc_model.specs.Parts.{Inputs, Outputs, shown_of};
+ghost use Rattle.dpc_model.specs.Sessions.{no_session, after_ack, link_of, view_items};
 ghost use Rattle.dpc_model.specs.Streams.{count_below};
 ghost use Rattle.dpc_model.specs.declared.operators.OpSpec.{OpSpec};
 ghost use Rattle.soutput.specs.Laws.{outputs_at};
@@ -17,7 +17,7 @@ use crate::inlets::count_done;
 use crate::pipeline::Pipeline;
 use dpc_model::faults::NoMemory;
 use dpc_model::messages::{Message, NodeState, Sess, Subscribe};
-use dpc_model::tuples::Item;
+use dpc_model::tuples::{Item, Items};
 use std::alloc::Global;
 use sunion::sunion::Verdict;
 
@@ -87,6 +87,16 @@ impl Pipeline {
     {
         let told = self.output.open_session(alloc, reader, asked, state)?;
         Ok(told)
+    }
+
+    /// What a reader that holds nothing tentative is sent first, where it asks for all that is kept. Whether
+    /// the node is STABLE doesn't matter.
+    pub fn view(&self, alloc: Global) -> Result<Items, NoMemory>
+        ensures { IfOk result (λ items. (ops : List OpSpec) (x : Inputs) (o : Outputs) (stable_now : Bool) → StandsForData ops self.now x o
+            → items ≡ view_items (shown_of (stream_at ops self.now x) o.base stable_now)) }
+    {
+        let items = self.output.view(alloc)?;
+        Ok(items)
     }
 
     /// A reader acknowledged `count` tuples in an incarnation. What every reader acknowledged goes. It

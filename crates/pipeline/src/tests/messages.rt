@@ -44,18 +44,21 @@ fn counted(pipeline: &Pipeline) -> (u64, u64) {
     (pipeline.count(0), pipeline.done(0))
 }
 
+/// Whether these are exactly those items.
+fn are_items(items: &[Item], wanted: &[Item]) -> bool {
+    items.len() == wanted.len()
+        && items
+            .iter()
+            .zip(wanted)
+            .all(|(item, other)| item.same(other))
+}
+
 /// Whether an answer is a first batch of exactly these items.
 fn is_first(answer: Option<Message>, wanted: &[Item]) -> bool {
     let Some(Message::Batch(_, index, items)) = answer else {
         return false;
     };
-    let items = items.as_slice();
-    index == 0
-        && items.len() == wanted.len()
-        && items
-            .iter()
-            .zip(wanted)
-            .all(|(item, other)| item.same(other))
+    index == 0 && are_items(items.as_slice(), wanted)
 }
 
 #[test]
@@ -72,5 +75,7 @@ fn a_batch_is_taken_and_a_reader_answered(rt: HostRuntime) -> Result<(), Fail> {
     let wanted = [Item::Stable(0, row(alloc, 3)?), Item::Boundary(10, 1)];
     let answer = opened(alloc, &mut pipeline)?;
     assert!(rt; is_first(answer, &wanted));
+    let view = pipeline.view(alloc)?;
+    assert!(rt; are_items(view.as_slice(), &wanted));
     Ok(())
 }

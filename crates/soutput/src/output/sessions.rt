@@ -1,20 +1,21 @@
 //! What the readers of an output ask and acknowledge, and what an output tells of itself.
-ghost use Rattle.std.specs.Prelude.{◌≡◌, ◌+◌, ◌^◌, ◌<◌, ◌≤◌, List, length, map, IfOk, OnOk, OnErr, IsTrue, None, Some, false, ◌==◌, if◌then◌else◌};
+ghost use Rattle.std.specs.Prelude.{◌≡◌, ◌+◌, ◌^◌, ◌<◌, ◌≤◌, Bool, List, length, map, IfOk, OnOk, OnErr, IsTrue, None, Some, false, ◌==◌, if◌then◌else◌};
 ghost use Rattle.dpc_model.specs.Lists.{nth, changed};
 ghost use Rattle.dpc_model.specs.Parts.{shown_of};
 ghost use Rattle.dpc_model.specs.declared.tuples.Tuple.{Tuple};
 ghost use Rattle.dpc_model.specs.NodeStates.{is_stable};
-ghost use Rattle.dpc_model.specs.Sessions.{no_session, opening_session, with_session_shut, first_batch, after_ack, link_of};
+ghost use Rattle.dpc_model.specs.Sessions.{no_session, opening_session, with_session_shut, first_batch, view_items, after_ack, link_of};
 ghost use Rattle.soutput.specs.Giving.{restarted_output, with_base_after, stream_behind, HasRoom, IsAnswered};
 
 use crate::batches::{can_count, open_all, shut_all};
 use crate::items::{first_items, is_done};
 use crate::output::SOutput;
 use dpc_model::faults::NoMemory;
+use dpc_model::lists::Listed;
 use dpc_model::messages::{Message, NodeState, Sess, Subscribe};
 use dpc_model::sessions::Sub;
 use dpc_model::shared::Shared;
-use dpc_model::tuples::{Item, Tuple, Tuples};
+use dpc_model::tuples::{Item, Items, Tuple, Tuples};
 use output_buffer::buffer::OutputBuffer;
 use std::alloc::Global;
 
@@ -59,6 +60,20 @@ impl SOutput {
         let items = Shared::from_vec(self.first_batch(alloc, asked, state)?)?;
         self.sessions[reader] = Sub::opened(asked.sess);
         Ok(Some(Message::Batch(asked.sess, 0, items)))
+    }
+
+    /// What a reader that holds nothing tentative is sent first, where it asks for all that is kept. Whether
+    /// the sender is STABLE doesn't matter.
+    pub fn view(&self, alloc: Global) -> Result<Items, NoMemory>
+        ensures { IfOk result (λ items. (gone : List Tuple) (stable_now : Bool) → length gone ≡ self.now.base → items ≡ view_items (shown_of (stream_behind gone self.now) self.now.base stable_now)) }
+    {
+        let asked = Subscribe {
+            sess: Sess { inc: 0, number: 0 },
+            n: self.buffer.base(),
+            tentative: false,
+        };
+        let items = self.first_batch(alloc, asked, NodeState::Stable)?;
+        Ok(Listed::from_vec(items))
     }
 
     /// A reader acknowledged `count` tuples in an incarnation. What every reader acknowledged goes. It
