@@ -8,7 +8,6 @@ ghost use Rattle.node_model.specs.Clients.{ClientState, client_stream, new_clien
 ghost use Rattle.client_fold.specs.Folding.{all_taken, StandsForClient};
 
 use dpc_model::faults::NoMemory;
-use dpc_model::messages::Sess;
 use dpc_model::plans::Plan;
 use dpc_model::shared::Shared;
 use dpc_model::tuples::Item;
@@ -87,20 +86,6 @@ impl Client {
         ensures { result ≡ self.now.inlet.state.held.bound }
     {
         self.inlet.bound()
-    }
-
-    /// The session that was asked for last.
-    pub fn sess(&self) -> Sess
-        ensures { result ≡ self.now.inlet.state.sess }
-    {
-        self.inlet.sess()
-    }
-
-    /// The index of the batch that is taken next.
-    pub fn next(&self) -> u64
-        ensures { result ≡ self.now.inlet.state.next }
-    {
-        self.inlet.next()
     }
 
     /// How many tentative tuples are held.

