@@ -1,9 +1,10 @@
 -- The lists behind the loops, and that what the code's clients tell is what the plain ones tell.
-use Rattle.std.proofs.Common.{◌≡◌, ℕ, ◌+◌, zero, suc, List, [], ◌∷◌, ◌++◌, length, take, map, Some, min, ◌≤◌, refl, sym, ap, ◌∙◌, arith}
+use Rattle.std.proofs.Common.{◌≡◌, ℕ, ◌+◌, zero, suc, List, [], ◌∷◌, ◌++◌, length, take, map, Some, min, ◌<◌, ◌≤◌, refl, sym, ap, ◌∙◌, arith}
 use Rattle.std.proofs.lemmas.List.{append_assoc, append-nil, map-append, map_push, flat_map_more}
 use Rattle.std.proofs.lemmas.List.Concat.{flat_map-append}
 use Rattle.std.proofs.lemmas.List.Folds.{flat_map-map}
-use Rattle.std.specs.Prelude.{flat_map, zip, slice_get}
+use Rattle.std.proofs.lemmas.Option.{slice_get_read}
+use Rattle.std.specs.Prelude.{flat_map, zip, slice_get, get_or}
 use Rattle.dpc_model.specs.Words.{text_of, line_of}
 use Rattle.dpc_model.specs.Inlets.{InletState}
 use Rattle.dpc_model.specs.Reading.{is_settled}
@@ -20,7 +21,7 @@ use Rattle.client_reports.specs.Telling.{summary_by, text_by, short_by, data_by,
 -- ---- lists
 
 -- one more client
-pub named-more : (specs : List ClientSpec) (vs : List ClientValue) (i : ℕ) (s : ClientSpec) (v : ClientValue) → slice_get specs i ≡ Some s → slice_get vs i ≡ Some v →
+named-more : (specs : List ClientSpec) (vs : List ClientValue) (i : ℕ) (s : ClientSpec) (v : ClientValue) → slice_get specs i ≡ Some s → slice_get vs i ≡ Some v →
     named (take (suc i) specs) (take (suc i) vs) ≡ named (take i specs) (take i vs) ++ (s.name, v) ∷ []
 named-more [] vs i s v a b = cc
 named-more (t ∷ specs) [] i s v a b = cc
@@ -29,16 +30,19 @@ named-more (t ∷ specs) (w ∷ vs) zero s v a b =
     let value : w ≡ v = cc in rw (spec, value) refl
 named-more (t ∷ specs) (w ∷ vs) (suc i) s v a b = ap (λ cs. (t.name, w) ∷ cs) (named-more specs vs i s v a b)
 
-pub named-grows : (f : List ℕ × ClientValue → List ℕ) (old : List ℕ) (specs : List ClientSpec) (vs : List ClientValue) (i : ℕ) (s : ClientSpec) (v : ClientValue) →
-    slice_get specs i ≡ Some s → slice_get vs i ≡ Some v →
-    (old ++ flat_map f (named (take i specs) (take i vs))) ++ f (s.name, v) ≡ old ++ flat_map f (named (take (suc i) specs) (take (suc i) vs))
-named-grows f old specs vs i s v a b =
-    flat_map_more f old (named (take i specs) (take i vs)) (s.name, v) ∙ ap (λ cs. old ++ flat_map f cs) (sym (named-more specs vs i s v a b))
+-- as a loop over both lists meets it: at an index below the shorter one, with the name and the client that it read
+module _ (specs : List ClientSpec) (vs : List ClientValue) (i : ℕ) (s : ClientSpec) (v : ClientValue) (name : List ℕ) (low : i < min (length specs) (length vs)) (spec : s ≡ get_or specs i s) (client : v ≡ get_or vs i v) (its_name : name ≡ (get_or specs i s).name) where
+  named-next : named (take i specs) (take i vs) ++ (name, v) ∷ [] ≡ named (take (i + 1) specs) (take (i + 1) vs)
+  named-next =
+      let next : i + 1 ≡ suc i = omega arith in
+      let same : name ≡ s.name = its_name ∙ ap (λ (t : ClientSpec). t.name) (sym spec) in
+      rw (next, same) (sym (named-more specs vs i s v (slice_get_read specs (length specs) i s refl (omega (arith, low)) spec) (slice_get_read vs (length vs) i v refl (omega (arith, low)) client)))
 
-pub mapped-grows : {X : Type 0} (f : List ℕ × ClientValue → X) (specs : List ClientSpec) (vs : List ClientValue) (i : ℕ) (s : ClientSpec) (v : ClientValue) →
-    slice_get specs i ≡ Some s → slice_get vs i ≡ Some v →
-    map f (named (take i specs) (take i vs)) ++ f (s.name, v) ∷ [] ≡ map f (named (take (suc i) specs) (take (suc i) vs))
-mapped-grows f specs vs i s v a b = sym (map_push f (named (take i specs) (take i vs)) (s.name, v)) ∙ ap (map f) (sym (named-more specs vs i s v a b))
+  pub named-grows : (f : List ℕ × ClientValue → List ℕ) (old : List ℕ) → (old ++ flat_map f (named (take i specs) (take i vs))) ++ f (name, v) ≡ old ++ flat_map f (named (take (i + 1) specs) (take (i + 1) vs))
+  named-grows f old = flat_map_more f old (named (take i specs) (take i vs)) (name, v) ∙ ap (λ cs. old ++ flat_map f cs) named-next
+
+  pub mapped-grows : {X : Type 0} (f : List ℕ × ClientValue → X) → map f (named (take i specs) (take i vs)) ++ f (name, v) ∷ [] ≡ map f (named (take (i + 1) specs) (take (i + 1) vs))
+  mapped-grows f = sym (map_push f (named (take i specs) (take i vs)) (name, v)) ∙ ap (map f) named-next
 
 -- and none more behind the shorter of both
 pub named-whole : (specs : List ClientSpec) (vs : List ClientValue) (i : ℕ) → min (length specs) (length vs) ≤ i → named (take i specs) (take i vs) ≡ named specs vs

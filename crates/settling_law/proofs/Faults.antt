@@ -17,8 +17,7 @@ use Rattle.world_safety.proofs.Tests.{le-test}
 use Rattle.granting_law.specs.Taken.{port_of}
 use Rattle.settling_law.proofs.Waitings.{waits, is_delivery, waits-on}
 use Rattle.settling_law.proofs.Rules.{MayGo}
-use Rattle.settling_law.proofs.Going.{PortGoes, Stays, TakesIn, TicksOn}
-use Rattle.settling_law.proofs.Now.{took-now}
+use Rattle.settling_law.proofs.Going.{InletGoes, Stays, TakesIn, TicksOn, took-now}
 use Rattle.settling_law.proofs.Sourcing.{sub_at, SourceGoes, Keeps as KeepsSub, Opens, source-goes, beats-now}
 use Rattle.settling_law.proofs.Full.{link-parts}
 use Rattle.settling_law.proofs.Standing.{old-kept, same-fields}
@@ -71,7 +70,7 @@ module _ (script : Script) (x p s k : ℕ) where
       let k_next = port-next script x p s k z e may h.port h.there in
       by-goes k_next.0 k_next.1 k_next.2
     where
-      by-goes : (r : Port) → port_of (happens z.world e) x p ≡ Some r → PortGoes z.world x p s e (happens z.world e) h.port r → IsBroken x p (next_progress script z e) ⊎ Coming script x p s k (next_progress script z e)
+      by-goes : (r : Port) → port_of (happens z.world e) x p ≡ Some r → InletGoes z.world x p s e (happens z.world e) h.port r → IsBroken x p (next_progress script z e) ⊎ Coming script x p s k (next_progress script z e)
       by-goes r now (Stays with_it) = inl (record { port = r; there = now; broken = ap (λ (i : InletState). i.broken) with_it.inlet_is ∙ h.broken })
       by-goes r now (TakesIn j f is at to sender with_it) = inl (record { port = r; there = now; broken = ap (λ (i : InletState). i.broken) with_it.inlet_is ∙ after-broken f.packet h.port.inlet h.broken })
       by-goes r now (TicksOn clock is ticked) =
@@ -95,7 +94,7 @@ module _ (script : Script) (x p s k : ℕ) where
       let k_next = port-next script x p s k z e may h.port h.there in
       by-goes k_next.0 k_next.1 k_next.2
     where
-      by-goes : (r : Port) → port_of (happens z.world e) x p ≡ Some r → PortGoes z.world x p s e (happens z.world e) h.port r → IsAnswered x p (next_progress script z e) ⊎ Coming script x p s k (next_progress script z e)
+      by-goes : (r : Port) → port_of (happens z.world e) x p ≡ Some r → InletGoes z.world x p s e (happens z.world e) h.port r → IsAnswered x p (next_progress script z e) ⊎ Coming script x p s k (next_progress script z e)
       by-goes r now (Stays with_it) = inl (record { port = r; there = now; answered = ap (λ (i : InletState). i.answered) with_it.inlet_is ∙ h.answered })
       by-goes r now (TakesIn j f is at to sender with_it) = inl (record { port = r; there = now; answered = ap (λ (i : InletState). i.answered) with_it.inlet_is ∙ after-answered f.packet h.port.inlet h.answered })
       by-goes r now (TicksOn clock is ticked) =
@@ -118,7 +117,7 @@ module _ (script : Script) (x p s k : ℕ) where
             | false ↦ λ a. inl (record { port = r; there = now; answered = a; ticks = low })
           ]) refl
 
-      by-goes : (r : Port) → port_of (happens z.world e) x p ≡ Some r → PortGoes z.world x p s e (happens z.world e) h.port r → IsSlow x p i (next_progress script z e) ⊎ (IsAnswered x p (next_progress script z e) ⊎ Coming script x p s k (next_progress script z e))
+      by-goes : (r : Port) → port_of (happens z.world e) x p ≡ Some r → InletGoes z.world x p s e (happens z.world e) h.port r → IsSlow x p i (next_progress script z e) ⊎ (IsAnswered x p (next_progress script z e) ⊎ Coming script x p s k (next_progress script z e))
       by-goes r now (Stays with_it) = let same = with_it.ticks in let low = h.ticks in by-answer r now (omega (arith, same, low))
       by-goes r now (TakesIn j f is at to sender with_it) = let same = with_it.ticks in let low = h.ticks in by-answer r now (omega (arith, same, low))
       by-goes r now (TicksOn clock is ticked) =

@@ -28,7 +28,7 @@ use Rattle.settling_law.proofs.Splitting.{IsQuietAt, opens, in-quiet, quiet-goes
 use Rattle.settling_law.proofs.Rules.{GoodThrough}
 use Rattle.settling_law.proofs.Journeys.{IsStep, through-phase, opened-at}
 use Rattle.settling_law.proofs.Along.{every-behind, progress-push, live-may, running-along, good-along}
-use Rattle.settling_law.proofs.Going.{calm-at}
+use Rattle.settling_law.proofs.PortSteps.{calm-at}
 use Rattle.settling_law.proofs.Promises.{open-of}
 use Rattle.settling_law.proofs.Deliveries.{progress-parts, follows-part, live-part}
 use Rattle.settling_law.proofs.Finishing.{ready-all, finished-of}

@@ -8,7 +8,7 @@ use Rattle.dpc_model.specs.Ports.{Port, choice_at, must_reopen, port_after_choic
 use Rattle.dpc_model.specs.Sessions.{is_newer_than_kept}
 use Rattle.dpc_model.specs.declared.tuples.Item.{Item}
 use Rattle.dpc_model.specs.declared.messages.Event.{Event}
-use Rattle.dpc_model.specs.declared.messages.Event.TheVariants.{Tick}
+use Rattle.dpc_model.specs.declared.messages.Event.TheVariants.{Phase, Emit, Release, Cut, Heal, Crash, Restart, Deliver, Tick, Mill}
 use Rattle.dpc_model.specs.declared.messages.Sess.{Sess}
 use Rattle.dpc_model.specs.declared.messages.Message.TheVariants as message
 use Rattle.dpc_model.specs.declared.scripts.Script.{Script}
@@ -20,12 +20,15 @@ use Rattle.world_safety.proofs.Tests.{eq-test}
 use Rattle.world_safety.proofs.Growing.{event-grows}
 use Rattle.granting_law.specs.Taken.{port_of}
 use Rattle.schedule_law.specs.Journals.{Ticks}
+use Rattle.settling_law.specs.Phased.{is_quiet}
 use Rattle.settling_law.proofs.Splitting.{IsQuietAt}
 use Rattle.settling_law.proofs.Waitings.{waits}
 use Rattle.settling_law.proofs.Rules.{MayGo, Keeps}
 use Rattle.settling_law.proofs.Ticking.{before_choice}
-use Rattle.settling_law.proofs.Going.{PortGoes, HasTicked, chosen-first, port-goes}
-use Rattle.settling_law.proofs.Now.{tick-now}
+use Rattle.dpc_model.specs.declared.plans.StreamRef.TheVariants.{Source}
+use Rattle.settling_law.proofs.PortGoing.{HasTicked}
+use Rattle.settling_law.proofs.PortNow.{tick-now}
+use Rattle.settling_law.proofs.Going.{InletGoes, chosen-first, inlet-goes}
 use Rattle.settling_law.proofs.Sourcing.{sub_at}
 use Rattle.settling_law.proofs.Full.{asks_with}
 use Rattle.settling_law.proofs.Standing.{asked_inlet, Stand}
@@ -50,6 +53,29 @@ pub record HasWhole (script : Script) (x p : ℕ) (z : Progress) : Type 0 where
 -- the number of the reader's ticks in this phase
 abbrev pub tick_count : ℕ → Progress → ℕ
 tick_count x z = cond (has z.ticked x) 1 0
+
+-- a reader ticks once in a phase at most
+pub ticks-few : (x : ℕ) (z : Progress) → tick_count x z ≤ 1
+ticks-few x z = elim (has z.ticked x) as (λ b. cond {A = ℕ} b 1 0 ≤ 1) [ true ↦ omega arith | false ↦ omega arith ]
+
+-- the number of ticks does not fall in a phase
+pub ticks-grow : (script : Script) (x : ℕ) (z : Progress) (e : Event) → is_quiet e ≡ true → tick_count x z ≤ tick_count x (next_progress script z e)
+ticks-grow script x z (Phase q) quiet = cc
+ticks-grow script x z (Emit a t) quiet = omega arith
+ticks-grow script x z (Release a t) quiet = omega arith
+ticks-grow script x z (Cut a b) quiet = omega arith
+ticks-grow script x z (Heal a b) quiet = omega arith
+ticks-grow script x z (Crash a) quiet = omega arith
+ticks-grow script x z (Restart a i) quiet = omega arith
+ticks-grow script x z (Deliver j) quiet = omega arith
+ticks-grow script x z (Mill a r) quiet = omega arith
+ticks-grow script x z (Tick a now) quiet = by-test (a == x) (has z.ticked x)
+  where
+    by-test : (b c : Bool) → cond {A = ℕ} c 1 0 ≤ cond {A = ℕ} (b || c) 1 0
+    by-test true true = omega arith
+    by-test true false = omega arith
+    by-test false true = omega arith
+    by-test false false = omega arith
 
 -- the items are read from here, and leave the whole
 abbrev pub Completes : Script → Reader → List Item → Type 0
@@ -122,10 +148,10 @@ pub data TickSays (q r : Port) : Type 0 where
   Reopens : must_reopen (before_choice q) ≡ true → (q.inlet.broken || (not q.inlet.answered && nat_le 3 (min 3 (q.ticks + 1)))) ≡ true → r.inlet ≡ with_next_session q.inlet → r.ticks ≡ 0 → TickSays q r
   Holds : q.inlet.broken ≡ false → (not q.inlet.answered && nat_le 3 (min 3 (q.ticks + 1))) ≡ false → r.inlet ≡ q.inlet → r.ticks ≡ min 3 (q.ticks + 1) → TickSays q r
 
-pub tick-says : (q r : Port) → r ≡ port_after_choice (before_choice q) → q.chosen ≡ 0 → r.chosen ≡ 0 → TickSays q r
-tick-says q r is old new =
+-- a tick that leaves the choice
+pub stay-says : (q r : Port) → r ≡ port_after_choice (before_choice q) → choice_at (before_choice q) ≡ q.chosen → TickSays q r
+stay-says q r is choice =
     let y = before_choice q in
-    let choice : choice_at y ≡ q.chosen = sym (ap (λ (z : Port). z.chosen) is) ∙ new ∙ sym old in
     let same : (choice_at y == y.chosen) ≡ true = eq-test (choice_at y) q.chosen choice in
     let left : must_reopen y ≡ (q.inlet.broken || (not q.inlet.answered && nat_le 3 (min 3 (q.ticks + 1)))) = ap (λ (b : Bool). not b || q.inlet.broken || (not q.inlet.answered && nat_le 3 (min 3 (q.ticks + 1)))) same in
     (elim (must_reopen y) as (λ b. must_reopen y ≡ b → TickSays q r) [
@@ -146,23 +172,23 @@ module _ (script : Script) (x p s k : ℕ) where
   Good z = IsSeen script x p s k z
 
   -- the port after an event
-  pub port-next : (z : Progress) (e : Event) → MayGo script (IsSeen script x p s k) z e → (q : Port) → port_of z.world x p ≡ Some q → (r : Port) × (port_of (happens z.world e) x p ≡ Some r) × PortGoes z.world x p s e (happens z.world e) q r
+  pub port-next : (z : Progress) (e : Event) → MayGo script (IsSeen script x p s k) z e → (q : Port) → port_of z.world x p ≡ Some q → (r : Port) × (port_of (happens z.world e) x p ≡ Some r) × InletGoes z.world x p s e (happens z.world e) q r
   port-next z e may q there =
       let st = may.here.stand in
-      port-goes z.world st.most x p s k st.fine st.many st.line st.calm e may.quiet may.next.stand.calm q there
+      inlet-goes z.world st.most x p s k st.fine st.many st.line st.calm e may.quiet may.next.stand.calm q there
 
   pub first-here : (z : Progress) → IsSeen script x p s k z → (q : Port) → port_of z.world x p ≡ Some q → q.chosen ≡ 0
   first-here z seen q there = let st = seen.stand in chosen-first z.world st.most x p s k st.fine st.many st.line st.calm q there
 
   -- what a tick of the reader does
-  pub ticked-says : (z : Progress) (e : Event) → MayGo script (IsSeen script x p s k) z e → (q r : Port) → port_of z.world x p ≡ Some q → port_of (happens z.world e) x p ≡ Some r → HasTicked z.world x s (happens z.world e) q r → TickSays q r
-  ticked-says z e may q r there now ticked = tick-says q r ticked.port (first-here z may.here q there) (first-here (next_progress script z e) may.next r now)
+  pub ticked-says : (z : Progress) (e : Event) → MayGo script (IsSeen script x p s k) z e → (q r : Port) → port_of z.world x p ≡ Some q → port_of (happens z.world e) x p ≡ Some r → HasTicked z.world x (Source s) (happens z.world e) q r → TickSays q r
+  ticked-says z e may q r there now ticked = stay-says q r ticked.port (sym (ap (λ (y : Port). y.chosen) ticked.port) ∙ first-here (next_progress script z e) may.next r now ∙ sym (first-here z may.here q there))
 
   -- a tick that may come is not void
-  pub ticks-now : (z : Progress) (now : ℕ) → MayGo script (IsSeen script x p s k) z (Tick x now) → (q : Port) → port_of z.world x p ≡ Some q → (r : Port) × (port_of (happens z.world (Tick x now)) x p ≡ Some r) × HasTicked z.world x s (happens z.world (Tick x now)) q r
+  pub ticks-now : (z : Progress) (now : ℕ) → MayGo script (IsSeen script x p s k) z (Tick x now) → (q : Port) → port_of z.world x p ≡ Some q → (r : Port) × (port_of (happens z.world (Tick x now)) x p ≡ Some r) × HasTicked z.world x (Source s) (happens z.world (Tick x now)) q r
   ticks-now z now may q there =
       let st = may.here.stand in
-      tick-now z.world st.most x p s k st.fine st.many st.line st.calm now (may.here.clocked x now may.may) may.next.stand.calm q there
+      tick-now z.world st.most x p (Source s) st.fine st.many st.line.port st.calm now (may.here.clocked x now may.may) may.next.stand.calm q there
 
   -- the whole stays
   pub whole-kept : Keeps script (IsSeen script x p s k) (HasWhole script x p)
@@ -177,16 +203,16 @@ module _ (script : Script) (x p s k : ℕ) where
       kept-bound : (q r : Port) → r.inlet.held ≡ q.inlet.held → q.inlet.held.bound ≤ r.inlet.held.bound
       kept-bound q r same = let e = ap (λ (y : Reader). y.bound) same in omega (arith, e)
 
-      grows : (r : Port) → PortGoes z.world x p s e (happens z.world e) h.port r → h.port.inlet.held.bound ≤ r.inlet.held.bound
-      grows r (PortGoes.Stays with_it) = kept-bound h.port r (ap (λ (i : InletState). i.held) with_it.inlet_is)
-      grows r (PortGoes.TakesIn j f is at to sender with_it) =
+      grows : (r : Port) → InletGoes z.world x p s e (happens z.world e) h.port r → h.port.inlet.held.bound ≤ r.inlet.held.bound
+      grows r (InletGoes.Stays with_it) = kept-bound h.port r (ap (λ (i : InletState). i.held) with_it.inlet_is)
+      grows r (InletGoes.TakesIn j f is at to sender with_it) =
           let more = after-bound f.packet h.port.inlet in
           let same = ap (λ (i : InletState). i.held.bound) with_it.inlet_is in omega (arith, more, same)
-      grows r (PortGoes.TicksOn now is ticked) =
+      grows r (InletGoes.TicksOn now is ticked) =
           kept-bound h.port r (ap (λ (y : Port). y.inlet.held) ticked.port ∙ (elim (must_reopen (before_choice h.port)) as (λ b. (cond b (with_next_session h.port.inlet) h.port.inlet).held ≡ h.port.inlet.held) [ true ↦ refl | false ↦ refl ]))
 
-      still-sure : (r : Port) → PortGoes z.world x p s e (happens z.world e) h.port r → is_sure r.inlet.held ≡ true
-      still-sure r (PortGoes.Stays with_it) = ap (λ (i : InletState). is_sure i.held) with_it.inlet_is ∙ h.sure
-      still-sure r (PortGoes.TakesIn j f is at to sender with_it) = ap (λ (i : InletState). is_sure i.held) with_it.inlet_is ∙ after-sure f.packet h.port.inlet (may.here.stand.plain j f at sender) h.sure
-      still-sure r (PortGoes.TicksOn now is ticked) =
+      still-sure : (r : Port) → InletGoes z.world x p s e (happens z.world e) h.port r → is_sure r.inlet.held ≡ true
+      still-sure r (InletGoes.Stays with_it) = ap (λ (i : InletState). is_sure i.held) with_it.inlet_is ∙ h.sure
+      still-sure r (InletGoes.TakesIn j f is at to sender with_it) = ap (λ (i : InletState). is_sure i.held) with_it.inlet_is ∙ after-sure f.packet h.port.inlet (may.here.stand.plain j f at sender) h.sure
+      still-sure r (InletGoes.TicksOn now is ticked) =
           ap (λ (y : Port). is_sure y.inlet.held) ticked.port ∙ (elim (must_reopen (before_choice h.port)) as (λ b. is_sure (cond b (with_next_session h.port.inlet) h.port.inlet).held ≡ is_sure h.port.inlet.held) [ true ↦ refl | false ↦ refl ]) ∙ h.sure

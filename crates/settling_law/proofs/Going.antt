@@ -1,304 +1,86 @@
--- What an event of a quiet phase makes of a port that reads a source, where its node does not recover.
-use Rattle.std.proofs.Common.{◌≡◌, ℕ, zero, suc, ◌<◌, ◌≤◌, Bool, true, false, cond, ◌==◌, List, [], ◌∷◌, ◌++◌, map, length, refl, sym, ap, subst, ◌∙◌, arith, Option, Some, None, slice_get, ◌⊎◌, inl, inr}
-use Rattle.std.specs.Prelude.{IfSome}
-use Rattle.dpc_model.specs.Lists.{nth, changed}
+-- What an event of a quiet phase makes of a port that reads a source, where its node does not recover: there is one replica, which it reads.
+use Rattle.std.proofs.Common.{◌≡◌, ℕ, ◌<◌, Bool, true, cond, length, refl, sym, ap, subst, ◌∙◌, arith, Option, Some, slice_get, inl, inr}
+use Rattle.dpc_model.specs.Lists.{nth}
+use Rattle.dpc_model.specs.Inlets.{take_batch, after_link}
 use Rattle.dpc_model.specs.Actors.{role_of, inputs_of, senders_of}
-use Rattle.dpc_model.specs.Ports.{Port, sender_at, must_reopen, port_after_choice}
-use Rattle.dpc_model.specs.declared.actors.Role.{Role}
-use Rattle.dpc_model.specs.declared.actors.Role.TheVariants.{Source as IsSource, Node as IsNode, Client as IsClient, Nobody}
+use Rattle.dpc_model.specs.Ports.{Port, sender_at, without_ended_marks}
 use Rattle.dpc_model.specs.declared.messages.Event.{Event}
-use Rattle.dpc_model.specs.declared.messages.Event.TheVariants.{Deliver, Tick, Mill}
-use Rattle.dpc_model.specs.declared.plans.ClientSpec.{ClientSpec}
-use Rattle.dpc_model.specs.declared.plans.Plan.{Plan}
+use Rattle.dpc_model.specs.declared.messages.Event.TheVariants.{Deliver, Tick}
+use Rattle.dpc_model.specs.declared.messages.Message.TheVariants as message
 use Rattle.dpc_model.specs.declared.plans.StreamRef.{StreamRef}
 use Rattle.dpc_model.specs.declared.plans.StreamRef.TheVariants.{Source}
-use Rattle.node_model.specs.Mails.{Mail, Stepped}
-use Rattle.node_model.specs.Nodes.{PlainNode, streams_of}
-use Rattle.node_model.specs.NodeSteps.{packet_step, mill_step, tick_step}
-use Rattle.node_model.specs.Clients.{ClientState, client_stream, new_client, client_after_packet, client_tick_step}
-use Rattle.world_model.specs.Worlds.{World, Envelope, Slot, home_of, node_place, slot_of, client_at, source_at, from, node_stepped, source_stepped, client_stepped, happens}
+use Rattle.node_model.specs.Mails.{Packet, Plain, SnapFor}
+use Rattle.world_model.specs.Worlds.{World, Envelope, can_come, happens}
 use Rattle.world_model.specs.Steady.{NoneRecovers}
-use Rattle.world_safety.proofs.EventCases.{AreCases, by-event}
-use Rattle.world_safety.proofs.Numbering.{home-inputs}
+use Rattle.world_safety.proofs.Tests.{eq-test}
 use Rattle.world_safety.proofs.Happening.{IsFine}
-use Rattle.world_safety.proofs.Worlding.{client-below}
-use Rattle.node_model.specs.Sources.{SourceState, source_packet_step, source_tick_step}
-use Rattle.world_safety.proofs.Promises.{slot-here}
-use Rattle.granting_law.specs.Taken.{node_port, role_port, port_of}
-use Rattle.granting_law.proofs.Keys.{nth-changed}
-use Rattle.granting_law.proofs.Slots.{slot-there}
-use Rattle.granting_law.proofs.Taking.{sent-by, client-actor}
+use Rattle.world_safety.proofs.Pointwise.{sender-of}
+use Rattle.granting_law.specs.Taken.{port_of}
+use Rattle.granting_law.proofs.Taking.{sent-by}
 use Rattle.reader_law.proofs.Steps.{port-chosen}
 use Rattle.settling_law.specs.Phased.{is_quiet}
-use Rattle.settling_law.proofs.Exact.{IsIn, inlet_after, PortWith, with-same, PortTakes, same-or, node-takes}
-use Rattle.settling_law.proofs.Ticking.{mill-ports, before_choice, ask_mail, node-ticks, client-takes, client-ticks}
-use Rattle.settling_law.proofs.Lines.{IsReading}
+use Rattle.settling_law.proofs.Exact.{inlet_after, PortWith}
+use Rattle.settling_law.proofs.Lines.{IsReading, place-low}
+use Rattle.settling_law.proofs.PortExact.{port_after}
+use Rattle.settling_law.proofs.PortSteps.{To}
+use Rattle.settling_law.proofs.PortGoing.{HasTicked, PortGoes, port-goes}
+use Rattle.settling_law.proofs.PortNow.{took-now as port-took-now}
 
--- a tick of the port
-pub record HasTicked (w : World) (x s : ℕ) (next : World) (q r : Port) : Type 0 where
-  pub port : r ≡ port_after_choice (before_choice q)
-  pub asks : must_reopen (before_choice q) ≡ true → (k : ℕ) × (slice_get next.envelopes k ≡ Some (from x (ask_mail w.plan (Source s) (before_choice q)))) × (length w.envelopes ≤ k)
+-- the inlet is as before, takes an envelope of its source, or ticks, and asks where it opens its session anew
+pub data InletGoes (w : World) (x p s : ℕ) (e : Event) (next : World) (q r : Port) : Type 0 where
+  Stays : PortWith q r q.inlet → InletGoes w x p s e next q r
+  TakesIn : (j : ℕ) (f : Envelope) → e ≡ Deliver j → slice_get w.envelopes j ≡ Some f → f.to ≡ x → f.sender ≡ s → PortWith q r (inlet_after f.packet q.inlet) → InletGoes w x p s e next q r
+  TicksOn : (now : ℕ) → e ≡ Tick x now → HasTicked w x (Source s) next q r → InletGoes w x p s e next q r
 
--- the port is as before, takes an envelope of its source, or ticks, and asks where it opens its session anew
-pub data PortGoes (w : World) (x p s : ℕ) (e : Event) (next : World) (q r : Port) : Type 0 where
-  Stays : PortWith q r q.inlet → PortGoes w x p s e next q r
-  TakesIn : (j : ℕ) (f : Envelope) → e ≡ Deliver j → slice_get w.envelopes j ≡ Some f → f.to ≡ x → f.sender ≡ s → PortWith q r (inlet_after f.packet q.inlet) → PortGoes w x p s e next q r
-  TicksOn : (now : ℕ) → e ≡ Tick x now → HasTicked w x s next q r → PortGoes w x p s e next q r
-
--- ---- places
-
-pub sent-place : (a : ℕ) (es : List Envelope) (m : Mail) (ms : List Mail) → IsIn m ms → (k : ℕ) × (slice_get (es ++ map (from a) ms) k ≡ Some (from a m)) × (length es ≤ k)
-sent-place a [] m [] h = absurd h
-sent-place a [] m (n ∷ ms) (inl e) = (0, ap {B = Option Envelope} (λ (z : Mail). Some (from a z)) e, omega arith)
-sent-place a [] m (n ∷ ms) (inr h) = let k = sent-place a [] m ms h in (suc k.0, k.1, omega arith)
-sent-place a (y ∷ es) m ms h = let k = sent-place a es m ms h in let low = k.2 in (suc k.0, k.1, omega (arith, low))
-
-no_slot : Slot
-no_slot = record { last_inc = 0; node = None }
-
--- a node that is up does not recover
-pub calm-at : (slots : List Slot) (i : ℕ) (n : PlainNode) → NoneRecovers slots → (nth (record { last_inc = 0; node = None }) slots i).node ≡ Some n → n.recovering ≡ false
-calm-at [] i n h e = cc
-calm-at (slot ∷ slots) zero n h e = subst (λ (o : Option PlainNode). IfSome o (λ (m : PlainNode). m.recovering ≡ false)) e h.0
-calm-at (slot ∷ slots) (suc i) n h e = calm-at slots i n h.1 e
-
--- a client reads one stream
-pub client-inputs : (cs : List ClientSpec) (i p : ℕ) (u : StreamRef) → slice_get (nth [] (map (λ (client : ClientSpec). client.input ∷ []) cs) i) p ≡ Some u → (p ≡ 0) × (nth [] (map (λ (client : ClientSpec). client.input ∷ []) cs) i ≡ u ∷ [])
-client-inputs [] i p u e = cc
-client-inputs (c ∷ cs) zero zero u e = (refl, ap (λ (z : StreamRef). z ∷ []) (some-stream c.input u e))
+-- a packet of the replica that is read
+read-after : (i : ℕ) (packet : Packet) (q r : Port) → q.chosen ≡ i → r ≡ port_after i packet (without_ended_marks q) → PortWith q r (inlet_after packet q.inlet)
+read-after i packet q r same is = subst (λ (y : Port). PortWith q y (inlet_after packet q.inlet)) (sym is) (by-packet packet)
   where
-    some-stream : (y z : StreamRef) → ◌≡◌ {A = Option StreamRef} (Some y) (Some z) → y ≡ z
-    some-stream y z d = cc
-client-inputs (c ∷ cs) zero (suc p) u e = cc
-client-inputs (c ∷ cs) (suc i) p u e = client-inputs cs i p u e
-
-pub some-port : (y z : Port) → ◌≡◌ {A = Option Port} (Some y) (Some z) → y ≡ z
-some-port y z d = cc
+    by-packet : (packet : Packet) → PortWith q (port_after i packet (without_ended_marks q)) (inlet_after packet q.inlet)
+    by-packet (Plain (message.Batch u index items)) =
+        let taken = (take_batch q.inlet u index items).after in
+        subst (λ (b : Bool). PortWith q (cond b (record (without_ended_marks q) { inlet = taken }) (without_ended_marks q)) taken) (sym (eq-test q.chosen i same)) (record { inlet_is = refl; chosen = refl; ticks = refl })
+    by-packet (Plain (message.Beat b)) = record { inlet_is = ap (λ (c : Bool). cond c (after_link q.inlet b.link) q.inlet) (eq-test i q.chosen (sym same)); chosen = refl; ticks = refl }
+    by-packet (Plain (message.Truncated u base)) = record { inlet_is = refl; chosen = refl; ticks = refl }
+    by-packet (Plain (message.Subscribe asked)) = record { inlet_is = refl; chosen = refl; ticks = refl }
+    by-packet (Plain (message.Ack j n)) = record { inlet_is = refl; chosen = refl; ticks = refl }
+    by-packet (Plain (message.Ask j n)) = record { inlet_is = refl; chosen = refl; ticks = refl }
+    by-packet (Plain (message.Grant j n)) = record { inlet_is = refl; chosen = refl; ticks = refl }
+    by-packet (Plain (message.SnapAsk j n)) = record { inlet_is = refl; chosen = refl; ticks = refl }
+    by-packet (SnapFor j try s) = record { inlet_is = refl; chosen = refl; ticks = refl }
 
 module _ (w : World) (most x p s k : ℕ) (fine : IsFine w most) (many : length w.clients ≡ length w.plan.clients) (line : IsReading w.plan x p s k) (calm : NoneRecovers w.nodes) where
-  abbrev pub To : World → (Port → Port → Type 0) → Port → Type 0
-  To next R q = (r : Port) × (port_of next x p ≡ Some r) × R q r
-
   -- it reads the first replica, the source
   pub chosen-first : (q : Port) → port_of w x p ≡ Some q → q.chosen ≡ 0
   chosen-first q there = let low = port-chosen w most x p (Source s) fine many line.port q there in let one = line.one in omega (arith, low, one)
 
-  takes-line : (f : Envelope) (ss : List StreamRef) (q r : Port) → ss ≡ inputs_of w.plan (role_of w.plan x) → q.chosen ≡ 0 → PortTakes w.plan ss p f.sender f.packet q r →
-      ((f.sender ≡ s) × PortWith q r (inlet_after f.packet q.inlet)) ⊎ ((f.sender ≡ s → ⊥) × PortWith q r q.inlet)
-  takes-line f ss q r same first (inl mine) =
-      let at : slice_get ss p ≡ Some (Source s) = ap (λ (zs : List StreamRef). slice_get zs p) same ∙ line.port.there in
-      let sender = sent-by w.plan ss f.sender p q.chosen (Source s) at mine.0 in
-      inl (sym sender ∙ ap (λ (z : ℕ). nth 0 (senders_of w.plan (Source s)) z) first ∙ line.first, mine.1)
-  takes-line f ss q r same first (inr other) =
-      inr (λ it. other.0 (ap (λ (z : ℕ). sender_at w.plan ss z) it ∙ ap (λ (zs : List StreamRef). sender_at w.plan zs s) same ∙ line.sender ∙ ap {B = Option (ℕ × ℕ)} (λ (z : ℕ). Some (p, z)) (sym first)), other.1)
-
-  -- ---- a world in which the reader is as before
-
-  port-same : (next : World) → next.plan ≡ w.plan → ((f b : ℕ) → role_of w.plan x ≡ IsNode f b → (slot_of next x).node ≡ (slot_of w x).node) → ((c : ℕ) → role_of w.plan x ≡ IsClient c → (client_at next c).port ≡ (client_at w c).port) → port_of next x p ≡ port_of w x p
-  port-same next plan slots clients = ap (λ (z : Plan). role_port next x p (role_of z x)) plan ∙ by-role (role_of w.plan x) refl
+  -- and the source alone sends
+  sent-first : (a i : ℕ) → sender_at w.plan (inputs_of w.plan (role_of w.plan x)) a ≡ Some (p, i) → (i ≡ 0) × (a ≡ s)
+  sent-first a i place =
+      let found = sender-of w.plan (inputs_of w.plan (role_of w.plan x)) a p i place in
+      let stream : found.stream ≡ Source s = some-stream found.stream (Source s) (sym found.at ∙ line.port.there) in
+      let low = (place-low a (senders_of w.plan found.stream) i found.place).0 in
+      let low_first : i < length (senders_of w.plan (Source s)) = subst (λ (u : StreamRef). i < length (senders_of w.plan u)) stream low in
+      let one = line.one in
+      let first : i ≡ 0 = omega (arith, low_first, one) in
+      (first, sym (sent-by w.plan (inputs_of w.plan (role_of w.plan x)) a p i (Source s) line.port.there place) ∙ ap (λ (z : ℕ). nth 0 (senders_of w.plan (Source s)) z) first ∙ line.first)
     where
-      by-role : (role : Role) → role_of w.plan x ≡ role → role_port next x p role ≡ role_port w x p role
-      by-role (IsNode f b) is = ap (λ (o : Option PlainNode). node_port p o) (slots f b is)
-      by-role (IsClient c) is = ap (λ (z : Port). cond {A = Option Port} (p == 0) (Some z) None) (clients c is)
-      by-role (IsSource u) is = refl
-      by-role Nobody is = refl
+      some-stream : (y z : StreamRef) → ◌≡◌ {A = Option StreamRef} (Some y) (Some z) → y ≡ z
+      some-stream y z d = cc
 
-  still : (e : Event) (next : World) (q : Port) → port_of next x p ≡ port_of w x p → port_of w x p ≡ Some q → To next (PortGoes w x p s e next) q
-  still e next q same there = (q, same ∙ there, Stays (with-same q))
-
-  -- ---- nodes
-
-  pub node-own : (R : Port → Port → Type 0) (y g b : ℕ) (n : PlainNode) (t : Stepped PlainNode) → role_of w.plan y ≡ IsNode g b → (slot_of w y).node ≡ Some n → x ≡ y → NoneRecovers (node_stepped y t w).nodes →
-      ((q : Port) → port_of w x p ≡ Some q → slice_get n.ports p ≡ Some q → n.recovering ≡ false → t.after.recovering ≡ false → (r : Port) × (slice_get t.after.ports p ≡ Some r) × R q r) → (q : Port) → port_of w x p ≡ Some q → To (node_stepped y t w) R q
-  node-own R y g b n t role up same calm_next own q there =
-      let next = node_stepped y t w in
-      let role_x : role_of w.plan x ≡ IsNode g b = ap (λ (z : ℕ). role_of w.plan z) same ∙ role in
-      let was : port_of w x p ≡ slice_get n.ports p = ap (λ (z : Role). role_port w x p z) role_x ∙ ap (λ (z : ℕ). node_port p (slot_of w z).node) same ∙ ap (λ (o : Option PlainNode). node_port p o) up in
-      let slot : slot_of (node_stepped y t w) y ≡ record (slot_of w y) { node = Some t.after } = slot-here w most y g b (λ (z : Slot). record z { node = Some t.after }) fine role in
-      let node : (slot_of (node_stepped y t w) y).node ≡ Some t.after = ap (λ (z : Slot). z.node) slot in
-      let now : port_of (node_stepped y t w) x p ≡ slice_get t.after.ports p = ap (λ (z : Role). role_port next x p z) role_x ∙ ap (λ (z : ℕ). node_port p (slot_of next z).node) same ∙ ap (λ (o : Option PlainNode). node_port p o) node in
-      let k = own q there (sym was ∙ there) (calm-at w.nodes (node_place w.plan y) n calm up) (calm-at next.nodes (node_place w.plan y) t.after calm_next node) in
-      (k.0, now ∙ k.1, k.2)
-
-  node-step : (e : Event) (y g b : ℕ) (n : PlainNode) (t : Stepped PlainNode) → role_of w.plan y ≡ IsNode g b → (slot_of w y).node ≡ Some n → NoneRecovers (node_stepped y t w).nodes →
-      (x ≡ y → (q : Port) → port_of w x p ≡ Some q → slice_get n.ports p ≡ Some q → n.recovering ≡ false → t.after.recovering ≡ false → (r : Port) × (slice_get t.after.ports p ≡ Some r) × PortGoes w x p s e (node_stepped y t w) q r) →
-      (q : Port) → port_of w x p ≡ Some q → To (node_stepped y t w) (PortGoes w x p s e (node_stepped y t w)) q
-  node-step e y g b n t role up calm_next own q there =
-      elim (same-or x y) [
-        | inl same ↦ node-own (PortGoes w x p s e (node_stepped y t w)) y g b n t role up same calm_next (own same) q there
-        | inr other ↦ still e (node_stepped y t w) q
-            (port-same (node_stepped y t w) refl (λ f c is. ap (λ (z : Slot). z.node) (slot-there w y x g b f c (λ (z : Slot). record z { node = Some t.after }) role is other)) (λ c is. refl)) there
-      ]
-
-  node-streams : (y g b : ℕ) → role_of w.plan y ≡ IsNode g b → x ≡ y → streams_of (home_of w.plan (g, b)) ≡ inputs_of w.plan (role_of w.plan x)
-  node-streams y g b role same = sym (home-inputs (home_of w.plan (g, b)) b) ∙ ap (λ (z : Role). inputs_of w.plan z) (sym (ap (λ (z : ℕ). role_of w.plan z) same ∙ role))
-
-  -- a packet of the source, or of another
-  pub node-packet : (y g b : ℕ) (f : Envelope) (n : PlainNode) → role_of w.plan y ≡ IsNode g b → x ≡ y → (q : Port) → port_of w x p ≡ Some q → slice_get n.ports p ≡ Some q → n.recovering ≡ false → (packet_step (home_of w.plan (g, b)) f.sender f.packet n).after.recovering ≡ false →
-      (r : Port) × (slice_get (packet_step (home_of w.plan (g, b)) f.sender f.packet n).after.ports p ≡ Some r) × (((f.sender ≡ s) × PortWith q r (inlet_after f.packet q.inlet)) ⊎ ((f.sender ≡ s → ⊥) × PortWith q r q.inlet))
-  node-packet y g b f n role same q there at whole calm_next =
-      let home = home_of w.plan (g, b) in
-      let k = node-takes home f.sender p f.packet n q whole at calm_next in
-      (k.0, k.1, takes-line f (streams_of home) q k.0 (node-streams y g b role same) (chosen-first q there) k.2)
-
-  node-took : (j g b : ℕ) (f : Envelope) (n : PlainNode) → slice_get w.envelopes j ≡ Some f → role_of w.plan f.to ≡ IsNode g b → (slot_of w f.to).node ≡ Some n → NoneRecovers (node_stepped f.to (packet_step (home_of w.plan (g, b)) f.sender f.packet n) w).nodes →
-      (q : Port) → port_of w x p ≡ Some q → let next = node_stepped f.to (packet_step (home_of w.plan (g, b)) f.sender f.packet n) w in To next (PortGoes w x p s (Deliver j) next) q
-  node-took j g b f n sent role up calm_next q there =
-      let t = packet_step (home_of w.plan (g, b)) f.sender f.packet n in
-      node-step (Deliver j) f.to g b n t role up calm_next (λ same z its at whole calm_z.
-      let k = node-packet f.to g b f n role same z its at whole calm_z in (
-        k.0,
-        k.1,
-        elim k.2 [
-          | inl mine ↦ TakesIn j f refl sent (sym same) mine.0 mine.1
-          | inr other ↦ Stays other.1
-        ],
-      )) q there
-
-  pub node-tick : (y g b now : ℕ) (n : PlainNode) → role_of w.plan y ≡ IsNode g b → x ≡ y → (q : Port) → slice_get n.ports p ≡ Some q → n.recovering ≡ false →
-      let t = tick_step (home_of w.plan (g, b)) now n in (r : Port) × (slice_get t.after.ports p ≡ Some r) × HasTicked w x s (node_stepped y t w) q r
-  node-tick y g b now n role same q at whole =
-      let home = home_of w.plan (g, b) in
-      let t = tick_step home now n in
-      let stream : slice_get (streams_of home) p ≡ Some (Source s) = ap (λ (ss : List StreamRef). slice_get ss p) (node-streams y g b role same) ∙ line.port.there in
-      let k = node-ticks home p (Source s) q now n whole at stream in (
-        port_after_choice (before_choice q),
-        k.after,
-        record {
-          port = refl;
-          asks = λ must.
-              let place = sent-place y w.envelopes (ask_mail w.plan (Source s) (before_choice q)) t.sends (k.asks must) in
-              (place.0, place.1 ∙ ap {B = Option Envelope} (λ (z : ℕ). Some (from z (ask_mail w.plan (Source s) (before_choice q)))) (sym same), place.2);
-        },
-      )
-
-  node-mill : (e : Event) (y g b m : ℕ) (n : PlainNode) → role_of w.plan y ≡ IsNode g b → (slot_of w y).node ≡ Some n → NoneRecovers (node_stepped y (mill_step (home_of w.plan (g, b)) m n) w).nodes → (q : Port) → port_of w x p ≡ Some q →
-      let next = node_stepped y (mill_step (home_of w.plan (g, b)) m n) w in To next (PortGoes w x p s e next) q
-  node-mill e y g b m n role up calm_next q there =
-      node-step e y g b n (mill_step (home_of w.plan (g, b)) m n) role up calm_next
-      (λ same z its at whole calm_z. (z, ap (λ (ps : List Port). slice_get ps p) (mill-ports (home_of w.plan (g, b)) m n) ∙ at, Stays (with-same z))) q there
-
-  -- ---- clients
-
-  pub client-own : (R : Port → Port → Type 0) (d : ℕ) (change : ClientState → ClientState) (es : List Envelope) → role_of w.plan x ≡ IsClient d → d < length w.clients →
-      ((z : ClientState) → z ≡ client_at w d → port_of w x p ≡ Some z.port → R z.port (change z).port) → (q : Port) → port_of w x p ≡ Some q → To (record w { clients = changed d change w.clients; envelopes = es }) R q
-  client-own R d change es role low own q there =
-      let next : World = record w { clients = changed d change w.clients; envelopes = es } in
-      let z = client_at w d in
-      let first = (client-inputs w.plan.clients d p (Source s) (subst (λ (r : Role). slice_get (inputs_of w.plan r) p ≡ Some (Source s)) role line.port.there)).0 in
-      let test : (p == 0) ≡ true = rw first refl in
-      let was : port_of w x p ≡ Some z.port = ap (λ (r : Role). role_port w x p r) role ∙ ap (λ (b : Bool). cond {A = Option Port} b (Some z.port) None) test in
-      let it : z.port ≡ q = some-port z.port q (sym was ∙ there) in
-      let here : client_at next d ≡ change z = nth-in (new_client w.plan d) d change w.clients low in
-      let now : port_of next x p ≡ Some (change z).port = ap (λ (r : Role). role_port next x p r) role ∙ ap (λ (b : Bool). cond {A = Option Port} b (Some (client_at next d).port) None) test ∙ ap {B = Option Port} (λ (y : ClientState). Some y.port) here in
-      ((change z).port, now, subst (λ (y : Port). R y (change z).port) it (own z refl was))
+  pub inlet-goes : (e : Event) → is_quiet e ≡ true → NoneRecovers (happens w e).nodes → (q : Port) → port_of w x p ≡ Some q → To x p (happens w e) (InletGoes w x p s e (happens w e)) q
+  inlet-goes e quiet calm_next q there = let k = port-goes w most x p (Source s) fine many line.port calm e quiet calm_next q there in (k.0, k.1, by-port k.0 k.2)
     where
-      nth-in : {X : Type 0} (d : X) (k : ℕ) (f : X → X) (xs : List X) → k < length xs → nth d (changed k f xs) k ≡ f (nth d xs k)
-      nth-in d k f [] h = absurd (omega (arith, h))
-      nth-in d zero f (x ∷ xs) h = refl
-      nth-in d (suc k) f (x ∷ xs) h = nth-in d k f xs (omega (arith, h))
+      by-port : (r : Port) → PortGoes w x p (Source s) e (happens w e) q r → InletGoes w x p s e (happens w e) q r
+      by-port r (PortGoes.Rests (inl same)) = Stays (record { inlet_is = ap (λ (y : Port). y.inlet) same; chosen = ap (λ (y : Port). y.chosen) same; ticks = ap (λ (y : Port). y.ticks) same })
+      by-port r (PortGoes.Rests (inr same)) = Stays (record { inlet_is = ap (λ (y : Port). y.inlet) same; chosen = ap (λ (y : Port). y.chosen) same; ticks = ap (λ (y : Port). y.ticks) same })
+      by-port r (PortGoes.TakesIn j i f is at to place after lost) = let sent = sent-first f.sender i place in TakesIn j f is at to sent.1 (read-after i f.packet q r (chosen-first q there ∙ sym sent.0) after)
+      by-port r (PortGoes.TicksOn now is ticked) = TicksOn now is ticked
 
-  client-step : (e : Event) (d : ℕ) (change : ClientState → ClientState) (es : List Envelope) → d < length w.clients →
-      let next : World = record w { clients = changed d change w.clients; envelopes = es } in
-      (role_of w.plan x ≡ IsClient d → (z : ClientState) → z ≡ client_at w d → port_of w x p ≡ Some z.port → PortGoes w x p s e next z.port (change z).port) → (q : Port) → port_of w x p ≡ Some q → To next (PortGoes w x p s e next) q
-  client-step e d change es low own q there = by-role (role_of w.plan x) refl
-    where
-      clash-source : (u c : ℕ) → IsSource u ≡ IsClient c → ⊥
-      clash-source u c e = cc
-
-      clash-node : (g b c : ℕ) → IsNode g b ≡ IsClient c → ⊥
-      clash-node g b c e = cc
-
-      clash-nobody : (c : ℕ) → Nobody ≡ IsClient c → ⊥
-      clash-nobody c e = cc
-
-      by-role : (role : Role) → role_of w.plan x ≡ role → To (record w { clients = changed d change w.clients; envelopes = es }) (PortGoes w x p s e (record w { clients = changed d change w.clients; envelopes = es })) q
-      by-role (IsSource u) is = let next : World = record w { clients = changed d change w.clients; envelopes = es } in still e next q (port-same next refl (λ f b at. refl) (λ c at. absurd (clash-source u c (sym is ∙ at)))) there
-      by-role (IsNode g b) is = let next : World = record w { clients = changed d change w.clients; envelopes = es } in still e next q (port-same next refl (λ f b at. refl) (λ c at. absurd (clash-node g b c (sym is ∙ at)))) there
-      by-role Nobody is = let next : World = record w { clients = changed d change w.clients; envelopes = es } in still e next q (port-same next refl (λ f b at. refl) (λ c at. absurd (clash-nobody c (sym is ∙ at)))) there
-      by-role (IsClient c) is =
-          let next : World = record w { clients = changed d change w.clients; envelopes = es } in
-          elim (same-or c d) [
-            | inl same ↦ let role : role_of w.plan x ≡ IsClient d = is ∙ ap IsClient same in client-own (PortGoes w x p s e next) d change es role low (own role) q there
-            | inr other ↦ still e next q (port-same next refl (λ f b at. refl) (λ j at. ap (λ (z : ClientState). z.port) (apart c j (client-number c j (sym is ∙ at)) other))) there
-          ]
-        where
-          client-number : (c j : ℕ) → IsClient c ≡ IsClient j → c ≡ j
-          client-number c j e = cc
-
-          apart : (c j : ℕ) → c ≡ j → (c ≡ d → ⊥) → nth (new_client w.plan j) (changed d change w.clients) j ≡ nth (new_client w.plan j) w.clients j
-          apart c j same other =
-              elim (nth-changed (new_client w.plan j) d change w.clients j) [
-                | inl one ↦ one
-                | inr here ↦ absurd (other (same ∙ here.0))
-              ]
-
-  -- what an envelope of the source makes of the port, and any other leaves
-  pub client-packet : (f : Envelope) (d : ℕ) (z : ClientState) → role_of w.plan x ≡ IsClient d → (q : Port) → q ≡ z.port → port_of w x p ≡ Some q →
-      ((f.sender ≡ s) × PortWith q (client_after_packet w.plan d f.sender f.packet z).port (inlet_after f.packet q.inlet)) ⊎ ((f.sender ≡ s → ⊥) × PortWith q (client_after_packet w.plan d f.sender f.packet z).port q.inlet)
-  client-packet f d z role q same there =
-      let reads = client-inputs w.plan.clients d p (Source s) (subst (λ (r : Role). slice_get (inputs_of w.plan r) p ≡ Some (Source s)) role line.port.there) in
-      let stream : client_stream w.plan d ≡ Source s = ap (λ (ss : List StreamRef). nth (Source 0) ss 0) reads.1 in
-      let inputs : client_stream w.plan d ∷ [] ≡ inputs_of w.plan (role_of w.plan x) = ap (λ (u : StreamRef). u ∷ []) stream ∙ sym reads.1 ∙ ap (λ (r : Role). inputs_of w.plan r) (sym role) in
-      let k = client-takes w.plan d f.sender f.packet z in
-      let at : PortTakes w.plan (client_stream w.plan d ∷ []) p f.sender f.packet q (client_after_packet w.plan d f.sender f.packet z).port =
-      subst (λ (i : ℕ). PortTakes w.plan (client_stream w.plan d ∷ []) i f.sender f.packet q (client_after_packet w.plan d f.sender f.packet z).port) (sym reads.0)
-      (subst (λ (y : Port). PortTakes w.plan (client_stream w.plan d ∷ []) 0 f.sender f.packet y (client_after_packet w.plan d f.sender f.packet z).port) (sym same) k) in
-      takes-line f (client_stream w.plan d ∷ []) q (client_after_packet w.plan d f.sender f.packet z).port inputs (chosen-first q there) at
-
-  pub client-tick : (a d now : ℕ) (z : ClientState) → role_of w.plan x ≡ IsClient d → x ≡ a → HasTicked w x s (client_stepped a d (client_tick_step w.plan d now z) w) z.port (client_tick_step w.plan d now z).after.port
-  client-tick a d now z role same =
-      let reads = client-inputs w.plan.clients d p (Source s) (subst (λ (r : Role). slice_get (inputs_of w.plan r) p ≡ Some (Source s)) role line.port.there) in
-      let stream : client_stream w.plan d ≡ Source s = ap (λ (ss : List StreamRef). nth (Source 0) ss 0) reads.1 in
-      let t = client_tick_step w.plan d now z in
-      let k = client-ticks w.plan d now z in
-      record {
-        port = some-port t.after.port (port_after_choice (before_choice z.port)) k.after;
-        asks = λ must.
-            let place = sent-place a w.envelopes (ask_mail w.plan (Source s) (before_choice z.port)) t.sends (subst (λ (u : StreamRef). IsIn (ask_mail w.plan u (before_choice z.port)) t.sends) stream (k.asks must)) in
-            (place.0, place.1 ∙ ap {B = Option Envelope} (λ (i : ℕ). Some (from i (ask_mail w.plan (Source s) (before_choice z.port)))) (sym same), place.2);
-      }
-
-  pub client-low : (a d : ℕ) → role_of w.plan a ≡ IsClient d → d < length w.clients
-  client-low a d role = let low = client-below w.plan a d role in omega (arith, low, many)
-
-  -- ---- every event
-
-  abbrev Goes : Event → World → Type 0
-  Goes e next = is_quiet e ≡ true → NoneRecovers next.nodes → (q : Port) → port_of w x p ≡ Some q → To next (PortGoes w x p s e next) q
-
-  source-still : (e : Event) (a : ℕ) (t : Stepped SourceState) (q : Port) → port_of w x p ≡ Some q → To (source_stepped a t w) (PortGoes w x p s e (source_stepped a t w)) q
-  source-still e a t q there = still e (source_stepped a t w) q (port-same (source_stepped a t w) refl (λ f b is. refl) (λ c is. refl)) there
-
-  goes-cases : AreCases w Goes
-  goes-cases =
-      record {
-        still = λ e quiet calm_next q there. still e w q refl there;
-        wires = λ e cuts quiet calm_next q there. still e (record w { cuts = cuts }) q (port-same (record w { cuts = cuts }) refl (λ f b is. refl) (λ c is. refl)) there;
-        emitted = λ a v t role quiet calm_next q there. cc;
-        released = λ a v t role quiet calm_next q there. cc;
-        source_took = λ j v f sent can role quiet calm_next q there. source-still (Deliver j) f.to (source_packet_step w.plan v f.sender f.packet (source_at w v)) q there;
-        source_ticks = λ a v now role quiet calm_next q there. source-still (Tick a now) a (source_tick_step w.plan v now (source_at w v)) q there;
-        crashed = λ a f r role quiet calm_next q there. cc;
-        restarted = λ a i f r role quiet calm_next q there. cc;
-        node_took = λ j g b f n sent can role up quiet calm_next q there. node-took j g b f n sent role up calm_next q there;
-        node_ticked = λ y now g b n role up clock quiet calm_next q there.
-            node-step (Tick y now) y g b n (tick_step (home_of w.plan (g, b)) now n) role up calm_next
-            (λ same z its at whole calm_z. let k = node-tick y g b now n role same z at whole in (k.0, k.1, TicksOn now (ap (λ (i : ℕ). Tick i now) (sym same)) k.2)) q there;
-        node_milled = λ y m g b n role up can quiet calm_next q there. node-mill (Mill y m) y g b m n role up calm_next q there;
-        client_took = λ j d f sent can role quiet calm_next q there.
-            client-step (Deliver j) d (client_after_packet w.plan d f.sender f.packet) w.envelopes (client-low f.to d role)
-            (λ is z same was. elim (client-packet f d z is z.port refl was) [
-              | inl mine ↦ TakesIn j f refl sent (client-actor w.plan f.to x d role is) mine.0 mine.1
-              | inr other ↦ Stays other.1
-            ]) q there;
-        client_ticks = λ a d now role quiet calm_next q there.
-            client-step (Tick a now) d (λ _. (client_tick_step w.plan d now (client_at w d)).after) (w.envelopes ++ map (from a) (client_tick_step w.plan d now (client_at w d)).sends) (client-low a d role)
-            (λ is z same was.
-            let mine : x ≡ a = client-actor w.plan x a d is role in
-            TicksOn now (ap (λ (i : ℕ). Tick i now) (sym mine))
-            (subst (λ (y : ClientState). HasTicked w x s (client_stepped a d (client_tick_step w.plan d now (client_at w d)) w) y.port (client_tick_step w.plan d now (client_at w d)).after.port) (sym same) (client-tick a d now (client_at w d) is mine))) q there;
-      }
-
-  pub port-goes : (e : Event) → is_quiet e ≡ true → NoneRecovers (happens w e).nodes → (q : Port) → port_of w x p ≡ Some q → (r : Port) × (port_of (happens w e) x p ≡ Some r) × PortGoes w x p s e (happens w e) q r
-  port-goes e quiet calm_next q there = by-event w Goes goes-cases e quiet calm_next q there
+  -- an envelope of the source that comes is taken
+  pub took-now : (j : ℕ) (f : Envelope) → slice_get w.envelopes j ≡ Some f → can_come w f ≡ true → f.to ≡ x → f.sender ≡ s → NoneRecovers (happens w (Deliver j)).nodes → (q : Port) → port_of w x p ≡ Some q →
+      To x p (happens w (Deliver j)) (λ (y r : Port). PortWith y r (inlet_after f.packet y.inlet)) q
+  took-now j f sent can to sender calm_next q there =
+      let place = ap (λ (a : ℕ). sender_at w.plan (inputs_of w.plan (role_of w.plan x)) a) sender ∙ line.sender in
+      let k = port-took-now w most x p (Source s) fine many line.port calm j 0 f sent can to place calm_next q there in
+      (k.0, k.1, read-after 0 f.packet q k.0 (chosen-first q there) k.2.0)

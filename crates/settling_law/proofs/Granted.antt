@@ -24,7 +24,7 @@ use Rattle.world_safety.proofs.Emptied.{shape-of}
 use Rattle.settling_law.proofs.Waitings.{waits, is_delivery, waits-on, comes}
 use Rattle.settling_law.proofs.Rules.{MayGo}
 use Rattle.settling_law.proofs.Opening.{all-come}
-use Rattle.settling_law.proofs.Going.{sent-place}
+use Rattle.settling_law.proofs.PortSteps.{sent-place}
 use Rattle.settling_law.proofs.Fresh.{new-waits, still-sent}
 use Rattle.settling_law.proofs.Ports.{node-there}
 use Rattle.settling_law.proofs.Bounded.{IsFirst}

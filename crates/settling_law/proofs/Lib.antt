@@ -9,8 +9,11 @@ pub mod Along
 pub mod Exact
 pub mod Ticking
 pub mod Lines
+pub mod PortExact
+pub mod PortSteps
+pub mod PortGoing
+pub mod PortNow
 pub mod Going
-pub mod Now
 pub mod Answering
 pub mod Sourcing
 pub mod Seen

@@ -20,7 +20,7 @@ use Rattle.granting_law.proofs.Saying.{own-delivered, own-milled, own-ticked}
 use Rattle.schedule_law.proofs.Nodes.{IsCalmNode, delivered-calm, ticked-calm, milled-moves}
 use Rattle.settling_law.specs.Finished.{has_whole_inputs, IsFinished}
 use Rattle.settling_law.proofs.Rules.{MayGo}
-use Rattle.settling_law.proofs.Going.{calm-at}
+use Rattle.settling_law.proofs.PortSteps.{calm-at}
 use Rattle.settling_law.proofs.Ports.{node-there}
 use Rattle.settling_law.proofs.Promises.{IsOpenAt}
 use Rattle.settling_law.proofs.Fellows.{many_replicas, replica-of}

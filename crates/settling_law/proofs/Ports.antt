@@ -21,7 +21,7 @@ use Rattle.granting_law.specs.Taken.{node_port, role_port, port_of}
 use Rattle.schedule_law.specs.Journals.{most_phases, are_rising, IsClocked}
 use Rattle.reader_law.specs.Settling.{CanSettle}
 use Rattle.settling_law.proofs.Opening.{has_node, IsAllUp}
-use Rattle.settling_law.proofs.Going.{client-inputs}
+use Rattle.settling_law.proofs.PortSteps.{client-inputs}
 
 -- a node of the plan is up
 pub node-there : (w : World) (most x f r : ℕ) → IsFine w most → IsAllUp w → role_of w.plan x ≡ IsNode f r → (n : PlainNode) × ((slot_of w x).node ≡ Some n)

@@ -34,7 +34,7 @@ use Rattle.settling_law.proofs.Rules.{MayGo, Keeps, due-taken, opened-due, same-
 use Rattle.settling_law.proofs.Journeys.{IsStep, IsJourney}
 use Rattle.settling_law.proofs.Opening.{IsAllUp, all-come}
 use Rattle.settling_law.proofs.Along.{IsRunning}
-use Rattle.settling_law.proofs.Going.{sent-place}
+use Rattle.settling_law.proofs.PortSteps.{sent-place}
 use Rattle.settling_law.proofs.Fresh.{new-waits, still-sent}
 use Rattle.settling_law.proofs.Stages.{due-waits, role-within}
 use Rattle.settling_law.proofs.Ports.{node-there, clocked-of}

@@ -8,7 +8,7 @@ use Rattle.dpc_model.specs.Sessions.{is_newer_than_kept, first_batch as first_it
 use Rattle.dpc_model.specs.declared.sessions.Sub.{Sub}
 use Rattle.dpc_model.specs.declared.tuples.Item.{Item}
 use Rattle.dpc_model.specs.declared.messages.Event.{Event}
-use Rattle.dpc_model.specs.declared.messages.Event.TheVariants.{Phase, Emit, Release, Cut, Heal, Crash, Restart, Deliver, Tick, Mill}
+use Rattle.dpc_model.specs.declared.messages.Event.TheVariants.{Deliver, Tick}
 use Rattle.dpc_model.specs.declared.messages.Sess.{Sess}
 use Rattle.dpc_model.specs.declared.messages.Subscribe.{Subscribe}
 use Rattle.dpc_model.specs.declared.messages.Message.TheVariants as message
@@ -16,9 +16,8 @@ use Rattle.dpc_model.specs.declared.plans.Plan.{Plan}
 use Rattle.dpc_model.specs.declared.scripts.Script.{Script}
 use Rattle.node_model.specs.Mails.{Packet, Plain, SnapFor}
 use Rattle.node_model.specs.Sources.{source_shown}
-use Rattle.world_model.specs.Worlds.{Envelope, source_at, happens, can_come}
+use Rattle.world_model.specs.Worlds.{Envelope, source_at, happens, can_come, is_up}
 use Rattle.world_model.specs.Schedules.{Progress, next_progress, may_follow, is_free, now_of, may_come}
-use Rattle.world_model.specs.Worlds.{is_up}
 use Rattle.world_safety.proofs.Tests.{both, eq-test, le-of, not-of}
 use Rattle.std.proofs.lemmas.Option.{slice_get_within}
 use Rattle.dpc_model.specs.Actors.{senders_of}
@@ -33,13 +32,13 @@ use Rattle.settling_law.proofs.Rules.{MayGo, Keeps, same-delivery}
 use Rattle.settling_law.proofs.Opening.{all-come}
 use Rattle.settling_law.proofs.Exact.{inlet_after}
 use Rattle.settling_law.proofs.Ticking.{before_choice}
-use Rattle.settling_law.proofs.Going.{PortGoes, HasTicked, Stays, TakesIn, TicksOn}
-use Rattle.settling_law.proofs.Now.{took-now}
+use Rattle.settling_law.proofs.PortGoing.{HasTicked}
+use Rattle.settling_law.proofs.Going.{InletGoes, Stays, TakesIn, TicksOn, took-now}
 use Rattle.settling_law.proofs.Sourcing.{sub_at, answer_mail, SourceGoes, Keeps as KeepsSub, Opens, source-goes, answers-now}
 use Rattle.settling_law.proofs.Full.{asks_with, first-whole}
 use Rattle.settling_law.proofs.Standing.{asked_inlet, old-batch, old-ask, old-kept}
 use Rattle.settling_law.proofs.Readings.{other-batch, first-batch, asked-link, next-newer, never-next, same-or-older}
-use Rattle.settling_law.proofs.Fresh.{IsSeen, HasWhole, tick_count, Completes, IsFresh, IsAsking, IsReplying, Replied, Coming, new-waits, still-sent, Reopens, Holds, port-next, first-here, ticked-says, whole-kept}
+use Rattle.settling_law.proofs.Fresh.{IsSeen, HasWhole, tick_count, ticks-grow, Completes, IsFresh, IsAsking, IsReplying, Replied, Coming, new-waits, still-sent, Reopens, Holds, port-next, first-here, ticked-says, whole-kept}
 
 -- an envelope is an old one, or the one that was added
 got-added : (es : List Envelope) (a : Envelope) (j : ℕ) (f : Envelope) → slice_get (es ++ a ∷ []) j ≡ Some f → (slice_get es j ≡ Some f) ⊎ ((j ≡ length es) × (a ≡ f))
@@ -65,25 +64,6 @@ not-ticked script z a now may =
 module _ (script : Script) (x p s k : ℕ) where
   abbrev Goes : Progress → Event → Type 0
   Goes z e = MayGo script (IsSeen script x p s k) z e
-
-  -- the number of ticks does not fall in a phase
-  count-grows : (z : Progress) (e : Event) → MayGo script (IsSeen script x p s k) z e → tick_count x z ≤ tick_count x (next_progress script z e)
-  count-grows z (Phase q) may = let quiet = may.quiet in cc
-  count-grows z (Emit a t) may = omega arith
-  count-grows z (Release a t) may = omega arith
-  count-grows z (Cut a b) may = omega arith
-  count-grows z (Heal a b) may = omega arith
-  count-grows z (Crash a) may = omega arith
-  count-grows z (Restart a i) may = omega arith
-  count-grows z (Deliver j) may = omega arith
-  count-grows z (Mill a r) may = omega arith
-  count-grows z (Tick a now) may = by-test (a == x) (has z.ticked x)
-    where
-      by-test : (b c : Bool) → cond {A = ℕ} c 1 0 ≤ cond {A = ℕ} (b || c) 1 0
-      by-test true true = omega arith
-      by-test true false = omega arith
-      by-test false true = omega arith
-      by-test false false = omega arith
 
   -- the answer that a source sends in the session completes
   answer-completes : (z : Progress) (u : Sess) (h : Reader) (q : Port) → IsSeen script x p s k z → port_of z.world x p ≡ Some q → q.inlet ≡ asked_inlet h u → Completes script h (first_items (source_shown z.world.plan s (source_at z.world s)) (asks_with u h))
@@ -122,7 +102,7 @@ module _ (script : Script) (x p s k : ℕ) where
   pub fresh-next : (t : ℕ) (u : Sess) (h : Reader) (z : Progress) (e : Event) → t ≤ 2 → MayGo script (IsSeen script x p s k) z e → IsFresh script x p s t u h z → IsFresh script x p s t u h (next_progress script z e) ⊎ HasWhole script x p (next_progress script z e)
   fresh-next t u h z e few may fresh =
       let k_next = port-next script x p s k z e may fresh.port fresh.there in
-      let count = count-grows z e may in
+      let count = ticks-grow script x z e may.quiet in
       let budget = fresh.budget in
       let stays : k_next.0.inlet ≡ fresh.port.inlet → k_next.0.ticks ≡ fresh.port.ticks → IsFresh script x p s t u h (next_progress script z e) ⊎ HasWhole script x p (next_progress script z e) =
       λ inlet ticks. inl (record { port = k_next.0; there = k_next.1; inlet = inlet ∙ fresh.inlet; budget = omega (arith, ticks, budget, count); batches = batches-next t u h z e may fresh }) in
@@ -152,7 +132,7 @@ module _ (script : Script) (x p s k : ℕ) where
       early : (n : ℕ) → n ≤ 1 → nat_le 3 (min 3 (n + 1)) ≡ true → ⊥
       early n low test = let three = le-of 3 (min 3 (n + 1)) test in omega (arith, low, three)
 
-      by-goes : (r : Port) → port_of (happens z.world e) x p ≡ Some r → PortGoes z.world x p s e (happens z.world e) fresh.port r → (r.inlet ≡ fresh.port.inlet → r.ticks ≡ fresh.port.ticks → IsFresh script x p s t u h (next_progress script z e) ⊎ HasWhole script x p (next_progress script z e)) →
+      by-goes : (r : Port) → port_of (happens z.world e) x p ≡ Some r → InletGoes z.world x p s e (happens z.world e) fresh.port r → (r.inlet ≡ fresh.port.inlet → r.ticks ≡ fresh.port.ticks → IsFresh script x p s t u h (next_progress script z e) ⊎ HasWhole script x p (next_progress script z e)) →
           IsFresh script x p s t u h (next_progress script z e) ⊎ HasWhole script x p (next_progress script z e)
       by-goes r now (Stays with_it) stays = stays with_it.inlet_is with_it.ticks
       by-goes r now (TakesIn j f is at to sender with_it) stays = by-packet r now j f at to sender f.packet refl with_it.ticks with_it.inlet_is stays
@@ -278,7 +258,7 @@ module _ (script : Script) (x p s k : ℕ) where
   -- ---- the session is opened anew
 
   -- at a tick that finds a fault the port asks
-  pub reopens : (z : Progress) (e : Event) (now : ℕ) (q r : Port) → e ≡ Tick x now → MayGo script (IsSeen script x p s k) z e → port_of z.world x p ≡ Some q → port_of (happens z.world e) x p ≡ Some r → HasTicked z.world x s (happens z.world e) q r →
+  pub reopens : (z : Progress) (e : Event) (now : ℕ) (q r : Port) → e ≡ Tick x now → MayGo script (IsSeen script x p s k) z e → port_of z.world x p ≡ Some q → port_of (happens z.world e) x p ≡ Some r → HasTicked z.world x (Source s) (happens z.world e) q r →
       must_reopen (before_choice q) ≡ true → r.inlet ≡ with_next_session q.inlet → r.ticks ≡ 0 → Coming script x p s k (next_progress script z e)
   reopens z e now q r is may there after ticked must inlet ticks =
       let st = may.here.stand in

@@ -28,7 +28,7 @@ use Rattle.schedule_law.specs.Journals.{clock_by, Ticks}
 use Rattle.settling_law.specs.Phased.{is_quiet}
 use Rattle.settling_law.proofs.Exact.{same-or}
 use Rattle.settling_law.proofs.Lines.{IsReading}
-use Rattle.settling_law.proofs.Going.{sent-place}
+use Rattle.settling_law.proofs.PortSteps.{sent-place}
 use Rattle.settling_law.proofs.Answering.{nth-here, nth-there, opened_sub, Left, Answers, source-did, beat-sent, NoBatchMail, tick-subs, tick-beats}
 
 -- the session that a source keeps of its k-th reader

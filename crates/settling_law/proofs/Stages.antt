@@ -1,8 +1,7 @@
 -- Phase by phase: however a port stands that reads a source, it has the whole of it after eight full phases.
-use Rattle.std.proofs.Common.{◌≡◌, ◌≢◌, ℕ, zero, suc, ◌<◌, ◌≤◌, true, false, cond, ◌&&◌, ◌||◌, ◌==◌, List, [], ◌∷◌, length, refl, sym, ap, subst, ◌∙◌, arith, Option, Some, None, slice_get, unwrap_or, ◌⊎◌, inl, inr}
+use Rattle.std.proofs.Common.{◌≡◌, ◌≢◌, ℕ, zero, suc, ◌<◌, ◌≤◌, true, false, ◌&&◌, ◌||◌, ◌==◌, List, [], ◌∷◌, length, refl, sym, ap, subst, ◌∙◌, arith, Option, Some, None, slice_get, unwrap_or, ◌⊎◌, inl, inr}
 use Rattle.std.specs.Prelude.{is_some}
 use Rattle.std.proofs.lemmas.Option.{slice_get_within}
-use Rattle.dpc_model.specs.Lists.{has}
 use Rattle.dpc_model.specs.Actors.{role_of, roles_of}
 use Rattle.dpc_model.specs.Ports.{Port}
 use Rattle.dpc_model.specs.declared.actors.Role.{Role}
@@ -20,7 +19,7 @@ use Rattle.settling_law.specs.Phased.{opened}
 use Rattle.settling_law.proofs.Waitings.{waits, is_due, is_delivery}
 use Rattle.settling_law.proofs.Rules.{MayGo, Keeps, kept-full, due-taken, opened-due, same-delivery, tick-due, first-good}
 use Rattle.settling_law.proofs.Journeys.{IsStep, IsJourney}
-use Rattle.settling_law.proofs.Fresh.{IsSeen, HasWhole, tick_count, IsAsking, IsReplying, Replied, Coming, whole-kept}
+use Rattle.settling_law.proofs.Fresh.{IsSeen, HasWhole, ticks-few, IsAsking, IsReplying, Replied, Coming, whole-kept}
 use Rattle.settling_law.proofs.Reopening.{asking-next, replying-next, replied, asked-now, comes-here, replied-kept, coming-kept}
 use Rattle.settling_law.proofs.Faults.{IsBroken, IsAnswered, IsSlow, IsHearing, Hearing, broken-next, broken-ticks, answered-next, slow-next, slow-ticks, heard-now, hearing-next, source-beats}
 
@@ -151,7 +150,7 @@ module _ (script : Script) (x p s k : ℕ) where
   lead-0 z es step (inl (u, h, n, r)) =
       let due = due-in z es n _ step r.sent r.waits in
       let budget = r.fresh.budget in
-      let few = count-low z in
+      let few = ticks-few x z in
       let now : IsReplying script x p s 2 u h n (opened script z) = record {
         fresh = record { port = r.fresh.port; there = r.fresh.there; inlet = r.fresh.inlet; budget = omega (arith, budget, few); batches = r.fresh.batches };
         items = r.items;
@@ -165,9 +164,6 @@ module _ (script : Script) (x p s k : ℕ) where
         can = λ y seen q. comes-here script x p s k y n _ seen q.sent;
         at = λ y seen. seen.at;
       }) (opened script z) es step.phase now due
-    where
-      count-low : (z : Progress) → tick_count x z ≤ 1
-      count-low z = elim (has z.ticked x) as (λ b. cond {A = ℕ} b 1 0 ≤ 1) [ true ↦ omega arith | false ↦ omega arith ]
 
   -- the subscription comes in the next phase, and is answered
   lead-1 : Leads script x p s k (Stage script x p s k 2) (Stage script x p s k 1)
@@ -175,7 +171,7 @@ module _ (script : Script) (x p s k : ℕ) where
   lead-1 z es step (inl (u, h, n, a)) =
       let due = due-in z es n _ step a.sent a.waits in
       let budget = a.fresh.budget in
-      let few = count-low z in
+      let few = ticks-few x z in
       let now : IsAsking script x p s k 1 u h n (opened script z) = record {
         fresh = record { port = a.fresh.port; there = a.fresh.there; inlet = a.fresh.inlet; budget = omega (arith, budget, few); batches = a.fresh.batches };
         sent = a.sent;
@@ -189,9 +185,6 @@ module _ (script : Script) (x p s k : ℕ) where
         can = λ y seen q. comes-here script x p s k y n _ seen q.sent;
         at = λ y seen. seen.at;
       }) (opened script z) es step.phase now due
-    where
-      count-low : (z : Progress) → tick_count x z ≤ 1
-      count-low z = elim (has z.ticked x) as (λ b. cond {A = ℕ} b 1 0 ≤ 1) [ true ↦ omega arith | false ↦ omega arith ]
 
   -- a broken port asks anew at its tick
   lead-2 : Leads script x p s k (Stage script x p s k 3) (Stage script x p s k 2)

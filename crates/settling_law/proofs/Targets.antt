@@ -23,7 +23,7 @@ use Rattle.settling_law.proofs.Splitting.{IsQuietAt, no-directives}
 use Rattle.settling_law.proofs.Waitings.{done-of}
 use Rattle.settling_law.proofs.Rules.{Keeps, kept-full, last-good, some-phase}
 use Rattle.settling_law.proofs.Journeys.{IsStep}
-use Rattle.settling_law.proofs.Going.{calm-at}
+use Rattle.settling_law.proofs.PortSteps.{calm-at}
 use Rattle.settling_law.proofs.Ports.{node-there}
 use Rattle.settling_law.proofs.Promises.{IsOpenAt}
 use Rattle.settling_law.proofs.Nodes.{NodeWent, Rests, Takes, Ticked, Mills, node-went}

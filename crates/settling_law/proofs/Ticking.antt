@@ -1,24 +1,19 @@
 -- What a tick or milling makes of a reader's port, exactly, and which subscription a tick sends.
-use Rattle.std.proofs.Common.{◌≡◌, ℕ, zero, suc, Bool, true, false, cond, not, ◌==◌, List, [], ◌∷◌, ◌++◌, map, refl, sym, length, ap, subst, ◌∙◌, Option, Some, None, slice_get, inl, inr}
+use Rattle.std.proofs.Common.{◌≡◌, ℕ, zero, suc, Bool, true, false, cond, not, List, [], ◌∷◌, ◌++◌, map, refl, sym, length, ap, subst, ◌∙◌, Option, Some, slice_get, inl, inr}
 use Rattle.dpc_model.specs.Lists.{nth}
-use Rattle.dpc_model.specs.Inlets.{take_batch, with_next_session, asked_by}
+use Rattle.dpc_model.specs.Inlets.{with_next_session, asked_by}
 use Rattle.dpc_model.specs.Actors.{senders_of}
-use Rattle.dpc_model.specs.Ports.{Port, sender_at, without_ended_marks, on_truncated, port_after_tick, choice_at, must_reopen, port_after_choice, subscription, subscriptions, acks_to}
-use Rattle.dpc_model.specs.declared.batches.Taken.{Taken}
-use Rattle.dpc_model.specs.declared.batches.Taken.TheVariants.{Used, Old, Broken}
-use Rattle.dpc_model.specs.declared.messages.Message.{Message}
+use Rattle.dpc_model.specs.Ports.{Port, without_ended_marks, port_after_tick, choice_at, must_reopen, port_after_choice, subscription, subscriptions, acks_to}
 use Rattle.dpc_model.specs.declared.messages.Message.TheVariants as message
 use Rattle.dpc_model.specs.declared.messages.Out.{Out}
 use Rattle.dpc_model.specs.declared.plans.Plan.{Plan}
 use Rattle.dpc_model.specs.declared.plans.StreamRef.{StreamRef}
-use Rattle.node_model.specs.Mails.{Mail, mail, mails, Packet, Plain, SnapFor, in_actor_order}
+use Rattle.node_model.specs.Mails.{Mail, mail, mails, in_actor_order}
 use Rattle.node_model.specs.Nodes.{Home, PlainNode, streams_of}
 use Rattle.node_model.specs.NodeSteps.{then_do, with_marks_ended, mill_step, after_clock, may_start_afresh, choice_step, ask_step, processing_step, announcing_step, serving_step, snapshot_ask_step, with_fresh_start, tick_step}
-use Rattle.node_model.specs.Clients.{ClientState, client_stream, with_taken, client_after_batch, client_message, client_packet, client_marks_ended, client_after_packet, client_tick_step}
-use Rattle.world_safety.proofs.Tests.{eq-of, eq-test}
-use Rattle.world_safety.proofs.Pointwise.{sender-of}
+use Rattle.node_model.specs.Clients.{ClientState, client_stream, client_tick_step}
 use Rattle.granting_law.proofs.Moves.{reconciling-ports, processing-ports}
-use Rattle.settling_law.proofs.Exact.{get-map, IsIn, in-left, in-right, in-sorted, inlet_after, PortWith, with-same, PortTakes, same-or}
+use Rattle.settling_law.proofs.Exact.{get-map, IsIn, in-left, in-right, in-sorted}
 
 -- ---- milling
 
@@ -94,77 +89,6 @@ module _ (home : Home) (p : ℕ) (s : StreamRef) (q : Port) where
       (cond (not b) (serving_step home m) (cond (may_start_afresh home m) (serving_step home (with_fresh_start m)) (then_do (snapshot_ask_step home m) (announcing_step home)))).sends) (sym whole) (serving-ticks m at reads)
 
 -- ---- a client
-
-kept-port : (t : Taken) (z : ClientState) → (with_taken t z).port ≡ z.port
-kept-port (Used items) z = refl
-kept-port Old z = refl
-kept-port Broken z = refl
-
-module _ (plan : Plan) (c a : ℕ) where
-  abbrev Stream : List StreamRef
-  Stream = client_stream plan c ∷ []
-
-  pair-of : (x y u v : ℕ) → ◌≡◌ {A = Option (ℕ × ℕ)} (Some (x, u)) (Some (y, v)) → (x ≡ y) × (u ≡ v)
-  pair-of x y u v e = let same : ◌≡◌ {A = ℕ × ℕ} (x, u) (y, v) = cc in (ap (λ (z : ℕ × ℕ). z.0) same, ap (λ (z : ℕ × ℕ). z.1) same)
-
-  none-of : (q : Port) → sender_at plan Stream a ≡ None → sender_at plan Stream a ≡ Some (0, q.chosen) → ⊥
-  none-of q e d = let clash : ◌≡◌ {A = Option (ℕ × ℕ)} None (Some (0, q.chosen)) = sym e ∙ d in cc
-
-  -- what leaves the inlet
-  plain-takes : (packet : Packet) (pr : ℕ × ℕ) (q r : Port) → sender_at plan Stream a ≡ Some pr → pr.0 ≡ 0 → inlet_after packet q.inlet ≡ q.inlet → PortWith q r q.inlet → PortTakes plan Stream 0 a packet q r
-  plain-takes packet pr q r place first same h =
-      elim (same-or pr.1 q.chosen) [
-        | inl one ↦ inl (place ∙ rw (first, one) refl, record { inlet_is = h.inlet_is ∙ sym same; chosen = h.chosen; ticks = h.ticks })
-        | inr other ↦ inr (λ d. other (pair-of pr.0 0 pr.1 q.chosen (sym place ∙ d)).1, h)
-      ]
-
-  -- a test that the replica is the one that is read
-  by-test : (packet : Packet) (pr : ℕ × ℕ) (q r : Port) (test : Bool) → sender_at plan Stream a ≡ Some pr → pr.0 ≡ 0 → (test ≡ true → pr.1 ≡ q.chosen) → (test ≡ false → pr.1 ≡ q.chosen → ⊥) → PortWith q r (cond test (inlet_after packet q.inlet) q.inlet) → PortTakes plan Stream 0 a packet q r
-  by-test packet pr q r true place first same_one other_one h = let one = same_one refl in inl (place ∙ rw (first, one) refl, h)
-  by-test packet pr q r false place first same_one other_one h = inr (λ d. other_one refl (pair-of pr.0 0 pr.1 q.chosen (sym place ∙ d)).1, h)
-
-  message-takes : (m : Message) (pr : ℕ × ℕ) (z : ClientState) → sender_at plan Stream a ≡ Some pr → pr.0 ≡ 0 → PortTakes plan Stream 0 a (Plain m) z.port (client_message pr.1 m z).port
-  message-takes (message.Batch u index items) pr z place first =
-      let t = take_batch z.port.inlet u index items in
-      by-test (Plain (message.Batch u index items)) pr z.port (client_message pr.1 (message.Batch u index items) z).port (z.port.chosen == pr.1) place first (λ e. sym (eq-of z.port.chosen pr.1 e))
-      (λ e d. let yes = eq-test z.port.chosen pr.1 (sym d) in let clash : true ≡ false = sym yes ∙ e in cc)
-      (elim (z.port.chosen == pr.1) as (λ b. PortWith z.port (cond {A = ClientState} b (client_after_batch t z) z).port (cond b t.after z.port.inlet)) [
-        | true ↦ let same = kept-port t.answer (record z { port = record z.port { inlet = t.after } }) in
-            record { inlet_is = ap (λ (y : Port). y.inlet) same; chosen = ap (λ (y : Port). y.chosen) same; ticks = ap (λ (y : Port). y.ticks) same }
-        | false ↦ with-same z.port
-      ])
-  message-takes (message.Beat b) pr z place first =
-      by-test (Plain (message.Beat b)) pr z.port (client_message pr.1 (message.Beat b) z).port (pr.1 == z.port.chosen) place first (λ e. eq-of pr.1 z.port.chosen e)
-      (λ e d. let yes = eq-test pr.1 z.port.chosen d in let clash : true ≡ false = sym yes ∙ e in cc) (record { inlet_is = refl; chosen = refl; ticks = refl })
-  message-takes (message.Truncated u base) pr z place first = plain-takes (Plain (message.Truncated u base)) pr z.port (on_truncated pr.1 u base z.port) place first refl (record { inlet_is = refl; chosen = refl; ticks = refl })
-  message-takes (message.Subscribe asked) pr z place first = plain-takes (Plain (message.Subscribe asked)) pr z.port z.port place first refl (with-same z.port)
-  message-takes (message.Ack i n) pr z place first = plain-takes (Plain (message.Ack i n)) pr z.port z.port place first refl (with-same z.port)
-  message-takes (message.Ask i n) pr z place first = plain-takes (Plain (message.Ask i n)) pr z.port z.port place first refl (with-same z.port)
-  message-takes (message.Grant i n) pr z place first = plain-takes (Plain (message.Grant i n)) pr z.port z.port place first refl (with-same z.port)
-  message-takes (message.SnapAsk i n) pr z place first = plain-takes (Plain (message.SnapAsk i n)) pr z.port z.port place first refl (with-same z.port)
-
-  packet-takes : (o : Option (ℕ × ℕ)) (packet : Packet) (z : ClientState) → sender_at plan Stream a ≡ o → PortTakes plan Stream 0 a packet z.port (client_packet o packet z).port
-  packet-takes None packet z place = inr (λ d. none-of z.port place d, with-same z.port)
-  packet-takes (Some pr) packet z place = by-packet packet
-    where
-      only : (b d : StreamRef) (i : ℕ) → slice_get (b ∷ []) i ≡ Some d → i ≡ 0
-      only b d zero e = refl
-      only b d (suc i) e = cc
-
-      first : pr.0 ≡ 0
-      first = let found = sender-of plan (client_stream plan c ∷ []) a pr.0 pr.1 place in only (client_stream plan c) found.stream pr.0 found.at
-
-      by-packet : (packet : Packet) → PortTakes plan Stream 0 a packet z.port (client_packet (Some pr) packet z).port
-      by-packet (Plain m) = message-takes m pr z place first
-      by-packet (SnapFor i try s) = plain-takes (SnapFor i try s) pr z.port z.port place first refl (with-same z.port)
-
-  pub client-takes : (packet : Packet) (z : ClientState) → PortTakes plan Stream 0 a packet z.port (client_after_packet plan c a packet z).port
-  unfolding client_after_packet
-  client-takes packet z =
-      elim (packet-takes (sender_at plan Stream a) packet (client_marks_ended z) refl) [
-        | inl mine ↦ inl (mine.0, record { inlet_is = mine.1.inlet_is; chosen = mine.1.chosen; ticks = mine.1.ticks })
-        | inr other ↦ inr (other.0, record { inlet_is = other.1.inlet_is; chosen = other.1.chosen; ticks = other.1.ticks })
-      ]
 
 pub client-ticks : (plan : Plan) (c now : ℕ) (z : ClientState) → PortTicks plan (client_stream plan c) 0 z.port ((client_tick_step plan c now z).after.port ∷ []) (client_tick_step plan c now z).sends
 unfolding client_tick_step

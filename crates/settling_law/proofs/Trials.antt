@@ -23,7 +23,7 @@ use Rattle.settling_law.specs.Phased.{opened}
 use Rattle.settling_law.proofs.Waitings.{is_due, is_delivery}
 use Rattle.settling_law.proofs.Rules.{MayGo, Keeps, due-taken, opened-due, same-delivery, tick-due, first-good}
 use Rattle.settling_law.proofs.Journeys.{IsStep}
-use Rattle.settling_law.proofs.Going.{sent-place}
+use Rattle.settling_law.proofs.PortSteps.{sent-place}
 use Rattle.settling_law.proofs.Fresh.{new-waits}
 use Rattle.settling_law.proofs.Stages.{due-waits, role-within}
 use Rattle.settling_law.proofs.Bounded.{IsFirst, first-of}

@@ -24,8 +24,8 @@ use Rattle.settling_law.proofs.Fresh.{HasWhole}
 use Rattle.settling_law.proofs.Readings.{first-batch}
 use Rattle.settling_law.proofs.Rules.{MayGo}
 use Rattle.settling_readers.proofs.Marks.{Mark, marks_of, free_in, Fits, counted-marks, marked-marks, not-all-free}
-use Rattle.settling_readers.proofs.PortExact.{port_after, NotLost}
-use Rattle.settling_readers.proofs.PortNow.{took-now}
+use Rattle.settling_law.proofs.PortExact.{port_after, NotLost}
+use Rattle.settling_law.proofs.PortNow.{took-now}
 use Rattle.settling_readers.proofs.Reading.{replica_at, replicas_in, sends_it, IsSeen, replica-sends}
 use Rattle.settling_readers.proofs.Freshly.{IsFresh}
 use Rattle.settling_readers.proofs.Freshening.{marked_at}

@@ -1,6 +1,6 @@
 -- What an event makes of a port that asked anew: it waits on, has the whole, is told that its tuples are forgotten, or ticks.
-use Rattle.std.proofs.Common.{◌≡◌, ℕ, ◌<◌, ◌≤◌, Bool, true, false, cond, ◌||◌, ◌==◌, List, map, length, refl, sym, ap, subst, ◌∙◌, arith, Option, Some, slice_get, inl, inr}
-use Rattle.dpc_model.specs.Lists.{changed, has, place_of}
+use Rattle.std.proofs.Common.{◌≡◌, ℕ, ◌<◌, ◌≤◌, true, false, cond, ◌==◌, List, map, length, refl, sym, ap, subst, ◌∙◌, arith, Option, Some, slice_get, inl, inr}
+use Rattle.dpc_model.specs.Lists.{changed, place_of}
 use Rattle.dpc_model.specs.Reading.{Reader, is_sure}
 use Rattle.dpc_model.specs.Inlets.{InletState, same_sess, take_batch, after_link}
 use Rattle.dpc_model.specs.Actors.{role_of, inputs_of, senders_of}
@@ -9,7 +9,7 @@ use Rattle.dpc_model.specs.Replicas.{unmarked_at, with_mark}
 use Rattle.dpc_model.specs.declared.actors.Role.TheVariants.{Node as IsNode}
 use Rattle.dpc_model.specs.declared.tuples.Item.{Item}
 use Rattle.dpc_model.specs.declared.messages.Event.{Event}
-use Rattle.dpc_model.specs.declared.messages.Event.TheVariants.{Phase, Emit, Release, Cut, Heal, Crash, Restart, Deliver, Tick, Mill}
+use Rattle.dpc_model.specs.declared.messages.Event.TheVariants.{Tick}
 use Rattle.dpc_model.specs.declared.messages.Sess.{Sess}
 use Rattle.dpc_model.specs.declared.messages.Beat.{Beat}
 use Rattle.dpc_model.specs.declared.messages.Message.TheVariants as message
@@ -22,36 +22,16 @@ use Rattle.world_model.specs.Worlds.{Envelope, happens}
 use Rattle.world_model.specs.Schedules.{Progress, next_progress}
 use Rattle.world_safety.proofs.Pointwise.{sender-of}
 use Rattle.granting_law.specs.Taken.{port_of}
-use Rattle.settling_law.specs.Phased.{is_quiet}
-use Rattle.settling_law.proofs.Fresh.{HasWhole, tick_count, still-sent}
+use Rattle.settling_law.proofs.Fresh.{HasWhole, ticks-grow, still-sent}
 use Rattle.settling_law.proofs.Lines.{place-low}
 use Rattle.settling_law.proofs.Readings.{other-batch, first-batch, asked-link}
 use Rattle.settling_law.proofs.Rules.{MayGo}
 use Rattle.settling_law.proofs.Standing.{asked_inlet}
 use Rattle.settling_readers.proofs.Marks.{Mark, marks_of, free_in, counted-marks, beaten-marks, marked-marks, ended-marked, not-all-free}
-use Rattle.settling_readers.proofs.PortExact.{port_after, NotLost}
-use Rattle.settling_readers.proofs.PortGoing.{HasTicked, PortGoes}
+use Rattle.settling_law.proofs.PortExact.{port_after, NotLost}
+use Rattle.settling_law.proofs.PortGoing.{HasTicked, PortGoes}
 use Rattle.settling_readers.proofs.Reading.{replica_at, replicas_in, sends_it, IsSeen, replica-sends}
 use Rattle.settling_readers.proofs.Freshly.{IsFresh, port-next, batches-next, truncations-next}
-
--- the number of ticks does not fall in a phase
-pub count-grows : (script : Script) (x : ℕ) (z : Progress) (e : Event) → is_quiet e ≡ true → tick_count x z ≤ tick_count x (next_progress script z e)
-count-grows script x z (Phase q) quiet = cc
-count-grows script x z (Emit a t) quiet = omega arith
-count-grows script x z (Release a t) quiet = omega arith
-count-grows script x z (Cut a b) quiet = omega arith
-count-grows script x z (Heal a b) quiet = omega arith
-count-grows script x z (Crash a) quiet = omega arith
-count-grows script x z (Restart a i) quiet = omega arith
-count-grows script x z (Deliver j) quiet = omega arith
-count-grows script x z (Mill a r) quiet = omega arith
-count-grows script x z (Tick a now) quiet = by-test (a == x) (has z.ticked x)
-  where
-    by-test : (b c : Bool) → cond {A = ℕ} c 1 0 ≤ cond {A = ℕ} (b || c) 1 0
-    by-test true true = omega arith
-    by-test true false = omega arith
-    by-test false true = omega arith
-    by-test false false = omega arith
 
 -- a mark more, of the replica that is read
 abbrev pub marked_at : ℕ → ℕ → List Mark → List Mark
@@ -98,7 +78,7 @@ module _ (script : Script) (x p f k : ℕ) where
       waits : (r : Port) → port_of (happens z.world e) x p ≡ Some r → r.inlet ≡ fresh.port.inlet → r.chosen ≡ fresh.port.chosen → r.ticks ≡ fresh.port.ticks → (ns : List Mark) → marks_of r.watches ≡ ns → map (unmarked_at (length h.stable)) ns ≡ ns →
           IsFresh script x p f t u h c ns (next_progress script z e)
       waits r now inlet chosen ticks ns marks ended =
-          let count = count-grows script x z e may.quiet in
+          let count = ticks-grow script x z e may.quiet in
           let budget = fresh.budget in
           record {
             port = r;

@@ -36,7 +36,7 @@ use Rattle.settling_law.proofs.Rules.{MayGo}
 use Rattle.settling_law.proofs.Standing.{asked_inlet}
 use Rattle.settling_readers.proofs.Once.{asks_of}
 use Rattle.settling_readers.proofs.Marks.{Mark, marks_of}
-use Rattle.settling_readers.proofs.PortGoing.{PortGoes, port-goes}
+use Rattle.settling_law.proofs.PortGoing.{PortGoes, port-goes}
 use Rattle.settling_readers.proofs.Reading.{replica_at, replicas_in, sends_it, IsSeen, replica-sends}
 use Rattle.settling_readers.proofs.Replying.{is_reply}
 use Rattle.settling_readers.proofs.Serving.{ReplicaGoes, answer_from, refusal_from, replica-goes}

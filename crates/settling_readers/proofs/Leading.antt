@@ -1,6 +1,5 @@
 -- Full phases lead a port that asked anew to the whole: three for each replica that may truncate, and two more.
-use Rattle.std.proofs.Common.{◌≡◌, ℕ, zero, suc, ◌+◌, ◌≤◌, true, false, cond, List, refl, arith, Some, slice_get, inl, inr}
-use Rattle.dpc_model.specs.Lists.{has}
+use Rattle.std.proofs.Common.{◌≡◌, ℕ, zero, suc, ◌+◌, true, List, refl, arith, Some, slice_get, inl, inr}
 use Rattle.dpc_model.specs.Reading.{Reader}
 use Rattle.dpc_model.specs.declared.messages.Event.{Event}
 use Rattle.dpc_model.specs.declared.messages.Event.TheVariants.{Deliver, Tick}
@@ -10,13 +9,13 @@ use Rattle.dpc_model.specs.declared.scripts.Script.{Script}
 use Rattle.world_model.specs.Worlds.{Envelope}
 use Rattle.world_model.specs.Schedules.{Progress, next_progress, progress_from}
 use Rattle.settling_law.specs.Phased.{opened}
-use Rattle.settling_law.proofs.Fresh.{HasWhole, tick_count}
+use Rattle.settling_law.proofs.Fresh.{HasWhole, ticks-few}
 use Rattle.settling_law.proofs.Journeys.{IsStep}
 use Rattle.settling_law.proofs.Rules.{MayGo, kept-full, due-taken, opened-due, tick-due, first-good}
 use Rattle.settling_law.proofs.Stages.{due-waits, port-up, port-within}
 use Rattle.settling_law.proofs.Waitings.{waits, is_due}
 use Rattle.settling_readers.proofs.Marks.{Mark, free_in}
-use Rattle.settling_readers.proofs.PortNow.{tick-now}
+use Rattle.settling_law.proofs.PortNow.{tick-now}
 use Rattle.settling_readers.proofs.Reading.{IsSeen}
 use Rattle.settling_readers.proofs.Freshly.{IsFresh}
 use Rattle.settling_readers.proofs.Reasking.{IsAsking, Asking}
@@ -30,13 +29,10 @@ module _ (script : Script) (x p f k : ℕ) where
   abbrev pub Leads : (Progress → Type 0) → (Progress → Type 0) → Type 0
   Leads P Q = (z : Progress) (es : List Event) → IsStep script (IsSeen script x p f k) z es → P z → Q (progress_from script (opened script z) es)
 
-  count-low : (z : Progress) → tick_count x z ≤ 1
-  count-low z = elim (has z.ticked x) as (λ b. cond {A = ℕ} b 1 0 ≤ 1) [ true ↦ omega arith | false ↦ omega arith ]
-
   fresh-opened : (t : ℕ) (u : Sess) (h : Reader) (c : ℕ) (ms : List Mark) (z : Progress) → IsFresh script x p f t u h c ms z → IsFresh script x p f (t + 1) u h c ms (opened script z)
   fresh-opened t u h c ms z g =
       let budget = g.budget in
-      let few = count-low z in
+      let few = ticks-few x z in
       record { port = g.port; there = g.there; inlet = g.inlet; chosen = g.chosen; budget = omega (arith, budget, few); marks = g.marks; ended = g.ended; number = g.number; sent = g.sent; batches = g.batches; truncations = g.truncations }
 
   -- what waits at the end of a phase is due in the next

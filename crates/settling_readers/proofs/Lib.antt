@@ -5,9 +5,6 @@ pub mod Orderly
 pub mod Comings
 pub mod Answered
 pub mod Whole
-pub mod PortExact
-pub mod PortGoing
-pub mod PortNow
 pub mod Replying
 pub mod Telling
 pub mod Serving

@@ -1,5 +1,5 @@
 -- A tick of a port: it opens its session anew at the replica that it chooses, or stays as it is.
-use Rattle.std.proofs.Common.{◌≡◌, ℕ, ◌+◌, ◌<◌, ◌≤◌, min, Bool, true, false, cond, not, ◌&&◌, ◌||◌, ◌==◌, nat_le, List, map, length, refl, sym, ap, subst, ◌∙◌, arith, Option, Some, None, slice_get, ◌⊎◌, inl, inr}
+use Rattle.std.proofs.Common.{◌≡◌, ℕ, ◌<◌, ◌≤◌, Bool, true, false, cond, ◌||◌, List, map, length, refl, sym, ap, subst, ◌∙◌, arith, Option, Some, None, slice_get, ◌⊎◌, inl, inr}
 use Rattle.std.proofs.lemmas.List.{length-map}
 use Rattle.settling_law.proofs.Full.{asks_with}
 use Rattle.settling_law.proofs.Ports.{node-there}
@@ -28,14 +28,14 @@ use Rattle.world_model.specs.Worlds.{Envelope, home_of, slot_of, happens}
 use Rattle.world_model.specs.Schedules.{Progress, next_progress}
 use Rattle.world_safety.proofs.Tests.{eq-test}
 use Rattle.granting_law.specs.Taken.{port_of}
-use Rattle.settling_law.proofs.Fresh.{tick_count, TickSays, new-waits}
+use Rattle.settling_law.proofs.Fresh.{tick_count, new-waits}
 use Rattle.settling_law.proofs.Readings.{next-newer, never-next}
 use Rattle.settling_law.proofs.Rules.{MayGo}
 use Rattle.settling_law.proofs.Standing.{asked_inlet}
 use Rattle.settling_law.proofs.Ticking.{before_choice}
 use Rattle.settling_law.proofs.Waitings.{waits}
 use Rattle.settling_readers.proofs.Marks.{Mark, marks_of, free_in, Fits, AreHeard, counted-marks, ticked-marks, ended-twice, choice-fits}
-use Rattle.settling_readers.proofs.PortGoing.{HasTicked}
+use Rattle.settling_law.proofs.PortGoing.{HasTicked}
 use Rattle.settling_readers.proofs.Reading.{replica_at, replicas_in, sends_it, IsSeen, chosen-low, old-ask, old-batch, old-truncation, old-kept}
 use Rattle.settling_readers.proofs.Replying.{is_reply}
 use Rattle.settling_readers.proofs.Serving.{ReplicaGoes, answer_from, refusal_from}
@@ -61,23 +61,6 @@ IsReplyIn g v = ((i : ℕ) × (items : List Item) × (g.packet ≡ Plain (messag
 -- the marks as a tick leaves them
 pub ticked-marks-are : (q : Port) → marks_of (before_choice q).watches ≡ map (unmarked_at (length q.inlet.held.stable)) (marks_of q.watches)
 ticked-marks-are q = ticked-marks (map (after_count (length q.inlet.held.stable)) q.watches) ∙ counted-marks (length q.inlet.held.stable) q.watches
-
--- a tick that leaves the choice
-pub stay-says : (q r : Port) → r ≡ port_after_choice (before_choice q) → choice_at (before_choice q) ≡ q.chosen → TickSays q r
-stay-says q r is choice =
-    let y = before_choice q in
-    let same : (choice_at y == y.chosen) ≡ true = eq-test (choice_at y) q.chosen choice in
-    let left : must_reopen y ≡ (q.inlet.broken || (not q.inlet.answered && nat_le 3 (min 3 (q.ticks + 1)))) = ap (λ (b : Bool). not b || q.inlet.broken || (not q.inlet.answered && nat_le 3 (min 3 (q.ticks + 1)))) same in
-    (elim (must_reopen y) as (λ b. must_reopen y ≡ b → TickSays q r) [
-      | true ↦ λ e. TickSays.Reopens e (sym left ∙ e) (ap (λ (z : Port). z.inlet) is ∙ ap (λ (b : Bool). cond b (with_next_session q.inlet) q.inlet) e) (ap (λ (z : Port). z.ticks) is ∙ ap (λ (b : Bool). cond {A = ℕ} b 0 (min 3 (q.ticks + 1))) e)
-      | false ↦ λ e.
-          let parts = neither q.inlet.broken (not q.inlet.answered && nat_le 3 (min 3 (q.ticks + 1))) (sym left ∙ e) in
-          TickSays.Holds parts.0 parts.1 (ap (λ (z : Port). z.inlet) is ∙ ap (λ (b : Bool). cond b (with_next_session q.inlet) q.inlet) e) (ap (λ (z : Port). z.ticks) is ∙ ap (λ (b : Bool). cond {A = ℕ} b 0 (min 3 (q.ticks + 1))) e)
-    ]) refl
-  where
-    neither : (a b : Bool) → (a || b) ≡ false → (a ≡ false) × (b ≡ false)
-    neither true b e = cc
-    neither false b e = (refl, e)
 
 module _ (script : Script) (x p f k : ℕ) where
   abbrev Goes : Progress → Event → Type 0

@@ -29,7 +29,7 @@ use Rattle.schedule_law.specs.Journals.{Ticks}
 use Rattle.settling_law.specs.Phased.{is_quiet}
 use Rattle.settling_law.specs.Finished.{IsFinished}
 use Rattle.settling_law.proofs.Answering.{opened_sub}
-use Rattle.settling_law.proofs.Going.{sent-place}
+use Rattle.settling_law.proofs.PortSteps.{sent-place}
 use Rattle.settling_law.proofs.Nodes.{node-took-world, node-ticked-now}
 use Rattle.settling_readers.proofs.Replying.{is_reply, NoReply, refused_sub, NodeDid, packet-did}
 use Rattle.settling_readers.proofs.Telling.{ticked-tells}

@@ -23,8 +23,8 @@ use Rattle.world_safety.proofs.Numbering.{all-at}
 use Rattle.settling_law.proofs.Fresh.{HasWhole}
 use Rattle.settling_law.proofs.Rules.{Keeps}
 use Rattle.settling_law.proofs.Ticking.{before_choice}
-use Rattle.settling_readers.proofs.PortExact.{port_after}
-use Rattle.settling_readers.proofs.PortGoing.{PortGoes}
+use Rattle.settling_law.proofs.PortExact.{port_after}
+use Rattle.settling_law.proofs.PortGoing.{PortGoes}
 use Rattle.settling_readers.proofs.Reading.{IsSeen}
 use Rattle.settling_readers.proofs.Freshly.{port-next, sender-node, plan-sends}
 use Rattle.settling_readers.proofs.Freshening.{takes-sends}

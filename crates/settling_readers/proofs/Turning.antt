@@ -16,16 +16,16 @@ use Rattle.world_model.specs.Schedules.{Progress, next_progress, may_follow}
 use Rattle.world_safety.proofs.Tests.{eq-of, eq-test, le-of}
 use Rattle.granting_law.specs.Taken.{port_of}
 use Rattle.settling_law.proofs.Answering.{nth-here}
-use Rattle.settling_law.proofs.Fresh.{HasWhole, tick_count, Reopens, Holds, still-sent}
+use Rattle.settling_law.proofs.Fresh.{HasWhole, tick_count, Reopens, Holds, stay-says, still-sent}
 use Rattle.settling_law.proofs.Reopening.{not-ticked}
 use Rattle.settling_law.proofs.Rules.{MayGo}
 use Rattle.settling_law.proofs.Ticking.{before_choice}
 use Rattle.settling_readers.proofs.Marks.{Mark, marks_of, free_in, Fits, free-marked, free-fewer, heard-stays, heard-turns}
-use Rattle.settling_readers.proofs.PortGoing.{HasTicked}
+use Rattle.settling_law.proofs.PortGoing.{HasTicked}
 use Rattle.settling_readers.proofs.Reading.{replicas_in, IsSeen}
 use Rattle.settling_readers.proofs.Freshly.{IsFresh, batches-next, truncations-next}
 use Rattle.settling_readers.proofs.Freshening.{FreshGoes, marked_at, fresh-goes}
-use Rattle.settling_readers.proofs.Reasking.{Asking, ticked-marks-are, stay-says, heard-then, reopens}
+use Rattle.settling_readers.proofs.Reasking.{Asking, ticked-marks-are, heard-then, reopens}
 
 -- what the port asked replica c for is forgotten there, but not by each replica
 pub record IsTurned (script : Script) (x p f t : ℕ) (u : Sess) (h : Reader) (c most : ℕ) (ms : List Mark) (z : Progress) : Type 0 where

@@ -1,8 +1,8 @@
 -- A packet of a sender of its stream that comes to a port is taken, and a tick that is not void ticks it.
 use Rattle.std.proofs.Common.{◌≡◌, ℕ, Bool, true, cond, map, length, ◌++◌, refl, sym, ap, subst, ◌∙◌, Option, Some, None, slice_get, inl, inr}
 use Rattle.dpc_model.specs.Lists.{changed}
-use Rattle.dpc_model.specs.Actors.{role_of}
-use Rattle.dpc_model.specs.Ports.{Port}
+use Rattle.dpc_model.specs.Actors.{role_of, inputs_of}
+use Rattle.dpc_model.specs.Ports.{Port, sender_at, without_ended_marks}
 use Rattle.dpc_model.specs.declared.actors.Role.{Role}
 use Rattle.dpc_model.specs.declared.actors.Role.TheVariants.{Source as IsSource, Node as IsNode, Client as IsClient, Nobody}
 use Rattle.dpc_model.specs.declared.messages.Event.TheVariants.{Deliver, Tick}
@@ -14,32 +14,34 @@ use Rattle.world_model.specs.Steady.{NoneRecovers}
 use Rattle.world_safety.proofs.Happening.{IsFine}
 use Rattle.granting_law.specs.Taken.{node_port, role_port, port_of}
 use Rattle.schedule_law.specs.Journals.{node_clock, clock_by, Ticks}
-use Rattle.dpc_model.specs.Actors.{inputs_of}
-use Rattle.dpc_model.specs.Ports.{sender_at, without_ended_marks}
 use Rattle.dpc_model.specs.declared.plans.StreamRef.{StreamRef}
 use Rattle.reader_law.specs.Newest.{IsPortOf}
-use Rattle.settling_readers.proofs.PortExact.{port_after, NotLost}
-use Rattle.settling_readers.proofs.PortGoing.{HasTicked, Took, node-own, node-packet, node-tick, client-own, client-packet, client-tick, client-low}
+use Rattle.settling_law.proofs.PortExact.{port_after, NotLost}
+use Rattle.settling_law.proofs.PortSteps.{To, node-own, client-own, client-low}
+use Rattle.settling_law.proofs.PortGoing.{HasTicked, Took, node-packet, node-tick, client-packet, client-tick}
 
 module _ (w : World) (most x p : ℕ) (s : StreamRef) (fine : IsFine w most) (many : length w.clients ≡ length w.plan.clients) (port : IsPortOf w.plan x p s) (calm : NoneRecovers w.nodes) where
-  abbrev After : World → (Port → Port → Type 0) → Port → Type 0
-  After next R q = (r : Port) × (port_of next x p ≡ Some r) × R q r
-
   -- the packet of the replica of this number was taken
   abbrev Taken : ℕ → Envelope → Port → Port → Type 0
   Taken i f q r = (r ≡ port_after i f.packet (without_ended_marks q)) × ((g b : ℕ) → role_of w.plan x ≡ IsNode g b → NotLost f.packet (without_ended_marks q) r)
 
-  -- a port of a node is of one that is up
-  node-up : (g b : ℕ) (q : Port) → role_of w.plan x ≡ IsNode g b → port_of w x p ≡ Some q → (n : PlainNode) × ((slot_of w x).node ≡ Some n)
-  node-up g b q is there = by-node (slot_of w x).node refl (sym (ap (λ (r : Role). role_port w x p r) is) ∙ there)
+  -- a reader with a port is a node that is up, or a client
+  by-reader : (P : Type 0) (q : Port) → port_of w x p ≡ Some q → ((g b : ℕ) (n : PlainNode) → role_of w.plan x ≡ IsNode g b → (slot_of w x).node ≡ Some n → P) → ((d : ℕ) → role_of w.plan x ≡ IsClient d → P) → P
+  by-reader P q there node client = by-role (role_of w.plan x) refl there
     where
-      by-node : (o : Option PlainNode) → (slot_of w x).node ≡ o → node_port p (slot_of w x).node ≡ Some q → (n : PlainNode) × ((slot_of w x).node ≡ Some n)
-      by-node None up e = let clash : ◌≡◌ {A = Option Port} None (Some q) = sym (ap (λ (o : Option PlainNode). node_port p o) up) ∙ e in cc
-      by-node (Some n) up e = (n, up)
+      by-node : (g b : ℕ) → role_of w.plan x ≡ IsNode g b → (o : Option PlainNode) → (slot_of w x).node ≡ o → node_port p o ≡ Some q → P
+      by-node g b is None up e = cc
+      by-node g b is (Some n) up e = node g b n is up
+
+      by-role : (role : Role) → role_of w.plan x ≡ role → role_port w x p role ≡ Some q → P
+      by-role (IsSource u) is e = cc
+      by-role Nobody is e = cc
+      by-role (IsNode g b) is e = by-node g b is (slot_of w x).node refl e
+      by-role (IsClient d) is e = client d is
 
   -- a client's world with the same envelopes
-  pub took-now : (j i : ℕ) (f : Envelope) → slice_get w.envelopes j ≡ Some f → can_come w f ≡ true → f.to ≡ x → sender_at w.plan (inputs_of w.plan (role_of w.plan x)) f.sender ≡ Some (p, i) → NoneRecovers (happens w (Deliver j)).nodes → (q : Port) → port_of w x p ≡ Some q → After (happens w (Deliver j)) (Taken i f) q
-  took-now j i f sent can to sender calm_next q there = by-role (role_of w.plan x) refl
+  pub took-now : (j i : ℕ) (f : Envelope) → slice_get w.envelopes j ≡ Some f → can_come w f ≡ true → f.to ≡ x → sender_at w.plan (inputs_of w.plan (role_of w.plan x)) f.sender ≡ Some (p, i) → NoneRecovers (happens w (Deliver j)).nodes → (q : Port) → port_of w x p ≡ Some q → To x p (happens w (Deliver j)) (Taken i f) q
+  took-now j i f sent can to sender calm_next q there = by-reader (To x p (happens w (Deliver j)) (Taken i f) q) q there at-node at-client
     where
       taken : (y r : Port) → Took w most x p s fine many port calm f y r → Taken i f y r
       taken y r (inl mine) = let same : mine.0 ≡ i = second mine.0 i (sym mine.1 ∙ sender) in (mine.2 ∙ ap (λ (c : ℕ). port_after c f.packet (without_ended_marks y)) same, mine.3)
@@ -52,56 +54,52 @@ module _ (w : World) (most x p : ℕ) (s : StreamRef) (fine : IsFine w most) (ma
       comes-so role is =
           ap (λ (o : Option Envelope). comes w o) sent ∙ ap (λ (b : Bool). cond b (taken_by w f (role_of w.plan f.to)) w) can ∙ ap (λ (r : Role). taken_by w f r) (ap (λ (z : ℕ). role_of w.plan z) to ∙ is)
 
-      by-role : (role : Role) → role_of w.plan x ≡ role → (r : Port) × (port_of (happens w (Deliver j)) x p ≡ Some r) × Taken i f q r
-      by-role (IsSource u) is = let clash : ◌≡◌ {A = Option Port} None (Some q) = sym (ap (λ (r : Role). role_port w x p r) is) ∙ there in cc
-      by-role Nobody is = let clash : ◌≡◌ {A = Option Port} None (Some q) = sym (ap (λ (r : Role). role_port w x p r) is) ∙ there in cc
-      by-role (IsNode g b) is =
-          let found = node-up g b q is there in
-          let n = found.0 in
+      at-node : (g b : ℕ) (n : PlainNode) → role_of w.plan x ≡ IsNode g b → (slot_of w x).node ≡ Some n → To x p (happens w (Deliver j)) (Taken i f) q
+      at-node g b n is found =
           let home = home_of w.plan (g, b) in
           let t = packet_step home f.sender f.packet n in
-          let up : (slot_of w f.to).node ≡ Some n = ap (λ (z : ℕ). (slot_of w z).node) to ∙ found.1 in
+          let up : (slot_of w f.to).node ≡ Some n = ap (λ (z : ℕ). (slot_of w z).node) to ∙ found in
           let role : role_of w.plan f.to ≡ IsNode g b = ap (λ (z : ℕ). role_of w.plan z) to ∙ is in
           let event : happens w (Deliver j) ≡ node_stepped f.to t w = comes-so (IsNode g b) is ∙ ap (λ (o : Option PlainNode). node_takes w f home o) up in
-          subst (λ (v : World). (r : Port) × (port_of v x p ≡ Some r) × Taken i f q r) (sym event)
+          subst (λ (v : World). To x p v (Taken i f) q) (sym event)
           (node-own w most x p s fine many port calm (λ (y r : Port). Taken i f y r) f.to g b n t role up (sym to) (subst (λ (v : World). NoneRecovers v.nodes) event calm_next)
           (λ y its at whole calm_y.
           let k = node-packet w most x p s fine many port calm f.to g b f n role (sym to) y at whole calm_y in (k.0, k.1, taken y k.0 k.2)) q there)
-      by-role (IsClient d) is =
+
+      at-client : (d : ℕ) → role_of w.plan x ≡ IsClient d → To x p (happens w (Deliver j)) (Taken i f) q
+      at-client d is =
           let event : happens w (Deliver j) ≡ record w { clients = changed d (client_after_packet w.plan d f.sender f.packet) w.clients; envelopes = w.envelopes } = comes-so (IsClient d) is in
-          subst (λ (v : World). (r : Port) × (port_of v x p ≡ Some r) × Taken i f q r) (sym event)
+          subst (λ (v : World). To x p v (Taken i f) q) (sym event)
           (client-own w most x p s fine many port calm (λ (y r : Port). Taken i f y r) d (client_after_packet w.plan d f.sender f.packet) w.envelopes is (client-low w most x p s fine many port calm x d is)
           (λ z same was. taken z.port (client_after_packet w.plan d f.sender f.packet z).port (client-packet w most x p s fine many port calm f d z is z.port refl)) q there)
 
-  pub tick-now : (now : ℕ) → Ticks w x now → NoneRecovers (happens w (Tick x now)).nodes → (q : Port) → port_of w x p ≡ Some q → (r : Port) × (port_of (happens w (Tick x now)) x p ≡ Some r) × HasTicked w x s (happens w (Tick x now)) q r
-  tick-now now clocked calm_next q there = by-role (role_of w.plan x) refl
+  pub tick-now : (now : ℕ) → Ticks w x now → NoneRecovers (happens w (Tick x now)).nodes → (q : Port) → port_of w x p ≡ Some q → To x p (happens w (Tick x now)) (HasTicked w x s (happens w (Tick x now))) q
+  tick-now now clocked calm_next q there = by-reader (To x p (happens w (Tick x now)) (HasTicked w x s (happens w (Tick x now))) q) q there at-node at-client
     where
       some-clock : (y z : ℕ) → ◌≡◌ {A = Option ℕ} (Some y) (Some z) → y ≡ z
       some-clock y z d = cc
 
-      by-role : (role : Role) → role_of w.plan x ≡ role → (r : Port) × (port_of (happens w (Tick x now)) x p ≡ Some r) × HasTicked w x s (happens w (Tick x now)) q r
-      by-role (IsSource u) is = let clash : ◌≡◌ {A = Option Port} None (Some q) = sym (ap (λ (r : Role). role_port w x p r) is) ∙ there in cc
-      by-role Nobody is = let clash : ◌≡◌ {A = Option Port} None (Some q) = sym (ap (λ (r : Role). role_port w x p r) is) ∙ there in cc
-      by-role (IsNode g b) is =
-          let found = node-up g b q is there in
-          let n = found.0 in
+      at-node : (g b : ℕ) (n : PlainNode) → role_of w.plan x ≡ IsNode g b → (slot_of w x).node ≡ Some n → To x p (happens w (Tick x now)) (HasTicked w x s (happens w (Tick x now))) q
+      at-node g b n is found =
           let home = home_of w.plan (g, b) in
           let t = tick_step home now n in
-          let clock : n.clock ≡ clocked.old = some-clock n.clock clocked.old (sym (ap (λ (r : Role). clock_by w x r) is ∙ ap (λ (o : Option PlainNode). node_clock o) found.1) ∙ clocked.is_up) in
+          let clock : n.clock ≡ clocked.old = some-clock n.clock clocked.old (sym (ap (λ (r : Role). clock_by w x r) is ∙ ap (λ (o : Option PlainNode). node_clock o) found) ∙ clocked.is_up) in
           let may : is_clock n.clock now ≡ true = ap (λ (c : ℕ). is_clock c now) clock ∙ clocked.may in
           let event : happens w (Tick x now) ≡ node_stepped x t w =
-          ap (λ (r : Role). ticks w x now r) is ∙ ap (λ (o : Option PlainNode). node_ticks w x now home o) found.1 ∙ ap (λ (c : Bool). cond c (node_stepped x t w) w) may in
-          subst (λ (v : World). (r : Port) × (port_of v x p ≡ Some r) × HasTicked w x s v q r) (sym event)
-          (node-own w most x p s fine many port calm (HasTicked w x s (node_stepped x t w)) x g b n t is found.1 refl (subst (λ (v : World). NoneRecovers v.nodes) event calm_next)
+          ap (λ (r : Role). ticks w x now r) is ∙ ap (λ (o : Option PlainNode). node_ticks w x now home o) found ∙ ap (λ (c : Bool). cond c (node_stepped x t w) w) may in
+          subst (λ (v : World). To x p v (HasTicked w x s v) q) (sym event)
+          (node-own w most x p s fine many port calm (HasTicked w x s (node_stepped x t w)) x g b n t is found refl (subst (λ (v : World). NoneRecovers v.nodes) event calm_next)
           (λ y its at whole calm_y. node-tick w most x p s fine many port calm x g b now n is refl y at whole) q there)
-      by-role (IsClient d) is =
+
+      at-client : (d : ℕ) → role_of w.plan x ≡ IsClient d → To x p (happens w (Tick x now)) (HasTicked w x s (happens w (Tick x now))) q
+      at-client d is =
           let z = client_at w d in
           let t = client_tick_step w.plan d now z in
           let clock : z.clock ≡ clocked.old = some-clock z.clock clocked.old (sym (ap (λ (r : Role). clock_by w x r) is) ∙ clocked.is_up) in
           let may : is_clock z.clock now ≡ true = ap (λ (c : ℕ). is_clock c now) clock ∙ clocked.may in
           let next : World = record w { clients = changed d (λ _. t.after) w.clients; envelopes = w.envelopes ++ map (from x) t.sends } in
           let event : happens w (Tick x now) ≡ next = ap (λ (r : Role). ticks w x now r) is ∙ ap (λ (c : Bool). cond c (client_stepped x d t w) w) may in
-          subst (λ (v : World). (r : Port) × (port_of v x p ≡ Some r) × HasTicked w x s v q r) (sym event)
+          subst (λ (v : World). To x p v (HasTicked w x s v) q) (sym event)
           (client-own w most x p s fine many port calm (HasTicked w x s next) d (λ _. t.after) (w.envelopes ++ map (from x) t.sends) is (client-low w most x p s fine many port calm x d is)
           (λ y same was. subst (λ (c : ClientState). HasTicked w x s (client_stepped x d (client_tick_step w.plan d now (client_at w d)) w) c.port (client_tick_step w.plan d now (client_at w d)).after.port) (sym same)
           (client-tick w most x p s fine many port calm x d now (client_at w d) is refl)) q there)
