@@ -3,6 +3,7 @@ ghost use Rattle.std.specs.Prelude.{◌≡◌, ◌+◌, length, slice_get, Some,
 ghost use Rattle.dpc_model.specs.Actors.{nodes_from, role_of, sends_stream, reads_from, are_peers, are_linked};
 ghost use Rattle.dpc_model.specs.Lists.{list_any};
 
+use crate::faults::NoMemory;
 use crate::plans::{FragSpec, Plan, StreamRef};
 
 /// What an actor is: a source, a replica of a fragment (fragment and replica), a client, or nobody.
@@ -12,6 +13,14 @@ pub enum Role {
     Node(u64, u64),
     Client(u64),
     Nobody,
+}
+
+/// An actor's number as events and envelopes keep it. One that would pass its range counts as want of
+/// memory.
+pub fn narrow(actor: u64) -> Result<u32, NoMemory>
+    ensures { IfOk result (λ number. number ≡ actor) }
+{
+    u32::try_from(actor).map_err(|_| NoMemory)
 }
 
 /// The fragment and replica of the node of that number, or by how much the number lies past the last one.

@@ -3,19 +3,19 @@ use crate::lists::Listed;
 use crate::shared::Shared;
 use crate::tuples::Item;
 
-/// What may happen in a run.
+/// What may happen in a run. Actors have narrow numbers here, since a run keeps all its events.
 #[derive(Clone, Copy, PartialEq, Eq)]
 pub enum Event {
     Phase(u64),
-    Emit(u64, u64),
-    Release(u64, u64),
-    Cut(u64, u64),
-    Heal(u64, u64),
-    Crash(u64),
-    Restart(u64, u64),
+    Emit(u32, u64),
+    Release(u32, u64),
+    Cut(u32, u32),
+    Heal(u32, u32),
+    Crash(u32),
+    Restart(u32, u64),
     Deliver(u64),
-    Tick(u64, u64),
-    Mill(u64, u64),
+    Tick(u32, u64),
+    Mill(u32, u64),
 }
 
 /// The name of a session: the reader's incarnation, and a number within it.

@@ -76,22 +76,23 @@ plain-ends script new plain a =
     ends script new.world a.follows.plan
     (subst (λ (t : Bool). IsAt new.world (rest_of t script (phases_of script (start script.plan)))) (sym plain) (a.follows.after (start script.plan) (start-stands script.plan)))
 
-quiet-way : (script : Script) (limit : ℕ) (new : Lock) → limit ≡ quiet_limit script.plan → ArePhases script.phases (first_lock script.plan) new →
-    tell_quiet limit new.phase new.first (new.now + 1) (phased script (start script.plan)) ≡ rest_of true script (phases_of script (start script.plan))
-quiet-way script limit new most a =
+quiet-way : (script : Script) (new : Lock) → ArePhases script.phases (first_lock script.plan) new →
+    tell_quiet (quiet_limit new.world.plan) new.phase new.first (new.now + 1) (phased script (start script.plan)) ≡ rest_of true script (phases_of script (start script.plan))
+quiet-way script new a =
     let number : new.phase ≡ length script.phases + 1 = omega (arith, a.number) in
     let x : Told = phased script (start script.plan) in
-    ap (λ (n : ℕ). tell_quiet n new.phase new.first (new.now + 1) x) most ∙ ap (λ (n : ℕ). tell_quiet (quiet_limit script.plan) n new.first (new.now + 1) x) number
+    ap (λ (n : ℕ). tell_quiet n new.phase new.first (new.now + 1) x) (ap quiet_limit a.follows.plan) ∙ ap (λ (n : ℕ). tell_quiet (quiet_limit script.plan) n new.first (new.now + 1) x) number
     ∙ ap (λ (n : ℕ). tell_quiet (quiet_limit script.plan) (length script.phases + 1) n (new.now + 1) x) (sym (a.sent (start script.plan) (start-stands script.plan)))
     ∙ ap (λ (n : ℕ). tell_quiet (quiet_limit script.plan) (length script.phases + 1) (phases_of script (start script.plan)).0 (n + 1) x) a.clock
 
-pub settled-ends : (script : Script) (limit : ℕ) (new : Lock) (last : RunOf) → limit ≡ quiet_limit script.plan → script.settle ≡ true → ArePhases script.phases (first_lock script.plan) new →
-    Follows (tell_quiet limit new.phase new.first (new.now + 1)) new.world last → Ends script last
-settled-ends script limit new last most settles a q =
+pub settled-ends : (script : Script) (new : Lock) (last : RunOf) → script.settle ≡ true → ArePhases script.phases (first_lock script.plan) new →
+    Follows (tell_quiet (quiet_limit new.world.plan) new.phase new.first (new.now + 1)) new.world last → Ends script last
+settled-ends script new last settles a q =
+    let limit = quiet_limit new.world.plan in
     let at : IsAt last (tell_quiet limit new.phase new.first (new.now + 1) (phased script (start script.plan))) =
     q.after (phased script (start script.plan)) (a.follows.after (start script.plan) (start-stands script.plan)) in
     ends script last (q.plan ∙ a.follows.plan)
-    (subst (λ (t : Bool). IsAt last (rest_of t script (phases_of script (start script.plan)))) (sym settles) (subst (λ (x : Told). IsAt last x) (quiet-way script limit new most a) at))
+    (subst (λ (t : Bool). IsAt last (rest_of t script (phases_of script (start script.plan)))) (sym settles) (subst (λ (x : Told). IsAt last x) (quiet-way script new a) at))
 
 -- ---- a fault
 
@@ -120,14 +121,15 @@ phases-excess script specs w old fault opened begun same h envelopes items is =
     (exceeds-more (phased script) (λ x. rest_of script.settle script (first, x)) (opening script.plan) (TooLong envelopes items) (grows-rest script script.settle first) past (start script.plan)
     (start-stands script.plan))
 
-pub settle-excess : (script : Script) (limit : ℕ) (new : Lock) (fault : RunFault) → limit ≡ quiet_limit script.plan → script.settle ≡ true → ArePhases script.phases (first_lock script.plan) new →
-    Exceeds (tell_quiet limit new.phase new.first (new.now + 1)) new.world fault → (envelopes items : ℕ) → fault ≡ TooLong envelopes items → excess script.plan (lock_of script) ≡ reached envelopes items
-settle-excess script limit new fault most settles a h envelopes items is =
+pub settle-excess : (script : Script) (new : Lock) (fault : RunFault) → script.settle ≡ true → ArePhases script.phases (first_lock script.plan) new →
+    Exceeds (tell_quiet (quiet_limit new.world.plan) new.phase new.first (new.now + 1)) new.world fault → (envelopes items : ℕ) → fault ≡ TooLong envelopes items → excess script.plan (lock_of script) ≡ reached envelopes items
+settle-excess script new fault settles a h envelopes items is =
+    let limit = quiet_limit new.world.plan in
     let x = phased script (start script.plan) in
     let told : Exceeds (tell_quiet limit new.phase new.first (new.now + 1)) new.world (TooLong envelopes items) = subst (λ (f : RunFault). Exceeds (tell_quiet limit new.phase new.first (new.now + 1)) new.world f) is h in
     let past : excess new.world.plan (reverse (tell_quiet limit new.phase new.first (new.now + 1) x).events) ≡ reached envelopes items = told x (a.follows.after (start script.plan) (start-stands script.plan)) in
     excess-of script (tell_quiet limit new.phase new.first (new.now + 1) x) envelopes items
-    (quiet-way script limit new most a ∙ ap (λ (t : Bool). rest_of t script (phases_of script (start script.plan))) (sym settles))
+    (quiet-way script new a ∙ ap (λ (t : Bool). rest_of t script (phases_of script (start script.plan))) (sym settles))
     (ap (λ (plan : Plan). excess plan (reverse (tell_quiet limit new.phase new.first (new.now + 1) x).events)) (sym a.follows.plan) ∙ past)
 
 -- the exit of a `?`

@@ -14,9 +14,7 @@ use dpc_model::plans::{FragSpec, Plan};
 use dpc_model::scripts::Directive;
 use std::alloc::{AllocError, Global};
 use world_core::world::World;
-
-/// The most buckets that one event mills.
-const MOST_MILLED: u64 = 16;
+use world_parts::slots::MOST_MILLED;
 
 fn node_count(frags: &[FragSpec]) -> Result<u64, NoMemory>
     ensures { IfOk result (λ count. count ≡ length (nodes_from 0 frags.now)) }
@@ -28,8 +26,8 @@ fn node_count(frags: &[FragSpec]) -> Result<u64, NoMemory>
     Ok(count)
 }
 
-/// How many actors there are.
-fn actor_count(plan: &Plan) -> Result<u64, NoMemory>
+/// How many actors there are. A number that would pass its range counts as want of memory.
+fn actor_count(plan: &Plan) -> Result<u32, NoMemory>
     ensures { IfOk result (λ count. count ≡ length (roles_of plan.now)) }
 {
     let nodes = node_count(plan.frags.as_slice())?;
@@ -39,7 +37,7 @@ fn actor_count(plan: &Plan) -> Result<u64, NoMemory>
     let actors = senders
         .checked_add(plan.clients.len() as u64)
         .ok_or(NoMemory)?;
-    Ok(actors)
+    u32::try_from(actors).map_err(|_| NoMemory)
 }
 
 /// An event, so many times.
@@ -53,7 +51,7 @@ fn push_times(events: &mut Vec<Event>, count: u64, event: Event) -> Result<(), A
 }
 
 /// So many buckets of an actor, the most at a time.
-fn push_mills(events: &mut Vec<Event>, actor: u64, ready: u64) -> Result<(), AllocError>
+fn push_mills(events: &mut Vec<Event>, actor: u32, ready: u64) -> Result<(), AllocError>
     ensures { OnOk result (events.new.items ≡ events.old.items ++ mill_events actor ready) }
 {
     push_times(events, ready / MOST_MILLED, Event::Mill(actor, MOST_MILLED))?;
@@ -65,12 +63,12 @@ fn push_mills(events: &mut Vec<Event>, actor: u64, ready: u64) -> Result<(), All
 }
 
 /// The ready buckets of all actors.
-fn push_all_mills(events: &mut Vec<Event>, world: &World, actors: u64) -> Result<(), AllocError>
+fn push_all_mills(events: &mut Vec<Event>, world: &World, actors: u32) -> Result<(), AllocError>
     requires { world.now.spent ≡ false }
     ensures { OnOk result (events.new.items ≡ events.old.items ++ flat_map (λ a. mill_events a (ready_at (world_of world.now) a)) (range_with_len 0 actors)) }
 {
     for actor in 0..actors {
-        push_mills(events, actor, world.ready(actor))?;
+        push_mills(events, actor, world.ready(u64::from(actor)))?;
     }
     Ok(())
 }
@@ -97,14 +95,14 @@ fn push_deliveries(
 fn push_ticks(
     events: &mut Vec<Event>,
     world: &World,
-    actors: u64,
+    actors: u32,
     now: u64,
 ) -> Result<(), AllocError>
     requires { world.now.spent ≡ false }
     ensures { OnOk result (events.new.items ≡ events.old.items ++ map (λ a. Tick a now) (filter (is_up (world_of world.now)) (range_with_len 0 actors))) }
 {
     for actor in 0..actors {
-        if world.is_up(actor) {
+        if world.is_up(u64::from(actor)) {
             events.push(Event::Tick(actor, now))?;
         }
     }

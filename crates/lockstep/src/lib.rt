@@ -5,5 +5,5 @@ mod deliveries;
 mod events;
 pub mod faults;
 pub mod lock;
-mod phase;
+pub mod phase;
 mod telling;

@@ -1,36 +1,15 @@
 //! The run of a script by one thread.
-ghost use Rattle.std.specs.Prelude.{◌≡◌, ℕ, false, Some, None, Err, IfOk, fold, map, max};
-ghost use Rattle.dpc_model.specs.declared.plans.Plan.{Plan};
-ghost use Rattle.world_model.specs.Schedules.{quiet_limit, lock_of};
+ghost use Rattle.std.specs.Prelude.{◌≡◌, ℕ, false, Some, None, Err, IfOk};
+ghost use Rattle.world_model.specs.Schedules.{lock_of};
 ghost use Rattle.fit_law.specs.Fits.{CanRun};
 ghost use Rattle.world_core.specs.Runs.{excess};
 ghost use Rattle.lockstep.specs.declared.faults.RunFault.TheVariants as fault;
 
 use crate::faults::RunFault;
 use crate::phase::Lock;
-use dpc_model::plans::{FragSpec, Plan};
 use dpc_model::scripts::Script;
 use std::alloc::Global;
 use world_core::world::World;
-
-/// The most replicas of a fragment.
-fn most_replicas(frags: &[FragSpec]) -> u64
-    ensures { result ≡ fold max 0 (map (λ f. f.replicas) frags.now) }
-{
-    let mut most: u64 = 0;
-    for frag in frags {
-        most = most.max(frag.replicas);
-    }
-    most
-}
-
-/// The most quiet phases of a run.
-fn quiet_limit(plan: &Plan) -> u128
-    ensures { result ≡ quiet_limit plan.now }
-{
-    let frags = plan.frags.as_slice();
-    (frags.len() as u128 + 1) * (most_replicas(frags) as u128 + 1) * 38
-}
 
 /// The world after the one-thread journal of a script, quiet phases included; or the numbers that its
 /// first event past a limit of runs would reach. Time is linear in the events, and in each phase in the
@@ -42,7 +21,6 @@ pub fn run(alloc: Global, script: Script) -> Result<World, RunFault>
     ensures long { (envelopes items : ℕ) → result ≡ Err (fault.TooLong envelopes items)
         → excess script.plan (lock_of script) ≡ Some (record { envelopes = envelopes; items = items }) }
 {
-    let limit = quiet_limit(&script.plan);
     let Script {
         plan,
         phases,
@@ -51,7 +29,7 @@ pub fn run(alloc: Global, script: Script) -> Result<World, RunFault>
     let mut lock = Lock::new(World::new(alloc, plan)?);
     lock.phases(alloc, phases.as_slice())?;
     if settle {
-        lock.settle(alloc, limit)?;
+        lock.settle(alloc)?;
     }
     Ok(lock.world)
 }

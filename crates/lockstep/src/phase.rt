@@ -1,6 +1,7 @@
 //! A run so far, and its phases.
-ghost use Rattle.std.specs.Prelude.{◌≡◌, ◌+◌, false, fold, length, map, OnOk, IfErr};
-ghost use Rattle.world_model.specs.Schedules.{tell_phase, tell_phases, tell_quiet, Told};
+ghost use Rattle.std.specs.Prelude.{◌≡◌, ◌+◌, false, fold, length, map, max, IfOk, OnOk, IfErr};
+ghost use Rattle.world_model.specs.Schedules.{quiet_limit, tell_phase, tell_phases, tell_quiet, Told};
+ghost use Rattle.world_model.specs.Worlds.{all_settled};
 ghost use Rattle.world_core.specs.Runs.{world_of};
 ghost use Rattle.lockstep.specs.Locking.{IsAt, Follows, Exceeds};
 
@@ -8,9 +9,29 @@ use crate::events::phase_events;
 use crate::faults::RunFault;
 use crate::telling::{direct_all, tell, tell_all};
 use dpc_model::messages::Event;
+use dpc_model::plans::{FragSpec, Plan};
 use dpc_model::scripts::{Directive, Phase};
 use std::alloc::Global;
 use world_core::world::World;
+
+/// The most replicas of a fragment.
+fn most_replicas(frags: &[FragSpec]) -> u64
+    ensures { result ≡ fold max 0 (map (λ f. f.replicas) frags.now) }
+{
+    let mut most: u64 = 0;
+    for frag in frags {
+        most = most.max(frag.replicas);
+    }
+    most
+}
+
+/// The most quiet phases of a run.
+fn quiet_limit(plan: &Plan) -> u128
+    ensures { result ≡ quiet_limit plan.now }
+{
+    let frags = plan.frags.as_slice();
+    (frags.len() as u128 + 1) * (most_replicas(frags) as u128 + 1) * 38
+}
 
 /// A run so far. Each phase hands over the envelopes that were sent since the one before it began.
 #[derive(Drop)]
@@ -79,7 +100,7 @@ impl Lock {
     }
 
     /// Quiet phases, at most so many, until every client is settled.
-    pub fn settle(&mut self, alloc: Global, most: u128) -> Result<(), RunFault>
+    fn quiet(&mut self, alloc: Global, most: u128) -> Result<(), RunFault>
         requires { self.old.world.spent ≡ false }
         ensures ok { OnOk result (Follows (tell_quiet most self.old.phase self.old.first (self.old.now + 1)) self.old.world self.new.world) }
         ensures long { IfErr result (Exceeds (tell_quiet most self.old.phase self.old.first (self.old.now + 1)) self.old.world) }
@@ -92,5 +113,18 @@ impl Lock {
             self.phase(alloc, &[], now)?;
         }
         Ok(())
+    }
+
+    /// Quiet phases, at most as many as the plan lets there be, until every client is settled; and whether
+    /// every client is.
+    pub fn settle(&mut self, alloc: Global) -> Result<bool, RunFault>
+        requires { self.old.world.spent ≡ false }
+        ensures ok { OnOk result (Follows (tell_quiet (quiet_limit self.old.world.plan) self.old.phase self.old.first (self.old.now + 1)) self.old.world self.new.world) }
+        ensures settled { IfOk result (λ all. all ≡ all_settled (world_of self.new.world)) }
+        ensures long { IfErr result (Exceeds (tell_quiet (quiet_limit self.old.world.plan) self.old.phase self.old.first (self.old.now + 1)) self.old.world) }
+    {
+        let most = quiet_limit(self.world.plan());
+        self.quiet(alloc, most)?;
+        Ok(self.world.settled())
     }
 }

@@ -5,6 +5,7 @@ ghost use Rattle.world_core.specs.Runs.{world_of};
 ghost use Rattle.lockstep.specs.Locking.{Follows, Exceeds};
 
 use crate::faults::RunFault;
+use dpc_model::actors::narrow;
 use dpc_model::faults::NoMemory;
 use dpc_model::messages::Event;
 use dpc_model::scripts::Directive;
@@ -37,14 +38,14 @@ fn event_of(world: &World, directive: Directive) -> Result<Option<Event>, NoMemo
     ensures { IfOk result (λ event. event ≡ event_of (world_of world.now) directive) }
 {
     Ok(match directive {
-        Directive::Emit(source, time) => Some(Event::Emit(source, time)),
-        Directive::Release(source, time) => Some(Event::Release(source, time)),
-        Directive::Cut(a, b) => Some(Event::Cut(a, b)),
-        Directive::Heal(a, b) => Some(Event::Heal(a, b)),
+        Directive::Emit(source, time) => Some(Event::Emit(narrow(source)?, time)),
+        Directive::Release(source, time) => Some(Event::Release(narrow(source)?, time)),
+        Directive::Cut(a, b) => Some(Event::Cut(narrow(a)?, narrow(b)?)),
+        Directive::Heal(a, b) => Some(Event::Heal(narrow(a)?, narrow(b)?)),
         Directive::Lose(_, _) | Directive::Repeat(_, _) => None,
-        Directive::Crash(node) => Some(Event::Crash(node)),
+        Directive::Crash(node) => Some(Event::Crash(narrow(node)?)),
         Directive::Restart(node) => Some(Event::Restart(
-            node,
+            narrow(node)?,
             world.last_inc(node).checked_add(1).ok_or(NoMemory)?,
         )),
     })

@@ -55,15 +55,15 @@ fn happen(alloc: Global, plan: &Plan, parts: &mut Parts, e: Event) -> Result<(),
 {
     match e {
         Event::Phase(number) => parts.open_phase(plan, number),
-        Event::Emit(actor, time) => parts.emit(alloc, plan, actor, time)?,
-        Event::Release(actor, time) => parts.release(alloc, plan, actor, time)?,
-        Event::Cut(a, b) => parts.cut(plan, a, b)?,
-        Event::Heal(a, b) => parts.heal(plan, a, b),
-        Event::Crash(actor) => parts.crash(plan, actor),
-        Event::Restart(actor, inc) => parts.restart(alloc, plan, actor, inc)?,
+        Event::Emit(actor, time) => parts.emit(alloc, plan, u64::from(actor), time)?,
+        Event::Release(actor, time) => parts.release(alloc, plan, u64::from(actor), time)?,
+        Event::Cut(a, b) => parts.cut(plan, u64::from(a), u64::from(b))?,
+        Event::Heal(a, b) => parts.heal(plan, u64::from(a), u64::from(b)),
+        Event::Crash(actor) => parts.crash(plan, u64::from(actor)),
+        Event::Restart(actor, inc) => parts.restart(alloc, plan, u64::from(actor), inc)?,
         Event::Deliver(k) => parts.deliver(alloc, plan, k)?,
-        Event::Tick(actor, now) => parts.tick(alloc, plan, actor, now)?,
-        Event::Mill(actor, count) => parts.mill(alloc, plan, actor, count)?,
+        Event::Tick(actor, now) => parts.tick(alloc, plan, u64::from(actor), now)?,
+        Event::Mill(actor, count) => parts.mill(alloc, plan, u64::from(actor), count)?,
     }
     Ok(())
 }

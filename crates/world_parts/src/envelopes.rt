@@ -4,17 +4,19 @@ ghost use Rattle.dpc_model.specs.declared.messages.Out.{Out};
 ghost use Rattle.node_core.specs.declared.packets.Packet.TheVariants as packet;
 ghost use Rattle.world_parts.specs.Counting.{items_carried, all_carried, posted};
 
+use dpc_model::actors::narrow;
 use dpc_model::faults::NoMemory;
 use dpc_model::messages::{Message, Out};
 use node_core::packets::{Mail, Packet};
 use std::alloc::Global;
 use std::marker::Model;
 
-/// A packet with its sender and its addressee. Contracts see an `EnvelopeValue`.
+/// A packet with its sender and its addressee, whose numbers are narrow, since every envelope stays.
+/// Contracts see an `EnvelopeValue`.
 #[derive(Drop)]
 pub struct Envelope {
-    pub sender: u64,
-    pub to: u64,
+    sender: u32,
+    to: u32,
     pub packet: Packet,
 }
 
@@ -28,6 +30,22 @@ impl Model for Envelope {
     ghost coded = { Prim.hlevel (codes, coded_formula) };
 
     ghost view = { λ e. record { sender = e.sender; to = e.to; packet = e.packet } };
+}
+
+impl Envelope {
+    /// The actor that sent it.
+    pub fn sender(&self) -> u64
+        ensures { result ≡ self.now.sender }
+    {
+        u64::from(self.sender)
+    }
+
+    /// The actor that it goes to.
+    pub fn to(&self) -> u64
+        ensures { result ≡ self.now.to }
+    {
+        u64::from(self.to)
+    }
 }
 
 /// How many items a packet carries: those of a batch, or the tuples that a snapshot keeps.
@@ -75,11 +93,12 @@ pub(crate) fn push_mails(
     ensures ok { OnOk result (envelopes.new.items ≡ envelopes.old.items ++ map (posted sender) mails.items) }
     ensures few { length envelopes.new.items ≤ length envelopes.old.items + length mails.items }
 {
+    let sender = narrow(sender)?;
     envelopes.reserve(mails.len())?;
     for mail in mails {
         envelopes.push(Envelope {
             sender,
-            to: mail.to,
+            to: narrow(mail.to)?,
             packet: mail.packet,
         })?;
     }

@@ -16,7 +16,7 @@ use std::alloc::Global;
 use std::marker::Model;
 
 /// The most buckets that are milled at once.
-const MOST_MILLED: u64 = 16;
+pub const MOST_MILLED: u64 = 16;
 
 /// Contracts see a `SlotValue`.
 #[derive(Drop)]

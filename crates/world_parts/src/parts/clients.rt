@@ -33,7 +33,7 @@ impl Parts {
         let Packet::Plain(message) = &envelope.packet else {
             return Ok(());
         };
-        self.clients[client as usize].deliver(alloc, envelope.sender, message)?;
+        self.clients[client as usize].deliver(alloc, envelope.sender(), message)?;
         Ok(())
     }
 

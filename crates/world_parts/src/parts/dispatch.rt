@@ -31,10 +31,10 @@ impl Parts {
         let Some(envelope) = self.envelopes.get(k) else {
             return Ok(());
         };
-        if !self.link_up(plan, envelope.sender, envelope.to) {
+        if !self.link_up(plan, envelope.sender(), envelope.to()) {
             return Ok(());
         }
-        match role_of(plan, envelope.to) {
+        match role_of(plan, envelope.to()) {
             Role::Source(source) => self.deliver_to_source(alloc, plan, k, source)?,
             Role::Node(frag, replica) => self.deliver_to_node(alloc, plan, k, frag, replica)?,
             Role::Client(client) => self.deliver_to_client(alloc, plan, k, client)?,

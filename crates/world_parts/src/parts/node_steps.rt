@@ -50,10 +50,10 @@ impl Parts {
         ensures ok { OnOk result (Happened plan.now self.old self.new (event.Deliver k)) }
         ensures long { (envelopes items : ℕ) → result ≡ Err (fault.TooLong envelopes items) → WouldPass plan.now self.old (event.Deliver k) envelopes items }
     {
-        let to = self.envelopes[k].to;
+        let to = self.envelopes[k].to();
         let place = self.node_place(plan, to);
         let envelope = &self.envelopes[k];
-        let mails = self.nodes[place].deliver(alloc, envelope.sender, &envelope.packet)?;
+        let mails = self.nodes[place].deliver(alloc, envelope.sender(), &envelope.packet)?;
         self.post(to, mails)?;
         Ok(())
     }

@@ -90,7 +90,7 @@ impl Parts {
         let Packet::Plain(message) = &envelope.packet else {
             return Ok(());
         };
-        let (sender, to) = (envelope.sender, envelope.to);
+        let (sender, to) = (envelope.sender(), envelope.to());
         let outs = self.sources[source as usize].deliver(alloc, plan, sender, message)?;
         let mails = as_mails(alloc, outs)?;
         self.post(to, mails)

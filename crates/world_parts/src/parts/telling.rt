@@ -22,7 +22,7 @@ impl Parts {
         ensures { (plan : Plan) (x : World) → StandsForWorld plan self.now x → result ≡ option_map (λ (e : PlainEnvelope). (e.sender, e.to)) (slice_get x.envelopes k) }
     {
         let envelope = self.envelopes.get(k as usize)?;
-        Some((envelope.sender, envelope.to))
+        Some((envelope.sender(), envelope.to()))
     }
 
     /// The last incarnation of a node.

@@ -17,4 +17,4 @@ loop-actor-preserved c =
       | else-is_up w ↦ ap (λ (v : Vec Event Global). v.items) w.events-is ∙ sym (append-nil c.loop-actor.events.items) ∙ ap pushed (sym w.if-is_up.false)
     ] in
     kept-more (λ a. Tick a c.args.now) (is_up (world_of c.args.world.now)) c.loop-actor.actor c.args.events.now.items c.loop-actor.events.items c.if-is_up.events.items c.loop-actor.invariant
-    (one ∙ ap pushed c.is_up.ensures)
+    (one ∙ ap pushed (c.is_up.ensures ∙ ap (is_up (world_of c.args.world.now)) c.from.ensures))

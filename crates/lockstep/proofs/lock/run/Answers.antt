@@ -19,7 +19,7 @@ phased c =
 pub returns-in_err-settle-clause-long : goal.returns-in_err-settle-clause-long
 returns-in_err-settle-clause-long c =
     raised-past c.from_residual-in_err-settle.result c.in_err-settle.field-0.0 c.args.script.plan (lock_of c.args.script) c.from_residual-in_err-settle.ensures
-    (settle-excess c.args.script c.quiet_limit-limit.result c.phases-2.new.self c.in_err-settle.field-0.0 c.quiet_limit-limit.ensures c.if-settle.true
+    (settle-excess c.args.script c.phases-2.new.self c.in_err-settle.field-0.0 c.if-settle.true
     (phased (goal.at.returns-in_err-settle-clause-long c).In_ok-phases) c.in_err-settle.ensures.long)
 
 ended : (c : goal.After-drop-phases-inside-2) → Ends c.args.script c.if-settle.lock.world
@@ -28,7 +28,7 @@ ended c =
     elim c.if-settle.branch [
       | then-settle+in_ok-settle w ↦
           subst (λ (l : Lock). Ends c.args.script l.world) (sym w.lock-is)
-          (settled-ends c.args.script c.quiet_limit-limit.result c.phases-2.new.self w.settle.new.self.world c.quiet_limit-limit.ensures w.if-settle.true behind w.in_ok-settle.ensures.ok)
+          (settled-ends c.args.script c.phases-2.new.self w.settle.new.self.world w.if-settle.true behind w.in_ok-settle.ensures.ok)
       | else-settle w ↦ subst (λ (l : Lock). Ends c.args.script l.world) (sym w.lock-is) (plain-ends c.args.script c.phases-2.new.self w.if-settle.false behind)
     ]
 

@@ -1,4 +1,4 @@
-use Rattle.std.proofs.Common.{◌≡◌, ℕ, ◌+◌, ◌≤◌, List, ◌++◌, length, map, ap, arith, length-append}
+use Rattle.std.proofs.Common.{◌≡◌, ℕ, ◌+◌, ◌≤◌, List, ◌++◌, length, map, refl, ap, arith, length-append}
 use Rattle.std.proofs.lemmas.List.{length-map}
 use Rattle.node_core.specs.declared.packets.Mail.{Mail}
 use Rattle.world_parts.specs.Parts.{EnvelopeValue}
@@ -13,3 +13,6 @@ few a now done old rest mails same e =
 
 pub returns-in_err-push-clause-few : goal.returns-in_err-push-clause-few
 returns-in_err-push-clause-few c = few c.args.sender _ c.loop-mail.envelopes.items c.args.envelopes.now.items c.loop-mail.mail-iterator.rest.items c.args.mails.items c.in_err-push.ensures.items c.loop-mail.invariant
+
+pub returns-in_err-narrow-clause-few : goal.returns-in_err-narrow-clause-few
+returns-in_err-narrow-clause-few c = few c.args.sender _ c.loop-mail.envelopes.items c.args.envelopes.now.items c.loop-mail.mail-iterator.rest.items c.args.mails.items refl c.loop-mail.invariant

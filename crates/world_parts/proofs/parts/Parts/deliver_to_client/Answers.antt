@@ -32,5 +32,5 @@ returns-clause-ok c =
     (ap (λ (e : EnvelopeValue). e.packet) (is ∙ sym c.envelope.view_is) ∙ c.in-Plain.is)
     (read-at c.self.inside.clients.items c.args.self.now.clients c.args.client c.index_mut.result.now (ap (λ (s : PartsValue). s.clients) c.self.view_is) low c.index_mut.ensures.value)
     (subst (λ (a : ℕ). Follows (λ plan n x. client_after_packet plan n a (Plain c.in-Plain.message) x) c.index_mut.result.now c.deliver.new.self)
-    (ap (λ (e : EnvelopeValue). e.sender) (c.envelope.view_is ∙ sym is)) c.in_ok-deliver.ensures.ok)
+    (c.sender.ensures ∙ ap (λ (e : EnvelopeValue). e.sender) (sym is)) c.in_ok-deliver.ensures.ok)
     (search rules)

@@ -1,7 +1,23 @@
-use Rattle.std.proofs.Common.{rules, ◌<◌, length}
+use Rattle.std.proofs.Common.{◌≡◌, ◌∙◌, ℕ, rules, ◌<◌, length, ap}
 use Rattle.dpc_model.specs.declared.messages.Event.TheVariants as event
+use Rattle.node_core.specs.declared.packets.Packet as code
+use Rattle.world_parts.specs.Parts.{EnvelopeValue}
 use Rattle.world_parts.proofs.NodeCalls.{coming-low, coming-role, read-low, read-come, taken-leads, posted-happened, posted-passes}
 use Rattle.world_parts.proofs.parts.Parts.deliver_to_node.Goals as goal
+
+-- an envelope with the number that was told of it
+abbrev with-to : ℕ → EnvelopeValue → EnvelopeValue
+with-to to e = record e { to = to }
+
+front-is : (e : EnvelopeValue) (to : ℕ) → to ≡ e.to → with-to to e ≡ e
+front-is e to is = ap (λ (a : ℕ). record e { to = a }) is
+
+-- and with the packet that was lent
+abbrev with-ends : ℕ → code.Packet → EnvelopeValue → EnvelopeValue
+with-ends sender packet e = record e { sender = sender; packet = packet }
+
+env-is : (e : EnvelopeValue) (sender : ℕ) (packet : code.Packet) → sender ≡ e.sender → packet ≡ e.packet → with-ends sender packet e ≡ e
+env-is e sender packet is same = ap (λ (a : ℕ). record e { sender = a; packet = packet }) is ∙ ap (λ (p : code.Packet). record e { packet = p }) same
 
 pub index-requires : goal.index-requires
 index-requires c =
@@ -11,27 +27,25 @@ index-requires c =
 pub index_mut-requires : goal.index_mut-requires
 index_mut-requires c =
     let low : c.node_place-place.result < length c.self.inside.nodes.items =
-    read-low c.args.plan.now _ _ c.behind-self.inside.to c.args.frag c.args.replica c.node_place-place.result c.self.view_is c.requires.some
-    (coming-role c.args.plan.now _ _ c.args.k c.args.frag c.args.replica (record { sender = c.behind-self.inside.sender; to = c.behind-self.inside.to; packet = c.behind-self.inside.packet })
-    c.index.result.now c.self.view_is c.requires.comes c.index.ensures c.behind-self.view_is) c.node_place-place.ensures in
+    read-low c.args.plan.now _ _ c.to-to.result c.args.frag c.args.replica c.node_place-place.result c.self.view_is c.requires.some
+    (coming-role c.args.plan.now _ _ c.args.k c.args.frag c.args.replica (with-to c.to-to.result c.index.result.now) c.index.result.now c.self.view_is c.requires.comes c.index.ensures
+    (front-is c.index.result.now c.to-to.result c.to-to.ensures)) c.node_place-place.ensures in
     search (rules, low)
 
 pub deliver-requires : goal.deliver-requires
 deliver-requires c =
-    read-come c.args.plan.now _ _ c.args.k c.args.frag c.args.replica c.node_place-place.result
-    (record { sender = c.behind-self.inside.sender; to = c.behind-self.inside.to; packet = c.behind-self.inside.packet })
-    (record { sender = c.envelope.inside.sender; to = c.envelope.inside.to; packet = c.envelope.inside.packet })
-    c.index_mut.result.now c.requires.plan
+    read-come c.args.plan.now _ _ c.args.k c.args.frag c.args.replica c.node_place-place.result (with-to c.to-to.result c.index.result.now)
+    (with-ends c.sender.result c.envelope.inside.packet c.index-envelope.result.now) c.index_mut.result.now c.requires.plan
     (record {
       same = c.self.view_is;
       some = c.requires.some;
       comes = c.requires.comes;
       first = c.index.result.now;
       first_is = c.index.ensures;
-      front_is = c.behind-self.view_is;
+      front_is = front-is c.index.result.now c.to-to.result c.to-to.ensures;
       second = c.index-envelope.result.now;
       second_is = c.index-envelope.ensures;
-      env_is = c.envelope.view_is;
+      env_is = env-is c.index-envelope.result.now c.sender.result c.envelope.inside.packet c.sender.ensures (ap (λ (e : EnvelopeValue). e.packet) c.envelope.view_is);
       place = c.node_place-place.ensures;
       value = c.index_mut.ensures.value;
     })
@@ -39,20 +53,18 @@ deliver-requires c =
 pub returns-in_err-post-clause-long : goal.returns-in_err-post-clause-long
 returns-in_err-post-clause-long c =
     posted-passes c.args.plan.now _ _ (event.Deliver c.args.k) c.from_residual-in_err-post.result c.in_err-post.field-0.0 c.from_residual-in_err-post.ensures.1 c.in_err-post.ensures.long
-    (taken-leads c.args.plan.now _ _ c.args.k c.args.frag c.args.replica c.node_place-place.result
-    (record { sender = c.behind-self.inside.sender; to = c.behind-self.inside.to; packet = c.behind-self.inside.packet })
-    (record { sender = c.envelope.inside.sender; to = c.envelope.inside.to; packet = c.envelope.inside.packet })
-    c.index_mut.result.now c.deliver.new.self c.in_ok-mails.mails.items c.requires.plan
+    (taken-leads c.args.plan.now _ _ c.args.k c.args.frag c.args.replica c.node_place-place.result (with-to c.to-to.result c.index.result.now)
+    (with-ends c.sender.result c.envelope.inside.packet c.index-envelope.result.now) c.index_mut.result.now c.deliver.new.self c.in_ok-mails.mails.items c.requires.plan
     (record {
       same = c.self.view_is;
       some = c.requires.some;
       comes = c.requires.comes;
       first = c.index.result.now;
       first_is = c.index.ensures;
-      front_is = c.behind-self.view_is;
+      front_is = front-is c.index.result.now c.to-to.result c.to-to.ensures;
       second = c.index-envelope.result.now;
       second_is = c.index-envelope.ensures;
-      env_is = c.envelope.view_is;
+      env_is = env-is c.index-envelope.result.now c.sender.result c.envelope.inside.packet c.sender.ensures (ap (λ (e : EnvelopeValue). e.packet) c.envelope.view_is);
       place = c.node_place-place.ensures;
       value = c.index_mut.ensures.value;
     }) c.in_ok-mails.ensures)
@@ -60,20 +72,18 @@ returns-in_err-post-clause-long c =
 pub returns-clause-ok : goal.returns-clause-ok
 returns-clause-ok c =
     posted-happened c.args.plan.now _ _ _ (event.Deliver c.args.k) c.in_ok-post.ensures.ok c.in_ok-post.ensures.within
-    (taken-leads c.args.plan.now _ _ c.args.k c.args.frag c.args.replica c.node_place-place.result
-    (record { sender = c.behind-self.inside.sender; to = c.behind-self.inside.to; packet = c.behind-self.inside.packet })
-    (record { sender = c.envelope.inside.sender; to = c.envelope.inside.to; packet = c.envelope.inside.packet })
-    c.index_mut.result.now c.deliver.new.self c.in_ok-mails.mails.items c.requires.plan
+    (taken-leads c.args.plan.now _ _ c.args.k c.args.frag c.args.replica c.node_place-place.result (with-to c.to-to.result c.index.result.now)
+    (with-ends c.sender.result c.envelope.inside.packet c.index-envelope.result.now) c.index_mut.result.now c.deliver.new.self c.in_ok-mails.mails.items c.requires.plan
     (record {
       same = c.self.view_is;
       some = c.requires.some;
       comes = c.requires.comes;
       first = c.index.result.now;
       first_is = c.index.ensures;
-      front_is = c.behind-self.view_is;
+      front_is = front-is c.index.result.now c.to-to.result c.to-to.ensures;
       second = c.index-envelope.result.now;
       second_is = c.index-envelope.ensures;
-      env_is = c.envelope.view_is;
+      env_is = env-is c.index-envelope.result.now c.sender.result c.envelope.inside.packet c.sender.ensures (ap (λ (e : EnvelopeValue). e.packet) c.envelope.view_is);
       place = c.node_place-place.ensures;
       value = c.index_mut.ensures.value;
     }) c.in_ok-mails.ensures)

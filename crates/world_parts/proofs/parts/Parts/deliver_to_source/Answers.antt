@@ -33,14 +33,15 @@ returns-clause-ok c =
     let old = c.args.self.now in
     let k = c.args.k in
     let s = c.args.source in
-    let sender = c.envelope.inside.sender in
-    let a = c.envelope.inside.to in
+    let sender = c.sender-sender.result in
+    let a = c.to-to.result in
     let m = c.in-Plain.message in
     let v = c.index_mut.result.now in
     let outs = c.in_ok-outs.outs.items in
     let comes = c.requires.comes in
-    let read = sym (c.envelope.view_is ∙ envelope-seen old _ k comes.envelope c.index-envelope.result.now c.self.view_is comes.is c.index-envelope.ensures) in
-    let did = deliver-step plan old _ k s sender a m v outs c.requires.some comes (ap (λ (e : EnvelopeValue). e.sender) read) (ap (λ (e : EnvelopeValue). e.to) read) (ap (λ (e : EnvelopeValue). e.packet) read ∙ c.in-Plain.is)
+    let seen = sym (envelope-seen old _ k comes.envelope c.index-envelope.result.now c.self.view_is comes.is c.index-envelope.ensures) in
+    let did = deliver-step plan old _ k s sender a m v outs c.requires.some comes (ap (λ (e : EnvelopeValue). e.sender) seen ∙ sym c.sender-sender.ensures) (ap (λ (e : EnvelopeValue). e.to) seen ∙ sym c.to-to.ensures)
+    (ap (λ (e : EnvelopeValue). e.packet) (seen ∙ sym c.envelope.view_is) ∙ c.in-Plain.is)
     c.self.view_is c.index_mut.ensures.value c.in_ok-outs.ensures.sends in
     step-ok plan old _ c.post.new.self a s (Deliver k) (λ y. source_message plan v.number sender m y) v c.deliver.new.self outs c.in_ok-mails.mails.items c.post.result c.self.view_is did c.in_ok-outs.ensures.after c.in_ok-mails.ensures
     c.post.ensures.ok c.post.ensures.within
@@ -51,14 +52,15 @@ returns-clause-long c = λ envelopes items long.
     let old = c.args.self.now in
     let k = c.args.k in
     let s = c.args.source in
-    let sender = c.envelope.inside.sender in
-    let a = c.envelope.inside.to in
+    let sender = c.sender-sender.result in
+    let a = c.to-to.result in
     let m = c.in-Plain.message in
     let v = c.index_mut.result.now in
     let outs = c.in_ok-outs.outs.items in
     let comes = c.requires.comes in
-    let read = sym (c.envelope.view_is ∙ envelope-seen old _ k comes.envelope c.index-envelope.result.now c.self.view_is comes.is c.index-envelope.ensures) in
-    let did = deliver-step plan old _ k s sender a m v outs c.requires.some comes (ap (λ (e : EnvelopeValue). e.sender) read) (ap (λ (e : EnvelopeValue). e.to) read) (ap (λ (e : EnvelopeValue). e.packet) read ∙ c.in-Plain.is)
+    let seen = sym (envelope-seen old _ k comes.envelope c.index-envelope.result.now c.self.view_is comes.is c.index-envelope.ensures) in
+    let did = deliver-step plan old _ k s sender a m v outs c.requires.some comes (ap (λ (e : EnvelopeValue). e.sender) seen ∙ sym c.sender-sender.ensures) (ap (λ (e : EnvelopeValue). e.to) seen ∙ sym c.to-to.ensures)
+    (ap (λ (e : EnvelopeValue). e.packet) (seen ∙ sym c.envelope.view_is) ∙ c.in-Plain.is)
     c.self.view_is c.index_mut.ensures.value c.in_ok-outs.ensures.sends in
     step-would plan old _ a s (Deliver k) (λ y. source_message plan v.number sender m y) v c.deliver.new.self outs c.in_ok-mails.mails.items envelopes items c.self.view_is did c.in_ok-outs.ensures.after c.in_ok-mails.ensures
     (c.post.ensures.long envelopes items long)

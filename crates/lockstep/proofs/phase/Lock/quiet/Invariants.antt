@@ -1,7 +1,7 @@
 use Rattle.std.proofs.Common.{◌+◌, ◌-◌}
 use Rattle.world_model.specs.Schedules.{tell_quiet}
 use Rattle.lockstep.proofs.Standing.{Leads}
-use Rattle.lockstep.proofs.phase.Lock.settle.Given as goal
+use Rattle.lockstep.proofs.phase.Lock.quiet.Given as goal
 
 -- the first quiet phases lead here, and the others are still to do
 abbrev pub invariant-loop : goal.invariant-loop

@@ -4,7 +4,7 @@ use Rattle.lockstep.specs.Locking.{Follows, Exceeds}
 use Rattle.world_model.specs.Schedules.{tell_phase, tell_quiet}
 use Rattle.lockstep.proofs.Standing.{Leads, raised}
 use Rattle.lockstep.proofs.Phasing.{quiet-ends, quiet-lead, quiet-past}
-use Rattle.lockstep.proofs.phase.Lock.settle.Goals as goal
+use Rattle.lockstep.proofs.phase.Lock.quiet.Goals as goal
 
 pub returns-then-settled-clause-ok : goal.returns-then-settled-clause-ok
 returns-then-settled-clause-ok c =
