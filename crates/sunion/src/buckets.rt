@@ -43,6 +43,7 @@ fn push_ordered(
     ensures { OnOk result (InOrder tuples.now.items → tagged.new.items ≡ tagged.old.items ++ map (tag port) (between from upto tuples.now.items)) }
 {
     let mut place = first_from(tuples, from);
+    tagged.reserve(first_from(tuples, upto).saturating_sub(place))?;
     while let Some(tuple) = tuples.get(place) {
         if tuple.stime >= upto {
             break;

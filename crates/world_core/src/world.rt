@@ -16,6 +16,7 @@ use std::marker::Model;
 use world_parts::faults::EventFault;
 use world_parts::parts::Parts;
 
+mod handing;
 mod telling;
 
 /// A run: what stands is what its events make of the opening, one after another. An event that wants

@@ -15,3 +15,6 @@ pub mod NewParts
 pub mod SlotPlaces
 pub mod EnvelopeEnds
 pub mod SettledClients
+pub mod SlotWork
+pub mod NodeWork
+pub mod UpNodes

@@ -82,12 +82,12 @@ packet-fit x most k f r y s can fine there role e = by-node s.node refl
     by-node (Some p) up = world-packets x most can.checked fine k f r y p there role (ap (λ (t : Slot). t.node) (slot-here x y.to s e) ∙ up)
 
 -- a plain place that may make a step
-record CanStepAt (x : World) (a f r : ℕ) (u : SlotValue) : Type 0 where
-  slot : Slot
-  plain : slice_get x.nodes (node_place x.plan a) ≡ Some slot
-  can : CanStep (home_of x.plan (f, r)) u slot
+pub record CanStepAt (x : World) (a f r : ℕ) (u : SlotValue) : Type 0 where
+  pub slot : Slot
+  pub plain : slice_get x.nodes (node_place x.plan a) ≡ Some slot
+  pub can : CanStep (home_of x.plan (f, r)) u slot
 
-step-at : (x : World) (most a f r : ℕ) (v : PartsValue) (u : SlotValue) → CanRun x.plan → role_of x.plan a ≡ IsNode f r → IsWorldOf x.plan v x most → slice_get v.nodes (node_place x.plan a) ≡ Some u → CanStepAt x a f r u
+pub step-at : (x : World) (most a f r : ℕ) (v : PartsValue) (u : SlotValue) → CanRun x.plan → role_of x.plan a ≡ IsNode f r → IsWorldOf x.plan v x most → slice_get v.nodes (node_place x.plan a) ≡ Some u → CanStepAt x a f r u
 step-at x most a f r v u can role w e =
     let at = place-of x.plan a f r v x role w.stands in
     let same : at.value ≡ u = some-same (sym at.is ∙ e) in

@@ -1,5 +1,6 @@
 pub mod Counting
 pub mod Events
+pub mod Handing
 pub mod Opening
 pub mod Parts
 pub mod Slots

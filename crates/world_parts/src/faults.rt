@@ -1,8 +1,10 @@
-//! Why an event was not made.
+//! Why an event was not made, or work not put back.
 ghost use Rattle.std.specs.Prelude.{◌≡◌};
+ghost use Rattle.world_parts.specs.Handing.{fault_of_node, fault_of_event};
 ghost use Rattle.world_parts.specs.declared.faults.EventFault.TheVariants as event_fault;
 
 use dpc_model::faults::{NoMemory, StepFault};
+use node_core::faults::{CommitFault as NodeFault, Point};
 use std::alloc::{AllocError, AllocFailed};
 
 #[derive(Clone, Copy, PartialEq, Eq, Debug)]
@@ -41,5 +43,37 @@ impl<T: Drop> From<AllocFailed<T>> for EventFault {
 
     fn from(_fault: AllocFailed<T>) -> EventFault {
         EventFault::NoMemory
+    }
+}
+
+/// Why work that was done apart is not put back.
+#[derive(Clone, Copy, PartialEq, Eq)]
+pub enum CommitFault {
+    NoMemory,
+    /// It would make more envelopes, or items in them, than a run may have: so many.
+    TooLong { envelopes: u64, items: u64 },
+    /// The node is down, or does not stand any more where the order was taken.
+    Stale { had: Point, needed: Point },
+}
+
+impl From<NodeFault> for CommitFault {
+    ghost from_gives = { λ node fault. fault ≡ fault_of_node node };
+
+    fn from(fault: NodeFault) -> CommitFault {
+        match fault {
+            NodeFault::NoMemory | NodeFault::Spent => CommitFault::NoMemory,
+            NodeFault::Stale { had, needed } => CommitFault::Stale { had, needed },
+        }
+    }
+}
+
+impl From<EventFault> for CommitFault {
+    ghost from_gives = { λ event fault. fault ≡ fault_of_event event };
+
+    fn from(fault: EventFault) -> CommitFault {
+        match fault {
+            EventFault::NoMemory => CommitFault::NoMemory,
+            EventFault::TooLong { envelopes, items } => CommitFault::TooLong { envelopes, items },
+        }
     }
 }

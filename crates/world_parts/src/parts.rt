@@ -22,6 +22,7 @@ use std::marker::Model;
 
 mod clients;
 mod dispatch;
+mod handing;
 mod links;
 mod node_steps;
 mod nodes;

@@ -1,15 +1,23 @@
 //! The place of a node: its last incarnation, and the node where it is up.
-ghost use Rattle.std.specs.Prelude.{◌≡◌, ℕ, None, IfOk};
+ghost use Rattle.std.specs.Prelude.{◌≡◌, ℕ, length, None, Err, IsNone, IfOk, OnOk, IfSome};
 ghost use Rattle.node_model.specs.Mails.{Packet as PlainPacket};
 ghost use Rattle.node_model.specs.Nodes.{Home};
 ghost use Rattle.node_laws.specs.Making.{IsReplica};
-ghost use Rattle.world_model.specs.Worlds.{Slot as PlainSlot, home_of, restart_slot};
+ghost use Rattle.node_core.specs.declared.faults.Point.{Point};
+ghost use Rattle.node_core.specs.declared.faults.CommitFault.TheVariants as fault;
+ghost use Rattle.node_core.specs.Milling.{needed_by};
+ghost use Rattle.world_model.specs.Worlds.{Slot as PlainSlot, home_of, ready_in, restart_slot};
+ghost use Rattle.world_parts.specs.Handing.{IsSlotOrder, IsUpAt, IsSlotStale, down_point};
 ghost use Rattle.world_parts.specs.Parts.{StandsForSlot};
 ghost use Rattle.world_parts.specs.Slots.{CanStep, CanCome, IsStepped, slot_mills, slot_takes, slot_ticks};
 
 use crate::parts::is_clock;
 use dpc_model::faults::{NoMemory, StepFault};
 use dpc_model::plans::Plan;
+use fragment_mill::mill::FragMill;
+use mill_work::milling::Milled;
+use mill_work::order::Order;
+use node_core::faults::{CommitFault, Point};
 use node_core::node::Node;
 use node_core::packets::{Mail, Packet};
 use std::alloc::Global;
@@ -35,6 +43,32 @@ impl Model for Slot {
     ghost coded = { Prim.hlevel (codes, coded_formula) };
 
     ghost view = { λ s. record { last_inc = s.last_inc; node = s.node } };
+}
+
+/// Where a node stands that is down.
+pub(crate) fn down_point(last_inc: u64) -> Point
+    ensures { result ≡ down_point last_inc }
+{
+    Point {
+        up: false,
+        inc: last_inc,
+        cursor: 0,
+        ready: 0,
+        fits: false,
+    }
+}
+
+/// Where a node would have to stand for an order to be put back.
+pub(crate) fn needed_by(order: &Order<FragMill>) -> Point
+    ensures { result ≡ needed_by order.now }
+{
+    Point {
+        up: true,
+        inc: order.inc,
+        cursor: order.cursor,
+        ready: order.buckets.len() as u64,
+        fits: true,
+    }
 }
 
 impl Slot {
@@ -109,6 +143,48 @@ impl Slot {
             return Ok(Vec::new(alloc));
         }
         let mails = node.tick(alloc, now)?;
+        Ok(mails)
+    }
+
+    /// Work for the node's next ready buckets: all of them, or the most that may be milled at once. `None`
+    /// exactly where it is down, or none is ready.
+    pub(crate) fn order(&self, alloc: Global) -> Result<Option<Order<FragMill>>, NoMemory>
+        requires { (home : Home) × (x : PlainSlot) × CanStep home self.now x }
+        ensures none { IfOk result (λ told. IsNone told → (home : Home) (x : PlainSlot) → CanStep home self.now x → ready_in home x.node ≡ 0) }
+        ensures some { IfOk result (λ told. IfSome told (IsSlotOrder self.now)) }
+    {
+        let Some(node) = self.node.as_ref() else {
+            return Ok(None);
+        };
+        let count = MOST_MILLED.min(node.ready());
+        if count == 0 {
+            return Ok(None);
+        }
+        let Ok(order) = node.order(alloc, count) else {
+            return Err(NoMemory);
+        };
+        Ok(Some(order))
+    }
+
+    /// Puts work back that was done apart: exactly the step of `mill`, where the node is up and still stands
+    /// where the order was taken. Where that is stale nothing changes.
+    pub(crate) fn commit(
+        &mut self,
+        alloc: Global,
+        milled: Milled<FragMill>,
+    ) -> Result<Vec<Mail>, CommitFault>
+        requires { (home : Home) × (x : PlainSlot) × CanStep home self.old x }
+        ensures ok { IfOk result (λ mails. (home : Home) → (x : PlainSlot) → CanStep home self.old x → IsStepped home self.new mails.items (slot_mills home (length milled.order.buckets) x)) }
+        ensures fits { OnOk result (IsUpAt self.old.node milled.order) }
+        ensures stale { (had needed : Point) → result ≡ Err (fault.Stale had needed) → (self.new ≡ self.old) × IsSlotStale self.old milled.order had needed }
+    {
+        let Some(node) = self.node.as_mut() else {
+            return Err(CommitFault::Stale {
+                had: down_point(self.last_inc),
+                needed: needed_by(milled.order()),
+            });
+        };
+        let mails = node.commit(alloc, milled)?;
         Ok(mails)
     }
 }

@@ -42,6 +42,7 @@ impl Node {
         ensures spent { result ≡ Err commit.Spent ↔ self.old.spent ≡ true }
         ensures lost { result ≡ Err commit.NoMemory → self.new.spent ≡ true }
         ensures kept { IfOk result (λ mails. self.new.spent ≡ false) }
+        ensures stays { result ≡ Err commit.Spent → self.new ≡ self.old }
     {
         if self.spent {
             return Err(CommitFault::Spent);

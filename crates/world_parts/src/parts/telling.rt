@@ -36,7 +36,7 @@ impl Parts {
     }
 
     /// The node that an actor is, where it is one and is up.
-    fn node(&self, plan: &Plan, actor: u64) -> Option<&Node>
+    pub fn node(&self, plan: &Plan, actor: u64) -> Option<&Node>
         ensures { (x : World) → StandsForWorld plan.now self.now x → StandsForRole plan.now (role_of plan.now actor) (option_copied result) (node_at x actor) }
     {
         let Role::Node(_, _) = role_of(plan, actor) else {

@@ -1,0 +1,71 @@
+//! Work that a node hands out, and that is put back when it is done.
+ghost use Rattle.std.specs.Prelude.{◌≡◌, ◌↔◌, ℕ, length, Err, IsNone, IfOk, OnOk, IfSome};
+ghost use Rattle.dpc_model.specs.declared.messages.Event.TheVariants as event;
+ghost use Rattle.node_core.specs.declared.faults.Point.{Point};
+ghost use Rattle.world_model.specs.Worlds.{World, ready_at};
+ghost use Rattle.fit_law.specs.Fits.{CanRun};
+ghost use Rattle.world_parts.specs.declared.faults.CommitFault.TheVariants as fault;
+ghost use Rattle.world_parts.specs.Events.{IsWorldOf, IsSomeWorld, Happened, WouldPass};
+ghost use Rattle.world_parts.specs.Handing.{IsHandedOut, IsTimely, IsStaleAt};
+
+use crate::faults::CommitFault;
+use crate::parts::Parts;
+use crate::slots::{down_point, needed_by};
+use dpc_model::actors::{Role, role_of};
+use dpc_model::faults::NoMemory;
+use dpc_model::plans::Plan;
+use fragment_mill::mill::FragMill;
+use mill_work::milling::Milled;
+use mill_work::order::Order;
+use std::alloc::Global;
+
+impl Parts {
+    /// Work for the next ready buckets of an actor: all of them, or the most that may be milled at once.
+    /// `None` exactly where none is ready.
+    pub fn order(
+        &self,
+        alloc: Global,
+        plan: &Plan,
+        actor: u64,
+    ) -> Result<Option<Order<FragMill>>, NoMemory>
+        requires plan { CanRun plan.now }
+        requires some { IsSomeWorld plan.now self.now }
+        ensures none { IfOk result (λ told. (x : World) (most : ℕ) → IsWorldOf plan.now self.now x most → (IsNone told ↔ (ready_at x actor ≡ 0))) }
+        ensures some { IfOk result (λ told. IfSome told (IsHandedOut plan.now self.now actor)) }
+    {
+        let place = self.node_place(plan, actor);
+        let Role::Node(_, _) = role_of(plan, actor) else {
+            return Ok(None);
+        };
+        let order = self.nodes[place].order(alloc)?;
+        Ok(order)
+    }
+
+    /// Puts work back that was done apart: exactly the event of milling its buckets, where its node is up
+    /// and still stands where the order was taken. Where that is stale nothing changes.
+    pub fn commit(
+        &mut self,
+        alloc: Global,
+        plan: &Plan,
+        milled: Milled<FragMill>,
+    ) -> Result<(), CommitFault>
+        requires plan { CanRun plan.now }
+        requires some { IsSomeWorld plan.now self.old }
+        ensures ok { OnOk result (Happened plan.now self.old self.new (event.Mill milled.order.node (length milled.order.buckets))) }
+        ensures fits { OnOk result (IsTimely plan.now self.old milled.order) }
+        ensures long { (envelopes items : ℕ) → result ≡ Err (fault.TooLong envelopes items) → WouldPass plan.now self.old (event.Mill milled.order.node (length milled.order.buckets)) envelopes items }
+        ensures stale { (had needed : Point) → result ≡ Err (fault.Stale had needed) → (self.new ≡ self.old) × IsStaleAt plan.now self.old milled.order had needed }
+    {
+        let actor = milled.order().node;
+        let place = self.node_place(plan, actor);
+        let Role::Node(_, _) = role_of(plan, actor) else {
+            return Err(CommitFault::Stale {
+                had: down_point(self.last_inc(plan, actor)),
+                needed: needed_by(milled.order()),
+            });
+        };
+        let mails = self.nodes[place].commit(alloc, milled)?;
+        self.post(actor, mails)?;
+        Ok(())
+    }
+}
