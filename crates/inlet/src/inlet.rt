@@ -113,25 +113,25 @@ impl Inlet {
         if self.is_behind(index) {
             return Ok(Batch::Broken);
         }
-        let mut draft = self.draft(alloc);
+        let mut draft = self.draft(alloc, items.len())?;
         let Some(taken) = draft.fold(alloc, items)? else {
             return Ok(Batch::Broken);
         };
         Ok(Batch::Next(draft, taken))
     }
 
-    /// What the next batch adds, before its first item is read.
-    fn draft(&self, alloc: Global) -> Draft
-        ensures { IsEmpty self.now result }
+    /// What the next batch adds, before its first item is read, with room for so many stable tuples.
+    fn draft(&self, alloc: Global, room: usize) -> Result<Draft, NoMemory>
+        ensures { IfOk result (IsEmpty self.now) }
     {
-        Draft {
+        Ok(Draft {
             first: self.count,
-            stable: Vec::new(alloc),
+            stable: Vec::with_capacity(alloc, room)?,
             bound: self.bound,
             held: !self.tentative.is_empty(),
             tentative: Vec::new(alloc),
             soft: self.soft,
-        }
+        })
     }
 
     /// Holds what the next batch adds. Want of memory changes nothing.
