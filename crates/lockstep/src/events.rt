@@ -8,6 +8,7 @@ ghost use Rattle.world_model.specs.Schedules.{mill_events, deliveries_of, phase_
 ghost use Rattle.world_core.specs.Runs.{world_of};
 
 use crate::deliveries::{deliveries, marks};
+use dpc_model::actors::narrow;
 use dpc_model::faults::NoMemory;
 use dpc_model::messages::Event;
 use dpc_model::plans::{FragSpec, Plan};
@@ -37,7 +38,7 @@ fn actor_count(plan: &Plan) -> Result<u32, NoMemory>
     let actors = senders
         .checked_add(plan.clients.len() as u64)
         .ok_or(NoMemory)?;
-    u32::try_from(actors).map_err(|_| NoMemory)
+    narrow(actors)
 }
 
 /// An event, so many times.
