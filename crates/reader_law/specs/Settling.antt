@@ -1,15 +1,12 @@
--- When a live run settles: the premise that Settles lacks, and the statement with it.
-use Rattle.std.specs.Prelude.{◌≡◌, ℕ, ◌+◌, ◌^◌, ◌≤◌, IsTrue, List, All, Some, slice_get}
+-- What a script is to have for its live runs to settle.
+use Rattle.std.specs.Prelude.{◌≡◌, ℕ, ◌+◌, ◌^◌, ◌≤◌, All, Some, slice_get}
 use Rattle.dpc_model.specs.Streams.{IsOrdered}
 use Rattle.dpc_model.specs.Actors.{role_of, inputs_of}
-use Rattle.dpc_model.specs.declared.messages.Event.{Event}
 use Rattle.dpc_model.specs.declared.plans.FragSpec.{FragSpec}
 use Rattle.dpc_model.specs.declared.plans.StreamRef.{StreamRef}
 use Rattle.dpc_model.specs.declared.scripts.Phase.{Phase}
 use Rattle.dpc_model.specs.declared.scripts.Script.{Script}
-use Rattle.world_model.specs.Schedules.{is_live, last_clock, quiet_limit}
-use Rattle.world_model.specs.Steady.{IsSteady, OpensWell}
-use Rattle.world_model.specs.Worlds.{run, all_settled}
+use Rattle.world_model.specs.Schedules.{last_clock, quiet_limit}
 use Rattle.world_safety.specs.Plans.{IsCheckedPlan}
 
 -- what a script is to have for its runs to settle; every checked script has it
@@ -23,8 +20,3 @@ pub record CanSettle (script : Script) : Type 0 where
   pub clocks : IsOrdered (λ (p : Phase). p.now) script.phases
   pub low : All (λ (p : Phase). p.now ≤ 10 ^ 12) script.phases
   pub quiet : last_clock script + quiet_limit script.plan ≤ 2 ^ 40
-
--- every client of such a whole run is settled
-abbrev pub SettlesWhereItCan : Script → List Event → Type 0
-SettlesWhereItCan script events =
-    CanSettle script → IsTrue script.settle → IsTrue (is_live script events) → OpensWell script events → IsSteady script events → IsTrue (all_settled (run script.plan events))

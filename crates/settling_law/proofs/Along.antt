@@ -149,11 +149,11 @@ module _ (script : Script) (events : List Event) (live : is_live_so_far script e
 
 -- ---- nobody recovers
 
-abbrev phase_after : ℕ → List Event → ℕ
+abbrev pub phase_after : ℕ → List Event → ℕ
 phase_after p [] = p
 phase_after p (e ∷ es) = phase_after (phase_at p e) es
 
-next-at : (script : Script) (x : Progress) (e : Event) → (next_progress script x e).phase ≡ phase_at x.phase e
+pub next-at : (script : Script) (x : Progress) (e : Event) → (next_progress script x e).phase ≡ phase_at x.phase e
 next-at script x (Phase p) = refl
 next-at script x (Emit s t) = refl
 next-at script x (Release s t) = refl
@@ -165,11 +165,11 @@ next-at script x (Deliver k) = refl
 next-at script x (Tick a now) = refl
 next-at script x (Mill a r) = refl
 
-phase-from : (script : Script) (x : Progress) (es : List Event) → (progress_from script x es).phase ≡ phase_after x.phase es
+pub phase-from : (script : Script) (x : Progress) (es : List Event) → (progress_from script x es).phase ≡ phase_after x.phase es
 phase-from script x [] = refl
 phase-from script x (e ∷ es) = phase-from script (next_progress script x e) es ∙ ap (λ (p : ℕ). phase_after p es) (next-at script x e)
 
-steady-at : (script : Script) (p : ℕ) (w : World) (done rest : List Event) (e : Event) → SteadyFrom script p w (done ++ e ∷ rest) →
+pub steady-at : (script : Script) (p : ℕ) (w : World) (done rest : List Event) (e : Event) → SteadyFrom script p w (done ++ e ∷ rest) →
     length script.phases + patience < phase_at (phase_after p done) e → NoneRecovers (happens (run_from w done) e).nodes × TickIsHeard (happens (run_from w done) e) e
 steady-at script p w [] rest e h far = h.0 far
 steady-at script p w (d ∷ done) rest e h far = steady-at script (phase_at p d) (happens w d) done rest e h.1 far

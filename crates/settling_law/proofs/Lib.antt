@@ -26,6 +26,7 @@ pub mod Reopening
 pub mod Faults
 pub mod Stages
 pub mod Ports
+pub mod Travels
 pub mod Walking
 pub mod Sources
 pub mod Nodes

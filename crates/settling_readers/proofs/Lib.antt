@@ -10,6 +10,8 @@ pub mod Telling
 pub mod Serving
 pub mod Marks
 pub mod Watched
+pub mod WatchSteps
+pub mod Watches
 pub mod Reading
 pub mod Freshly
 pub mod Freshening
@@ -20,4 +22,11 @@ pub mod Arriving
 pub mod Staying
 pub mod Turns
 pub mod Leading
+pub mod Faulty
+pub mod Staged
+pub mod Readers
+pub mod Beats
+pub mod Watching
+pub mod Calming
+pub mod Heard
 pub mod Laws

@@ -21,9 +21,9 @@ use Rattle.dpc_model.specs.declared.scripts.Script.{Script}
 use Rattle.node_model.specs.Mails.{Plain}
 use Rattle.node_model.specs.Nodes.{PlainNode, own_readers}
 use Rattle.world_model.specs.Worlds.{World, Envelope, home_of, slot_of, run}
-use Rattle.world_model.specs.Steady.{NoneRecovers}
+use Rattle.world_model.specs.Steady.{NoneRecovers, patience, IsSteady, OpensWell}
 use Rattle.world_model.specs.Safe.{HoldsOf}
-use Rattle.world_model.specs.Schedules.{Progress, may_follow, is_live_so_far}
+use Rattle.world_model.specs.Schedules.{Progress, progress, may_follow, is_live_so_far}
 use Rattle.world_safety.specs.Plans.{IsCheckedPlan}
 use Rattle.world_safety.proofs.Tests.{eq-test}
 use Rattle.world_safety.proofs.Numbering.{actors-pass, all-nth}
@@ -32,12 +32,18 @@ use Rattle.world_safety.proofs.Emptied.{shape-of}
 use Rattle.world_safety.proofs.Law.{run-good}
 use Rattle.granting_law.specs.Taken.{port_of}
 use Rattle.schedule_law.specs.Journals.{Ticks}
+use Rattle.schedule_law.proofs.Journals.{prefix-live, progress-run}
+use Rattle.schedule_law.proofs.Timely.{ticks-so}
+use Rattle.reader_law.specs.Settling.{CanSettle}
 use Rattle.reader_law.specs.Newest.{IsPortOf, subs_of, node_subs, KnowsNoNewer}
 use Rattle.reader_law.proofs.Known.{none-newer, run-clients}
 use Rattle.reader_law.proofs.Read.{reached-port}
 use Rattle.reader_law.proofs.Steps.{port-chosen}
 use Rattle.settling_law.specs.Finished.{IsFinished}
+use Rattle.settling_law.proofs.Along.{good-along}
 use Rattle.settling_law.proofs.Opening.{IsAllUp}
+use Rattle.settling_law.proofs.Ports.{port-there, clocked-of}
+use Rattle.settling_law.proofs.Walking.{may-of}
 use Rattle.settling_law.proofs.Splitting.{IsQuietAt}
 use Rattle.settling_law.proofs.Seen.{get-inside}
 use Rattle.settling_readers.proofs.Answered.{answered-once}
@@ -88,7 +94,7 @@ pub record Stand (plan : Plan) (x p f k : ℕ) (w : World) : Type 0 where
       link_of (nth no_session n.subs k) ≡ Some (q.inlet.sess, m) → m ≤ q.inlet.next → (q.inlet.held.bound ≡ w.plan.end) × (is_sure q.inlet.held ≡ true)
   pub holds : (q : Port) → port_of w x p ≡ Some q → HoldsOf w.plan (Frag f) q.inlet.held
   -- the port knows of each replica
-  pub watched : (q : Port) → port_of w x p ≡ Some q → q.chosen < length q.watches
+  pub watched : (q : Port) → port_of w x p ≡ Some q → (q.chosen < length q.watches) × (length q.watches ≡ replicas_in w.plan f)
 
 -- a good state, as the port sees it: past the last recovery, all replicas have finished, and the port has heard so of each
 pub record IsSeen (script : Script) (x p f k : ℕ) (z : Progress) : Type 0 where
@@ -144,6 +150,29 @@ stand-of script events done rest x p f k checked live is line up calm finished =
       holds = subst (λ (z : Plan). (q : Port) → port_of w x p ≡ Some q → HoldsOf z (Frag f) q.inlet.held) same (λ q there. run-holds plan done x p (Frag f) q checked line.port there);
       watched = λ q there. port-watched w (1 + length done) x p (Frag f) g.fine (run-clients plan done ∙ ap (λ (z : Plan). length z.clients) same) (subst (λ (z : Plan). IsPortOf z x p (Frag f)) same line.port) q there;
     }
+
+-- ---- at each point of a live run at which all replicas have finished
+
+module _ (script : Script) (events done rest : List Event) (x p f k : ℕ) (can : CanSettle script) (line : IsReader script.plan x p f k) (live : is_live_so_far script events ≡ true) (well : OpensWell script events) (steady : IsSteady script events)
+    (is : events ≡ done ++ rest) (past : length script.phases + patience < (progress script done).phase)
+    (finished : (a r : ℕ) (n : PlainNode) → role_of script.plan a ≡ IsNode f r → (slot_of (run script.plan done) a).node ≡ Some n → IsFinished (home_of script.plan (f, r)) n) where
+  pub stand-at : Stand script.plan x p f k (progress script done).world
+  stand-at =
+      let good = good-along script events live well steady done rest is past in
+      let world = progress-run script done in
+      subst (λ (v : World). Stand script.plan x p f k v) (sym world)
+      (stand-of script events done rest x p f k can.plan live is line (subst IsAllUp world good.standing.up) (subst (λ (v : World). NoneRecovers v.nodes) world good.calm) finished)
+
+  pub port-at : (q : Port) × (port_of (progress script done).world x p ≡ Some q)
+  port-at = let st = stand-at in port-there (progress script done).world st.most x p (Frag f) st.fine st.up st.line.port.there
+
+  pub quiet-at : IsQuietAt script (progress script done)
+  quiet-at = (good-along script events live well steady done rest is past).standing.at
+
+  pub clocked-at : (a now : ℕ) → may_follow script (progress script done) (Tick a now) ≡ true → Ticks (progress script done).world a now
+  clocked-at a now may_it =
+      subst (λ (v : World). Ticks v a now) (sym (progress-run script done))
+      (ticks-so script done a now (clocked-of script can) (prefix-live script done rest (subst (λ (es : List Event). is_live_so_far script es ≡ true) is live)) (may-of script done (Tick a now) may_it))
 
 -- ---- no session is newer than the port's
 

@@ -71,7 +71,7 @@ module _ (script : Script) (x p f k : ℕ) where
       AreHeard (before_choice q).watches × ((before_choice q).chosen < length (marks_of (before_choice q).watches))
   heard-then z e may q r there now is =
       let heard = subst (λ (ws : List Watch). AreHeard ws) (ap (λ (v : Port). v.watches) is) (may.next.heard r now) in
-      let watched = may.here.stand.watched q there in
+      let watched = (may.here.stand.watched q there).0 in
       let many = length-map (before_choice q).watches (λ (w : Watch). w.truncated) in
       let one = length-map (map (after_count (length q.inlet.held.stable)) q.watches) after_tick in
       let two = length-map q.watches (after_count (length q.inlet.held.stable)) in

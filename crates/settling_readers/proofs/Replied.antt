@@ -69,7 +69,7 @@ module _ (script : Script) (x p f k : ℕ) where
   can-here z n g seen there = sym (ap (λ (o : Option Envelope). may_come z.world o) there) ∙ comes-here z n g seen there
 
   -- the replica that was asked, as a node
-  asked-node : (z : Progress) → IsSeen script x p f k z → (c : ℕ) → c < replicas_in script.plan f → (r : ℕ) × (n : PlainNode) × (role_of z.world.plan (replica_at script.plan f c) ≡ IsNode f r) × ((slot_of z.world (replica_at script.plan f c)).node ≡ Some n)
+  pub asked-node : (z : Progress) → IsSeen script x p f k z → (c : ℕ) → c < replicas_in script.plan f → (r : ℕ) × (n : PlainNode) × (role_of z.world.plan (replica_at script.plan f c) ≡ IsNode f r) × ((slot_of z.world (replica_at script.plan f c)).node ≡ Some n)
   asked-node z seen c low =
       let st = seen.stand in
       let low_w : c < replicas_in z.world.plan f = subst (λ (pl : Plan). c < replicas_in pl f) (sym st.of_plan) low in

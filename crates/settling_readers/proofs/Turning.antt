@@ -45,7 +45,7 @@ module _ (script : Script) (x p f k : ℕ) where
 
   pub marks-low : (t : ℕ) (u : Sess) (h : Reader) (c : ℕ) (ms : List Mark) (z : Progress) → IsSeen script x p f k z → IsFresh script x p f t u h c ms z → c < length ms
   marks-low t u h c ms z seen fresh =
-      let watched = seen.stand.watched fresh.port fresh.there in
+      let watched = (seen.stand.watched fresh.port fresh.there).0 in
       let many = length-map fresh.port.watches (λ (w : Watch). w.truncated) in
       let same = ap {B = ℕ} (λ (xs : List Mark). length xs) fresh.marks in
       let chosen = fresh.chosen in

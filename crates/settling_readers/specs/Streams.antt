@@ -1,5 +1,5 @@
 -- Readers that have a whole stream.
-use Rattle.std.specs.Prelude.{◌≡◌, ℕ, ◌<◌, ◌≤◌, false, IsTrue, List, ◌++◌, length, Some}
+use Rattle.std.specs.Prelude.{◌≡◌, ℕ, ◌+◌, ◌*◌, ◌<◌, ◌≤◌, false, IsTrue, List, ◌++◌, length, Some}
 use Rattle.dpc_model.specs.Lists.{nth}
 use Rattle.dpc_model.specs.Fragments.{ideal}
 use Rattle.dpc_model.specs.Reading.{Reader, is_sure}
@@ -12,13 +12,16 @@ use Rattle.dpc_model.specs.declared.plans.Plan.{Plan}
 use Rattle.dpc_model.specs.declared.plans.StreamRef.{StreamRef}
 use Rattle.dpc_model.specs.declared.plans.StreamRef.TheVariants.{Frag}
 use Rattle.dpc_model.specs.declared.scripts.Script.{Script}
-use Rattle.node_model.specs.Nodes.{PlainNode}
+use Rattle.node_model.specs.Nodes.{PlainNode, no_fragment}
 use Rattle.world_model.specs.Worlds.{World, home_of, slot_of, run}
 use Rattle.world_model.specs.Schedules.{is_live}
+use Rattle.world_model.specs.Steady.{patience, IsSteady, OpensWell}
 use Rattle.granting_law.specs.Taken.{port_of}
+use Rattle.schedule_law.specs.Journals.{phases_in}
 use Rattle.reader_law.specs.Newest.{IsPortOf}
 use Rattle.reader_law.specs.Settling.{CanSettle}
 use Rattle.settling_law.specs.Finished.{IsFinished}
+use Rattle.settling_law.specs.Entered.{IsReplicaOf}
 
 -- a reader has the whole failure-free stream up to the end, and nothing that may be corrected
 pub record HasStream (plan : Plan) (s : StreamRef) (r : Reader) : Type 0 where
@@ -44,3 +47,27 @@ abbrev pub TakersHaveAll : Script → List Event → Type 0
 TakersHaveAll script events =
     CanSettle script → IsTrue (is_live script events) → (done rest : List Event) → events ≡ done ++ rest → (x p f r : ℕ) (q : Port) (n : PlainNode) → IsPortOf script.plan x p (Frag f) →
     TookAllOf script.plan (run script.plan done) x p f q r n → IsFinished (home_of script.plan (f, r)) n → HasStream script.plan (Frag f) q.inlet.held
+
+-- ---- readers of a fragment all of whose replicas have finished
+
+-- each replica that is up has finished
+abbrev pub AreFinished : Plan → World → ℕ → Type 0
+AreFinished plan w f = (a r : ℕ) (n : PlainNode) → IsReplicaOf plan w f a r n → IsFinished (home_of plan (f, r)) n
+
+pub record PortHasStream (plan : Plan) (w : World) (x p : ℕ) (s : StreamRef) : Type 0 where
+  pub port : Port
+  pub there : port_of w x p ≡ Some port
+  pub has : HasStream plan s port.inlet.held
+
+-- so many phases are enough for a reader of m replicas
+abbrev pub serving_phases : ℕ → ℕ
+serving_phases m = 3 * m + 12
+
+-- where all replicas of a fragment have finished from some point on, past the last recovery, each port that reads it has its whole stream 3R + 12 phases later
+abbrev pub ReadersHaveStreams : Script → List Event → Type 0
+ReadersHaveStreams script events =
+    CanSettle script → IsTrue (is_live script events) → OpensWell script events → IsSteady script events →
+    (before mid rest : List Event) (f : ℕ) → events ≡ before ++ (mid ++ rest) → length script.phases + patience < phases_in before →
+    ((done more : List Event) → events ≡ done ++ more → length before ≤ length done → AreFinished script.plan (run script.plan done) f) →
+    phases_in before + serving_phases (nth no_fragment script.plan.frags f).replicas ≤ phases_in (before ++ mid) →
+    (x p : ℕ) → IsPortOf script.plan x p (Frag f) → PortHasStream script.plan (run script.plan (before ++ mid)) x p (Frag f)

@@ -1,5 +1,5 @@
 //! What the readers of a fragment come to, all of whose replicas have finished: sessions are asked for once and answered in one
-//! incarnation, and who took all batches of a finished replica has the whole stream.
+//! incarnation, who took all batches of a finished replica has the whole stream, and every reader comes to that.
 #![tactic(auto)]
 
 ghost use Rattle.std.specs.Prelude.{List};
@@ -8,7 +8,7 @@ ghost use Rattle.dpc_model.specs.declared.plans.Plan.{Plan};
 ghost use Rattle.dpc_model.specs.declared.scripts.Script.{Script};
 ghost use Rattle.world_safety.specs.Plans.{IsCheckedPlan};
 ghost use Rattle.settling_readers.specs.Asked.{AreAskedOnce, AreAnsweredOnce};
-ghost use Rattle.settling_readers.specs.Streams.{TakersHaveAll};
+ghost use Rattle.settling_readers.specs.Streams.{TakersHaveAll, ReadersHaveStreams};
 
 /// In a run the senders of a stream are asked for each session of its only port by one envelope.
 pub fn sessions_are_asked_for_once()
@@ -25,4 +25,10 @@ pub fn sessions_are_answered_in_one_incarnation()
 /// and nothing that may be corrected.
 pub fn takers_of_a_finished_replica_have_the_stream()
     ensures { (script : Script) (events : List Event) → TakersHaveAll script events }
+{}
+
+/// Past the last recovery, where all replicas of a fragment have finished from some point on, each port that reads the fragment, of a
+/// node or a client, has its whole failure-free stream 3R + 12 phases later, and nothing that may be corrected, whatever was lost before.
+pub fn readers_of_finished_fragments_have_the_stream()
+    ensures { (script : Script) (events : List Event) → ReadersHaveStreams script events }
 {}
