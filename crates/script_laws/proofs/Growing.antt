@@ -130,7 +130,7 @@ last_kept d key.Settle ws last h = h
 late : (d : Draft) → d.begun ≡ true → d.begun ≡ false → ⊥
 late d h k = not_both d.begun h k
 
-early_kept : (d : Draft) (s : Statement) → IsPlaced d s → (d.begun ≡ false → IsEarly d) → (and_then d s).begun ≡ false → IsEarly (and_then d s)
+pub early_kept : (d : Draft) (s : Statement) → IsPlaced d s → (d.begun ≡ false → IsEarly d) → (and_then d s).begun ≡ false → IsEarly (and_then d s)
 early_kept d (HeaderLine place n) p e yet = let k = e yet in record { begun = yet; phases = k.phases; directives = k.directives; settle = k.settle }
 early_kept d (SourceLine name columns) p e yet = let k = e yet in record { begun = yet; phases = k.phases; directives = k.directives; settle = k.settle }
 early_kept d (LogLine source time vals) p e yet = let k = e yet in record { begun = yet; phases = k.phases; directives = k.directives; settle = k.settle }
@@ -160,7 +160,7 @@ flag_alone : (ws : List Word) → Fills (must (Range 0 1) ∷ []) ws → number_
 flag_alone [] h = absurd cc
 flag_alone (w ∷ ws) h = (between 0 1 (number w) (not-false (is_between 0 1 (number w)) h.0.range)).1
 
-flag_kept : (d : Draft) (k : Keyword) (ws : List Word) → Fills (places_of d k) ws → is_its_part d k ≡ true → IsFlag d.header → IsFlag (and_then d (statement_of k ws)).header
+pub flag_kept : (d : Draft) (k : Keyword) (ws : List Word) → Fills (places_of d k) ws → is_its_part d k ≡ true → IsFlag d.header → IsFlag (and_then d (statement_of k ws)).header
 flag_kept d (key.Header place) ws fill part h =
     let here : place ≡ length d.header = eqb-true place (length d.header) part in
     flag-push d.header (number_at ws 0) h (λ four. flag_alone ws (subst (λ n. Fills (places_of d (key.Header n)) ws) (here ∙ four) fill))
@@ -274,7 +274,7 @@ module _ (last : Word) (d : Draft) where
   begin_line_grows : IsUnderWay last d → declares d ≡ true → Grows d BeginLine
   begin_line_grows u p = subst (λ e. Grows e BeginLine) (sym (as_declared d (early_of u p))) (begin_grows d.header d.sources d.frags d.clients)
 
-  line_grows : (k : Keyword) (ws : List Word) → IsLine last d k ws → (k ≡ key.Log → word ws 0 ≡ last) → Grows d (statement_of k ws)
+  pub line_grows : (k : Keyword) (ws : List Word) → IsLine last d k ws → (k ≡ key.Log → word ws 0 ≡ last) → Grows d (statement_of k ws)
   line_grows (key.Header place) ws l is = header_line_grows place _ l.state l.placed.0 l.part
   line_grows key.Source ws l is = source_line_grows _ _ l.state l.placed
   line_grows key.Log ws l is = log_line_grows _ _ _ l.state l.placed l.fine (is refl)

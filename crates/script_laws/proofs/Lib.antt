@@ -25,3 +25,9 @@ pub mod RunSaid
 pub mod Growing
 pub mod Ending
 pub mod Reread
+pub mod SourcesPass
+pub mod Retold
+pub mod WordRanges
+pub mod LineRanges
+pub mod RangesKept
+pub mod ReadChecked

@@ -42,7 +42,7 @@ record IsSaid (last : Word) (d e : Draft) (words : List Word) (lines : List (Lis
   state : IsUnderWay next (and_then d said)
 
 -- the end is low where it is known
-low_end : (last : Word) (d : Draft) → IsUnderWay last d → HasLowEnd d
+pub low_end : (last : Word) (d : Draft) → IsUnderWay last d → HasLowEnd d
 low_end last d u whole =
     let numbers : HasNumbers (nth 1 d.header 1) (end_of d) = numbers_of (is_wide d) d.header _ whole u.fitted.form.parts.header in
     numbers.end.1

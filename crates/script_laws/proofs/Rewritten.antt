@@ -26,7 +26,7 @@ some_column : (w : Word) (o : Option ℕ) → column_of w ≡ o → is_some o �
 some_column w None e h = absurd cc
 some_column w (Some c) e h = column_back w c e
 
-kept_column : (w : Word) → Keeps Column w → IsColumn w (unwrap_or (column_of w) 0)
+pub kept_column : (w : Word) → Keeps Column w → IsColumn w (unwrap_or (column_of w) 0)
 kept_column w k = some_column w (column_of w) refl (not-false (is_some (column_of w)) k.sorted)
 
 group_or_none : (w : Word) (o : Option ℕ) → column_of w ≡ o → (bytes_eq w (codes "-") || is_some o) ≡ true → group_word o ≡ w

@@ -176,6 +176,7 @@ expression_back ws h =
 
 -- as many as their number says
 pub record IsCounted (w : Word) (ws : List Word) : Type 0 where
+  pub many : length (formulas ws) ≡ number w
   pub count : decimal (length (formulas ws)) ≡ w
   pub words : flat_map formula_words (formulas ws) ≡ ws
 
@@ -188,11 +189,12 @@ counted_words w ws numeral k h =
     let count = all.count in
     let less : min (number w) (length ws + 1) ≤ length ws = omega (arith, few, size, count) in
     let same : length (formulas ws) ≡ number w = omega (arith, count, less) in
-    record { count = ap decimal same ∙ sym (numeral_is w numeral (omega (arith, most))); words = all.words }
+    record { many = same; count = ap decimal same ∙ sym (numeral_is w numeral (omega (arith, most))); words = all.words }
+
+-- that many expressions
+pub count_places : (w : Word) (ws : List Word) → Keeps Count w → opened Count w ws ++ [] ≡ replicate (min (number w) (length ws + 1)) (must Expression)
+count_places w ws k =
+    append-nil (opened Count w ws) ∙ ap (λ t. if t then replicate (min (number w) (length ws + 1)) (must Expression) else map (λ _. may Anything) ws) (not-false (is_numeral w) k.number)
 
 pub count_back : (w : Word) (ws : List Word) → Keeps Count w → Fills (opened Count w ws ++ []) ws → IsCounted w ws
-count_back w ws k h =
-    let numeral : is_numeral w ≡ true = not-false (is_numeral w) k.number in
-    let places : opened Count w ws ++ [] ≡ replicate (min (number w) (length ws + 1)) (must Expression) =
-    append-nil (opened Count w ws) ∙ ap (λ t. if t then replicate (min (number w) (length ws + 1)) (must Expression) else map (λ _. may Anything) ws) numeral in
-    counted_words w ws numeral k (subst (λ p. Fills p ws) places h)
+count_back w ws k h = counted_words w ws (not-false (is_numeral w) k.number) k (subst (λ p. Fills p ws) (count_places w ws k) h)

@@ -1,7 +1,7 @@
-//! What is printed of a script is canonical, and is read or refused as that script.
+//! What is printed of a script is canonical, and is read or refused as that script. What is read is checked.
 #![tactic(auto)]
 
-ghost use Rattle.script_rules.specs.Laws.{PrintsCanonical, ReadsBack, RefusesAsChecked, PrintsBack};
+ghost use Rattle.script_rules.specs.Laws.{PrintsCanonical, ReadsBack, RefusesAsChecked, PrintsBack, ReadsChecked};
 
 /// The text that is printed of a checked script is canonical: no line is skipped, single spaces, LF behind each line, and each
 /// source is followed by its log.
@@ -23,4 +23,9 @@ pub fn what_is_printed_is_refused_as_checked()
 /// And a canonical text is what is printed of the script that it is read as, byte by byte.
 pub fn a_canonical_text_is_what_is_printed()
     ensures { PrintsBack }
+{}
+
+/// What is read is checked: its names, numbers and counts are in their ranges, and `check` finds no fault in it.
+pub fn what_is_read_is_checked()
+    ensures { ReadsChecked }
 {}

@@ -168,7 +168,7 @@ unticked-on script x (Deliver j) a q d h = h
 unticked-on script x (Tick b now) a q d h = rw d h
 unticked-on script x (Mill b r) a q d h = h
 
-all-range : (q : ℕ → Bool) (b n a : ℕ) → list_all q (range_with_len b n) ≡ true → b ≤ a → a < b + n → q a ≡ true
+pub all-range : (q : ℕ → Bool) (b n a : ℕ) → list_all q (range_with_len b n) ≡ true → b ≤ a → a < b + n → q a ≡ true
 all-range q b zero a h low high = absurd (omega (arith, low, high))
 all-range q b (suc n) a h low high =
     let p = both (q b) (list_all q (range_with_len (b + 1) n)) h in

@@ -43,6 +43,13 @@ use Rattle.settling_readers.proofs.Orderly.{EachGoes, each-next, each-opened}
 use Rattle.settling_readers.proofs.Reading.{replica_at, replicas_in, sends_it}
 use Rattle.settling_readers.proofs.Watching.{WatchGoes, IsWatching, WatchWas, takes-sends, watch-was}
 
+pub not-less : (a c : ℕ) → c ≤ a → nat_lt a c ≡ false
+not-less a c less = by-test (nat_lt a c) refl
+  where
+    by-test : (t : Bool) → nat_lt a c ≡ t → nat_lt a c ≡ false
+    by-test false e = e
+    by-test true e = let more = lt-of a c e in absurd (omega (arith, less, more))
+
 -- ---- envelopes from a number on
 
 -- each beat from this number on that a replica sent says that it is STABLE
@@ -273,13 +280,6 @@ module _ (script : Script) (x p f k : ℕ) where
         where
           some-watch : (a b : Watch) → ◌≡◌ {A = Option Watch} (Some a) (Some b) → a ≡ b
           some-watch a b d = cc
-
-          not-less : (a c : ℕ) → c ≤ a → nat_lt a c ≡ false
-          not-less a c less = by-test (nat_lt a c) refl
-            where
-              by-test : (t : Bool) → nat_lt a c ≡ t → nat_lt a c ≡ false
-              by-test false e = e
-              by-test true e = let more = lt-of a c e in absurd (omega (arith, less, more))
 
   pub told-kept : (K i : ℕ) → i < replicas_in script.plan f → Keeps script (IsWatching script x p f k) (λ z. Fresh script f K z × Told K i z)
   told-kept K i low z e may (fresh, inl calm) = (fresh-kept K z e may fresh, inl (calm-next K i z e may fresh calm))

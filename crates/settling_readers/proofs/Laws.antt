@@ -104,7 +104,7 @@ longer-then before done rest more same late =
     ]) refl
 
 -- what a port knows of a replica that is up is of no later incarnation
-known-below : (plan : Plan) (done : List Event) (x p f k i r : ℕ) (q : Port) (v : Watch) (n : PlainNode) → IsCheckedPlan plan → IsReader plan x p f k → port_of (run plan done) x p ≡ Some q → i < replicas_in plan f → role_of plan (replica_at plan f i) ≡ IsNode f r →
+pub known-below : (plan : Plan) (done : List Event) (x p f k i r : ℕ) (q : Port) (v : Watch) (n : PlainNode) → IsCheckedPlan plan → IsReader plan x p f k → port_of (run plan done) x p ≡ Some q → i < replicas_in plan f → role_of plan (replica_at plan f i) ≡ IsNode f r →
     (slot_of (run plan done) (replica_at plan f i)).node ≡ Some n → slice_get q.watches i ≡ Some v → v.inc ≤ n.grants.inc
 known-below plan done x p f k i r q v n checked line there low role up known =
     let a = replica_at plan f i in

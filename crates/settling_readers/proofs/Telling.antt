@@ -83,7 +83,7 @@ module _ (home : Home) where
       ]
 
   -- its beats
-  in-zip : (m : PlainNode) (readers : List ℕ) (subs : List Sub) (i : ℕ) → i < length readers → i < length subs → IsIn (mail (nth 0 readers i) (beat_of m (link_of (nth no_session subs i)))) (map (λ (x : ℕ × Sub). mail x.0 (beat_of m (link_of x.1))) (zip readers subs))
+  pub in-zip : (m : PlainNode) (readers : List ℕ) (subs : List Sub) (i : ℕ) → i < length readers → i < length subs → IsIn (mail (nth 0 readers i) (beat_of m (link_of (nth no_session subs i)))) (map (λ (x : ℕ × Sub). mail x.0 (beat_of m (link_of x.1))) (zip readers subs))
   in-zip m [] subs i l few = absurd (omega (arith, l))
   in-zip m (r ∷ readers) [] i l few = absurd (omega (arith, few))
   in-zip m (r ∷ readers) (sub ∷ subs) zero l few = inl refl

@@ -224,7 +224,7 @@ tick-heard w x p h q there several = none-third q.watches (by-role (role_of w.pl
       | false ↦ λ d. cc
     ]) e
 
-ticked-on : (script : Script) (z : Progress) (e : Event) (x : ℕ) → is_quiet e ≡ true → is_tick x e ≡ false → has (next_progress script z e).ticked x ≡ has z.ticked x
+pub ticked-on : (script : Script) (z : Progress) (e : Event) (x : ℕ) → is_quiet e ≡ true → is_tick x e ≡ false → has (next_progress script z e).ticked x ≡ has z.ticked x
 ticked-on script z (Phase n) x quiet other = cc
 ticked-on script z (Emit s t) x quiet other = cc
 ticked-on script z (Release s t) x quiet other = cc

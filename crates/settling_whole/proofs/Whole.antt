@@ -39,6 +39,14 @@ use Rattle.reader_law.proofs.Known.{run-clients}
 use Rattle.settling_law.specs.Read.{reading_phases}
 use Rattle.settling_readers.specs.Streams.{ReadersHaveStreams}
 use Rattle.settling_scripts.proofs.Can.{can_settle}
+use Rattle.std.specs.Prelude.{IsTrue}
+use Rattle.world_model.specs.Schedules.{lock_of}
+use Rattle.schedule_law.proofs.Lockstep.{lock-live}
+use Rattle.healing_law.specs.Healing.{heals}
+use Rattle.healing_law.proofs.Opening.{opens-well}
+use Rattle.lock_law.specs.Calm.{IsCalm}
+use Rattle.lock_law.proofs.Heard.{lock-steady}
+use Rattle.settling_readers.proofs.Laws.{readers-law}
 use Rattle.settling_whole.proofs.Fragments.{starts, IsBelow, HasAll, has-here, AreFew, port-has, are-served}
 
 -- ---- how many replicas there are
@@ -137,3 +145,9 @@ settles script events checked serves on lives well steady =
       | inl done ↦ done
       | inr full ↦ all-done script events checked serves lives well steady full
     ]
+
+-- so it is of the one-thread journal of a script that heals, where recoveries end
+pub healed-settles : (script : Script) → IsChecked script → IsTrue script.settle → heals script ≡ true → IsCalm script (lock_of script) → IsTrue (all_settled (run script.plan (lock_of script)))
+healed-settles script checked on healed calm =
+    let well = opens-well script (lock_of script) healed (lock-live script) in
+    settles script (lock_of script) checked (readers-law script (lock_of script)) on (lock-live script) well (lock-steady script (can_settle script checked) well calm)

@@ -1,13 +1,15 @@
 //! A live run of a checked script that ends with `settle` settles: every client has its whole stream, and nothing tentative.
 #![tactic(auto)]
 
-ghost use Rattle.std.specs.Prelude.{IsTrue, List};
+ghost use Rattle.std.specs.Prelude.{◌≡◌, true, IsTrue, List};
 ghost use Rattle.dpc_model.specs.declared.messages.Event.{Event};
 ghost use Rattle.dpc_model.specs.declared.scripts.Script.{Script};
 ghost use Rattle.script_rules.specs.Checking.{IsChecked};
 ghost use Rattle.world_model.specs.Worlds.{run, all_settled};
 ghost use Rattle.world_model.specs.Schedules.{lock_of};
-ghost use Rattle.world_model.specs.Steady.{IsSteady, OpensWell, Settles};
+ghost use Rattle.world_model.specs.Steady.{Settles};
+ghost use Rattle.healing_law.specs.Healing.{heals};
+ghost use Rattle.lock_law.specs.Calm.{IsCalm};
 
 /// Whatever was lost, cut, crashed or restarted before: where the quiet phases open with every log released, every link up and every
 /// node up, no node recovers past the first 38 of them, and no reader misses three beats in a row of one of several replicas, every
@@ -16,7 +18,9 @@ pub fn checked_scripts_settle()
     ensures { (script : Script) (events : List Event) → IsChecked script → Settles script events }
 {}
 
-/// So it is of the one-thread journal, which the program runs: where it opens its quiet phases well and is steady, the program answers 0.
-pub fn the_lock_settles()
-    ensures { (script : Script) → IsChecked script → IsTrue script.settle → OpensWell script (lock_of script) → IsSteady script (lock_of script) → IsTrue (all_settled (run script.plan (lock_of script))) }
+/// So it is of the one-thread journal, which the program runs. Its readers hear every beat, so all that is asked is that the script heals
+/// (what its directives cut, crash and hold back later ones heal, restart and release) and that past the first 38 quiet phases no node
+/// recovers: then the program answers 0.
+pub fn a_script_that_heals_settles()
+    ensures { (script : Script) → IsChecked script → IsTrue script.settle → heals script ≡ true → IsCalm script (lock_of script) → IsTrue (all_settled (run script.plan (lock_of script))) }
 {}
