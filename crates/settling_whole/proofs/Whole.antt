@@ -46,6 +46,8 @@ use Rattle.healing_law.specs.Healing.{heals}
 use Rattle.healing_law.proofs.Opening.{opens-well}
 use Rattle.lock_law.specs.Calm.{IsCalm}
 use Rattle.lock_law.proofs.Heard.{lock-steady}
+use Rattle.calm_law.specs.Crashes.{has_no_crash}
+use Rattle.calm_law.proofs.Scripts.{script-calm}
 use Rattle.settling_readers.proofs.Laws.{readers-law}
 use Rattle.settling_whole.proofs.Fragments.{starts, IsBelow, HasAll, has-here, AreFew, port-has, are-served}
 
@@ -151,3 +153,6 @@ pub healed-settles : (script : Script) → IsChecked script → IsTrue script.se
 healed-settles script checked on healed calm =
     let well = opens-well script (lock_of script) healed (lock-live script) in
     settles script (lock_of script) checked (readers-law script (lock_of script)) on (lock-live script) well (lock-steady script (can_settle script checked) well calm)
+
+pub crashless-settles : (script : Script) → IsChecked script → IsTrue script.settle → heals script ≡ true → has_no_crash script ≡ true → IsTrue (all_settled (run script.plan (lock_of script)))
+crashless-settles script checked on healed none = healed-settles script checked on healed (script-calm script (lock_of script) (can_settle script checked).plan none (lock-live script))

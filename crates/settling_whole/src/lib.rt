@@ -10,6 +10,7 @@ ghost use Rattle.world_model.specs.Schedules.{lock_of};
 ghost use Rattle.world_model.specs.Steady.{Settles};
 ghost use Rattle.healing_law.specs.Healing.{heals};
 ghost use Rattle.lock_law.specs.Calm.{IsCalm};
+ghost use Rattle.calm_law.specs.Crashes.{has_no_crash};
 
 /// Whatever was lost, cut, crashed or restarted before: where the quiet phases open with every log released, every link up and every
 /// node up, no node recovers past the first 38 of them, and no reader misses three beats in a row of one of several replicas, every
@@ -23,4 +24,10 @@ pub fn checked_scripts_settle()
 /// recovers: then the program answers 0.
 pub fn a_script_that_heals_settles()
     ensures { (script : Script) → IsChecked script → IsTrue script.settle → heals script ≡ true → IsCalm script (lock_of script) → IsTrue (all_settled (run script.plan (lock_of script))) }
+{}
+
+/// Where no node is crashed at all, none recovers: so a script that cuts, loses and repeats, but crashes nobody, and mends what it breaks
+/// settles, and the program answers 0, whatever came between.
+pub fn a_script_that_crashes_nobody_settles()
+    ensures { (script : Script) → IsChecked script → IsTrue script.settle → heals script ≡ true → has_no_crash script ≡ true → IsTrue (all_settled (run script.plan (lock_of script))) }
 {}

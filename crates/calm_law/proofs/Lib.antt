@@ -1,0 +1,12 @@
+pub mod Whole
+pub mod Taking
+pub mod Ticking
+pub mod Refusing
+pub mod Doing
+pub mod Steps
+pub mod Levels
+pub mod Kept
+pub mod Twice
+pub mod Calmly
+pub mod Running
+pub mod Scripts
