@@ -1,12 +1,15 @@
 -- What holds of the run of a script that was read.
-use Rattle.std.proofs.Common.{◌≡◌, ◌⊎◌, inl, inr, ℕ, ◌+◌, List, length, Result, Ok, Err, IfOk, Bool, true, ap}
-use Rattle.std.specs.Prelude.{not}
+use Rattle.std.proofs.Common.{◌≡◌, ◌⊎◌, inl, inr, ℕ, ◌+◌, List, length, Result, Ok, Err, IfOk, Bool, true, false, refl, ap}
+use Rattle.std.specs.Prelude.{not, ◌&&◌, IsTrue}
 use Rattle.std.proofs.lemmas.Bool.{and_parts}
 use Rattle.dpc_model.specs.declared.messages.Event.{Event}
 use Rattle.dpc_model.specs.declared.plans.Plan.{Plan}
 use Rattle.dpc_model.specs.declared.scripts.Script.{Script}
 use Rattle.script_rules.specs.Reading.{reading, script_in}
+use Rattle.script_rules.specs.Checking.{IsChecked}
 use Rattle.script_rules.proofs.ReadForms.{reads_have_facts}
+use Rattle.script_laws.proofs.ReadChecked.{reads_checked}
+use Rattle.settling_whole.proofs.Whole.{healed-settles, crashless-settles}
 use Rattle.fit_law.specs.Fits.{CanRun}
 use Rattle.checked_runs.proofs.Plans.{can_run}
 use Rattle.world_safety.proofs.Law.{run-good, run-safe}
@@ -32,18 +35,26 @@ quiet-so : (b : Bool) (p : ℕ) (q : ℕ) → (b ≡ true) ⊎ (p ≡ q) → not
 quiet-so b p q (inl settled) open_still = absurd (cc)
 quiet-so b p q (inr all) open_still = all
 
-good-run : (s : Script) → CanRun s.plan → IsGoodRun s
-good-run s can =
+-- nobody is left open where, behind settle, all are settled
+none-open : (settle all : Bool) → (IsTrue settle → IsTrue all) → (settle && not all) ≡ false
+none-open false all h = refl
+none-open true true h = refl
+none-open true false h = let clash : false ≡ true = h refl in cc
+
+good-run : (s : Script) → CanRun s.plan → IsChecked s → IsGoodRun s
+good-run s can checked =
     record {
       safe = run-safe s.plan (lock_of s) can.checked;
       live = lock-live s;
       quiet = λ e.
           let both = and_parts s.settle (not (all_settled (run_of s))) e in
           quiet-so (all_settled (run_of s)) (phases_in (lock_of s)) (length s.phases + quiet_limit s.plan) ((live-ends s (lock_of s) (lock-live s)).1 both.0) both.1;
+      settles = λ healed none. none-open s.settle (all_settled (run_of s)) (λ on. crashless-settles s checked on healed none);
+      recovers = λ healed calm. none-open s.settle (all_settled (run_of s)) (λ on. healed-settles s checked on healed calm);
     }
 
 pub read-Holds : (what : Reading) (text : List ℕ) (s : Script) → reading text ≡ Ok s → Holds what s
-read-Holds (Run form) text s e = good-run s (read_can_run text s e)
+read-Holds (Run form) text s e = good-run s (read_can_run text s e) (reads_checked text s (ap script_in e))
 read-Holds Check text s e = tt
 read-Holds Print text s e = tt
 read-Holds Ideal text s e = tt

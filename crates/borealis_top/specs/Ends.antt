@@ -13,6 +13,9 @@ use Rattle.world_model.specs.Worlds.{World, Sums, run, all_settled}
 use Rattle.world_model.specs.Safe.{IsSafe}
 use Rattle.world_model.specs.Schedules.{lock_of, is_live, quiet_limit}
 use Rattle.schedule_law.specs.Journals.{phases_in}
+use Rattle.healing_law.specs.Healing.{heals}
+use Rattle.lock_law.specs.Calm.{IsCalm}
+use Rattle.calm_law.specs.Crashes.{has_no_crash}
 use Rattle.world_core.specs.Runs.{excess}
 use Rattle.report.specs.Text.{report_text, report_short, ideal_text}
 use Rattle.client_reports.specs.Json.{report_json}
@@ -69,6 +72,9 @@ pub record IsGoodRun (s : Script) : Type 0 where
   pub safe : IsSafe s.plan (lock_of s)
   pub live : is_live s (lock_of s) ≡ true
   pub quiet : leaves_open (Run Text) s ≡ true → phases_in (lock_of s) ≡ length s.phases + quiet_limit s.plan
+  -- where its directives mend what they break it leaves no client open, if it crashes no node or recoveries end
+  pub settles : heals s ≡ true → has_no_crash s ≡ true → leaves_open (Run Text) s ≡ false
+  pub recovers : heals s ≡ true → IsCalm s (lock_of s) → leaves_open (Run Text) s ≡ false
 
 -- what holds of a script whose answer is written
 abbrev pub Holds : Reading → Script → Type 0
