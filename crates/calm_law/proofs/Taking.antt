@@ -1,24 +1,20 @@
 -- What a packet makes of a port, where its node goes on: what it holds stays, or a batch of its session was taken from the replica that it reads.
-use Rattle.std.proofs.Common.{◌≡◌, ℕ, ◌≤◌, Bool, true, false, cond, not, ◌&&◌, ◌||◌, ◌==◌, nat_lt, List, [], ◌∷◌, map, length, refl, sym, ap, subst, ◌∙◌, Option, Some, None, slice_get, unwrap_or, ◌⊎◌, inl, inr}
+use Rattle.std.proofs.Common.{◌≡◌, ℕ, ◌≤◌, Bool, true, false, cond, not, ◌&&◌, ◌||◌, ◌==◌, nat_lt, List, map, length, refl, sym, ap, subst, ◌∙◌, Option, Some, None, slice_get, unwrap_or, ◌⊎◌, inl, inr}
 use Rattle.dpc_model.specs.Lists.{nth, changed}
 use Rattle.dpc_model.specs.Reading.{fold_items}
 use Rattle.dpc_model.specs.Inlets.{InletState, same_sess, AfterBatch, after_missing_batch, after_next_batch, take_batch, after_link}
-use Rattle.dpc_model.specs.Granting.{grants, with_promise, may_enter_by}
-use Rattle.dpc_model.specs.Actors.{replicas_of}
 use Rattle.dpc_model.specs.Ports.{Port, no_port, sender_at, without_ended_marks, on_beat, on_truncated, all_truncated}
 use Rattle.dpc_model.specs.declared.batches.Taken.TheVariants.{Old}
 use Rattle.dpc_model.specs.declared.tuples.Item.{Item}
 use Rattle.dpc_model.specs.declared.messages.Sess.{Sess}
 use Rattle.dpc_model.specs.declared.messages.Beat.{Beat}
-use Rattle.dpc_model.specs.declared.messages.Subscribe.{Subscribe}
 use Rattle.dpc_model.specs.declared.messages.Message.{Message}
 use Rattle.dpc_model.specs.declared.messages.Message.TheVariants as message
-use Rattle.dpc_model.specs.NodeStates.{is_up_failure}
-use Rattle.node_model.specs.Mails.{Packet, Plain, SnapFor, mail, Stepped}
+use Rattle.node_model.specs.Mails.{Packet, Plain, SnapFor}
 use Rattle.node_model.specs.Nodes.{Home, PlainNode, streams_of}
-use Rattle.node_model.specs.NodeSteps.{silent_step, replica_number, reader_place, with_port, enter_step, after_loss, after_adoption, after_taking, on_batch, on_subscribe, on_truncation, on_upstream_beat, on_peer_beat, on_ack, on_ask, on_grant, on_snap_ask, on_message, with_marks_ended, packet_step}
+use Rattle.node_model.specs.NodeSteps.{replica_number, reader_place, with_port, after_loss, after_adoption, after_taking, on_batch, on_subscribe, on_truncation, on_upstream_beat, on_peer_beat, on_ack, on_snap_ask, on_message, with_marks_ended, packet_step}
 use Rattle.world_safety.proofs.Tests.{eq-of}
-use Rattle.granting_law.proofs.Moves.{get-mapped, get-was, stamped-ports}
+use Rattle.granting_law.proofs.Moves.{get-mapped, get-was, stamped-ports, ack-ports, subscribe-ports, ask-ports, grant-ports, unless-ports}
 use Rattle.reader_law.proofs.Counting.{took-longer}
 use Rattle.calm_law.proofs.Whole.{IsHarmless, marked-session}
 
@@ -154,43 +150,16 @@ module _ (home : Home) (a : ℕ) (packet : Packet) where
       peer None m k = k
       peer (Some x) m k = k
 
-  ack-ports : (i count : ℕ) (o : Option ℕ) (n : PlainNode) → (on_ack home i count o n).ports ≡ n.ports
-  ack-ports i count None n = refl
-  ack-ports i count (Some k) n = refl
-
-  subscribe-ports : (asked : Subscribe) (o : Option ℕ) (n : PlainNode) → (on_subscribe home asked o n).after.ports ≡ n.ports
-  subscribe-ports asked None n = refl
-  subscribe-ports asked (Some k) n = refl
-
-  ask-ports : (i ask : ℕ) (o : Option ℕ) (n : PlainNode) → (on_ask home i ask o n).after.ports ≡ n.ports
-  ask-ports i ask None n = refl
-  ask-ports i ask (Some r) n =
-      elim (grants n.grants n.state r (i, ask)) as (λ b. (cond {A = Stepped PlainNode} b (record { after = record n { grants = with_promise n.grants r (i, ask) }; sends = mail (nth 0 (replicas_of home.plan home.frag) r) (message.Grant i ask) ∷ [] }) (silent_step n)).after.ports ≡ n.ports) [
-        | true ↦ refl
-        | false ↦ refl
-      ]
-
-  enter-ports : (n : PlainNode) → (enter_step home n).after.ports ≡ n.ports
-  unfolding enter_step
-  enter-ports n = refl
-
-  grant-ports : (i ask : ℕ) (n : PlainNode) → (on_grant home i ask n).after.ports ≡ n.ports
-  grant-ports i ask n = elim (is_up_failure n.state && may_enter_by n.grants (i, ask)) as (λ b. (cond {A = Stepped PlainNode} b (enter_step home n) (silent_step n)).after.ports ≡ n.ports) [ true ↦ enter-ports n | false ↦ refl ]
-
-  unless-ports : (b : Bool) (n : PlainNode) (s : Stepped PlainNode) → s.after.ports ≡ n.ports → (cond {A = Stepped PlainNode} b (silent_step n) s).after.ports ≡ n.ports
-  unless-ports true n s h = refl
-  unless-ports false n s h = h
-
   message-took : (m : Message) (n : PlainNode) → packet ≡ Plain m → IsHarmless home a (Plain m) n → Take n.ports (on_message home a m n).after.ports
   message-took (message.Batch u index items) n same harmless = batch-took u index items (sender_at home.plan (streams_of home) a) n refl same
   message-took (message.Truncated u base) n same harmless = truncation-took u base (sender_at home.plan (streams_of home) a) n (λ p r at. harmless u base p r refl at)
   message-took (message.Beat b) n same harmless = beat-took b (replica_number home a) (sender_at home.plan (streams_of home) a) n
-  message-took (message.Subscribe asked) n same harmless = all-still n.ports _ (unless-ports n.recovering n (on_subscribe home asked (reader_place home a) n) (subscribe-ports asked (reader_place home a) n))
+  message-took (message.Subscribe asked) n same harmless = all-still n.ports _ (unless-ports home n (on_subscribe home asked (reader_place home a) n) (subscribe-ports home asked (reader_place home a) n))
   message-took (message.Ack i count) n same harmless =
-      all-still n.ports _ (elim n.recovering as (λ b. (cond {A = PlainNode} b n (on_ack home i count (reader_place home a) n)).ports ≡ n.ports) [ true ↦ refl | false ↦ ack-ports i count (reader_place home a) n ])
-  message-took (message.Ask i ask) n same harmless = all-still n.ports _ (ask-ports i ask (replica_number home a) n)
-  message-took (message.Grant i ask) n same harmless = all-still n.ports _ (grant-ports i ask n)
-  message-took (message.SnapAsk i try) n same harmless = all-still n.ports _ (unless-ports n.recovering n (on_snap_ask home a i try n) refl)
+      all-still n.ports _ (elim n.recovering as (λ b. (cond {A = PlainNode} b n (on_ack home i count (reader_place home a) n)).ports ≡ n.ports) [ true ↦ refl | false ↦ ack-ports home i count (reader_place home a) n ])
+  message-took (message.Ask i ask) n same harmless = all-still n.ports _ (ask-ports home i ask (replica_number home a) n)
+  message-took (message.Grant i ask) n same harmless = all-still n.ports _ (grant-ports home i ask n)
+  message-took (message.SnapAsk i try) n same harmless = all-still n.ports _ (unless-ports home n (on_snap_ask home a i try n) refl)
 
   -- behind the marks that ended
   marked-took : (ps rs : List Port) → Take (map without_ended_marks ps) rs → Take ps rs

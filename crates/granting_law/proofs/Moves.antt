@@ -181,6 +181,22 @@ stamped-ports home (Used items) n = refl
 stamped-ports home Old n = refl
 stamped-ports home Broken n = refl
 
+-- what a replica serves and promises leaves its ports as they are
+pub ack-ports : (home : Home) (i count : ℕ) (o : Option ℕ) (n : PlainNode) → (on_ack home i count o n).ports ≡ n.ports
+ack-ports home i count None n = refl
+ack-ports home i count (Some k) n = refl
+
+pub subscribe-ports : (home : Home) (asked : Subscribe) (o : Option ℕ) (n : PlainNode) → (on_subscribe home asked o n).after.ports ≡ n.ports
+subscribe-ports home asked None n = refl
+subscribe-ports home asked (Some k) n = refl
+
+pub ask-ports : (home : Home) (i ask : ℕ) (o : Option ℕ) (n : PlainNode) → (on_ask home i ask o n).after.ports ≡ n.ports
+ask-ports home i ask None n = refl
+ask-ports home i ask (Some r) n = elim (grants n.grants n.state r (i, ask)) as (λ b. (cond {A = Stepped PlainNode} b (record { after = record n { grants = with_promise n.grants r (i, ask) }; sends = mail (nth 0 (replicas_of home.plan home.frag) r) (message.Grant i ask) ∷ [] }) (silent_step n)).after.ports ≡ n.ports) [
+  | true ↦ refl
+  | false ↦ refl
+]
+
 module _ (home : Home) (a : ℕ) (packet : Packet) where
   abbrev NodeMoves : PlainNode → PlainNode → Type 0
   NodeMoves n m = PortsMove (DeliversNext home a packet) n.ports m.ports
@@ -248,21 +264,6 @@ module _ (home : Home) (a : ℕ) (packet : Packet) where
   peer-ports b None n = refl
   peer-ports b (Some r) n = refl
 
-  ack-ports : (i count : ℕ) (o : Option ℕ) (n : PlainNode) → (on_ack home i count o n).ports ≡ n.ports
-  ack-ports i count None n = refl
-  ack-ports i count (Some k) n = refl
-
-  subscribe-ports : (asked : Subscribe) (o : Option ℕ) (n : PlainNode) → (on_subscribe home asked o n).after.ports ≡ n.ports
-  subscribe-ports asked None n = refl
-  subscribe-ports asked (Some k) n = refl
-
-  ask-ports : (i ask : ℕ) (o : Option ℕ) (n : PlainNode) → (on_ask home i ask o n).after.ports ≡ n.ports
-  ask-ports i ask None n = refl
-  ask-ports i ask (Some r) n = elim (grants n.grants n.state r (i, ask)) as (λ b. (cond {A = Stepped PlainNode} b (record { after = record n { grants = with_promise n.grants r (i, ask) }; sends = mail (nth 0 (replicas_of home.plan home.frag) r) (message.Grant i ask) ∷ [] }) (silent_step n)).after.ports ≡ n.ports) [
-    | true ↦ refl
-    | false ↦ refl
-  ]
-
   adopted-ports : (s : Snap) (n : PlainNode) → NodeMoves n (after_adoption home s n)
   unfolding after_adoption
   adopted-ports s n = among (s.cursor * home.plan.width) s.inputs n.ports
@@ -292,17 +293,17 @@ entered-ports : (home : Home) (n : PlainNode) → (enter_step home n).after.port
 unfolding enter_step
 entered-ports home n = refl
 
-grant-ports : (home : Home) (i ask : ℕ) (n : PlainNode) → (on_grant home i ask n).after.ports ≡ n.ports
+pub grant-ports : (home : Home) (i ask : ℕ) (n : PlainNode) → (on_grant home i ask n).after.ports ≡ n.ports
 grant-ports home i ask n = elim (is_up_failure n.state && may_enter_by n.grants (i, ask)) as (λ b. (cond {A = Stepped PlainNode} b (enter_step home n) (silent_step n)).after.ports ≡ n.ports) [ true ↦ entered-ports home n | false ↦ refl ]
 
-unless-ports : (home : Home) (n : PlainNode) (s : Stepped PlainNode) → s.after.ports ≡ n.ports → (cond {A = Stepped PlainNode} n.recovering (silent_step n) s).after.ports ≡ n.ports
+pub unless-ports : (home : Home) (n : PlainNode) (s : Stepped PlainNode) → s.after.ports ≡ n.ports → (cond {A = Stepped PlainNode} n.recovering (silent_step n) s).after.ports ≡ n.ports
 unless-ports home n s h = elim n.recovering as (λ b. (cond {A = Stepped PlainNode} b (silent_step n) s).after.ports ≡ n.ports) [ true ↦ refl | false ↦ h ]
 
 message-ports : (home : Home) (a : ℕ) (m : Message) (n : PlainNode) → PortsMove (DeliversNext home a (Plain m)) n.ports (on_message home a m n).after.ports
 message-ports home a (message.Batch u index items) n = batch-ports home a (Plain (message.Batch u index items)) u index items (sender_at home.plan (streams_of home) a) n refl refl
 message-ports home a (message.Subscribe asked) n =
     ports-stay (DeliversNext home a (Plain (message.Subscribe asked))) n.ports (on_message home a (message.Subscribe asked) n).after.ports
-    (unless-ports home n (on_subscribe home asked (reader_place home a) n) (subscribe-ports home a (Plain (message.Subscribe asked)) asked (reader_place home a) n))
+    (unless-ports home n (on_subscribe home asked (reader_place home a) n) (subscribe-ports home asked (reader_place home a) n))
 message-ports home a (message.Truncated u base) n = truncation-ports home a (Plain (message.Truncated u base)) u base (sender_at home.plan (streams_of home) a) n
 message-ports home a (message.Beat b) n =
     subst (λ (ps : List Port). PortsMove (DeliversNext home a (Plain (message.Beat b))) n.ports ps)
@@ -310,9 +311,9 @@ message-ports home a (message.Beat b) n =
     (upstream-ports home a (Plain (message.Beat b)) b (sender_at home.plan (streams_of home) a) n)
 message-ports home a (message.Ack i count) n =
     ports-stay (DeliversNext home a (Plain (message.Ack i count))) n.ports (on_message home a (message.Ack i count) n).after.ports
-    (elim n.recovering as (λ b. (cond b n (on_ack home i count (reader_place home a) n)).ports ≡ n.ports) [ true ↦ refl | false ↦ ack-ports home a (Plain (message.Ack i count)) i count (reader_place home a) n ])
+    (elim n.recovering as (λ b. (cond b n (on_ack home i count (reader_place home a) n)).ports ≡ n.ports) [ true ↦ refl | false ↦ ack-ports home i count (reader_place home a) n ])
 message-ports home a (message.Ask i ask) n =
-    ports-stay (DeliversNext home a (Plain (message.Ask i ask))) n.ports (on_message home a (message.Ask i ask) n).after.ports (ask-ports home a (Plain (message.Ask i ask)) i ask (replica_number home a) n)
+    ports-stay (DeliversNext home a (Plain (message.Ask i ask))) n.ports (on_message home a (message.Ask i ask) n).after.ports (ask-ports home i ask (replica_number home a) n)
 message-ports home a (message.Grant i ask) n =
     ports-stay (DeliversNext home a (Plain (message.Grant i ask))) n.ports (on_message home a (message.Grant i ask) n).after.ports (grant-ports home i ask n)
 message-ports home a (message.SnapAsk i try) n =

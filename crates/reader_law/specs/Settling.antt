@@ -2,7 +2,6 @@
 use Rattle.std.specs.Prelude.{◌≡◌, ℕ, ◌+◌, ◌^◌, ◌≤◌, All, Some, slice_get}
 use Rattle.dpc_model.specs.Streams.{IsOrdered}
 use Rattle.dpc_model.specs.Actors.{role_of, inputs_of}
-use Rattle.dpc_model.specs.declared.plans.FragSpec.{FragSpec}
 use Rattle.dpc_model.specs.declared.plans.StreamRef.{StreamRef}
 use Rattle.dpc_model.specs.declared.scripts.Phase.{Phase}
 use Rattle.dpc_model.specs.declared.scripts.Script.{Script}
@@ -12,8 +11,6 @@ use Rattle.world_safety.specs.Plans.{IsCheckedPlan}
 -- what a script is to have for its runs to settle; every checked script has it
 pub record CanSettle (script : Script) : Type 0 where
   pub plan : IsCheckedPlan script.plan
-  -- at most four replicas, so that the phases of the limit are enough
-  pub replicas : All (λ (f : FragSpec). f.replicas ≤ 4) script.plan.frags
   -- no actor reads a stream at two ports: each port has its sessions for itself
   pub once : (x p q : ℕ) (s : StreamRef) → slice_get (inputs_of script.plan (role_of script.plan x)) p ≡ Some s → slice_get (inputs_of script.plan (role_of script.plan x)) q ≡ Some s → p ≡ q
   -- clocks don't fall and are low, and so are those of the quiet phases: no tick is void

@@ -19,7 +19,7 @@ use Rattle.script_rules.proofs.Ordered.{itself, last_number}
 use Rattle.script_rules.proofs.Passing.{IsFine, Passes, all_said, said-append}
 use Rattle.script_rules.proofs.Headers.{declared}
 use Rattle.script_rules.proofs.Growing.{AreInTime}
-use Rattle.script_rules.proofs.Sources.{names_in, log_statement, ends_in, with_logs, times_of, entries_of, end_in, LogsFit, logs_said}
+use Rattle.script_rules.proofs.Sources.{names_in, log_statement, ends_in, last_named, last_at, with_logs, times_of, entries_of, end_in, LogsFit, logs_said}
 
 -- ---- two parts
 
@@ -27,15 +27,8 @@ pub passes_both : (d : Draft) (a b : List Statement) → Passes d a → Passes (
 passes_both d [] b h k = k
 passes_both d (s ∷ a) b h k = (h.0, passes_both (and_then d s) a b h.1 k)
 
--- ---- the last source is the one that a log line names
+-- ---- a log line of the last source
 
-last_named : (h : List ℕ) (done : List SourceSpec) (s : SourceSpec) → is_among s.name (names_in done) ≡ false → source_named (ends_in h done s) s.name ≡ Some (length done)
-last_named h done s fresh = ap (place_of_name s.name) (map_push (λ (x : SourceSpec). x.name) done s) ∙ place-last s.name (names_in done) fresh ∙ ap Some (length-map done (λ (x : SourceSpec). x.name))
-
-last_at : (h : List ℕ) (done : List SourceSpec) (s : SourceSpec) → is_among s.name (names_in done) ≡ false → source_at (ends_in h done s) s.name ≡ s
-last_at h done s fresh = ap (λ o. nth (record { name = []; columns = 0; log = [] }) (done ++ s ∷ []) (unwrap_or o 0)) (last_named h done s fresh) ∙ nth-last (record { name = []; columns = 0; log = [] }) done s
-
--- a log line of it
 one_log : (h : List ℕ) (done : List SourceSpec) (s : SourceSpec) (t : Tuple) → is_among s.name (names_in done) ≡ false → and_then (ends_in h done s) (log_statement s.name t) ≡ ends_in h done (with_log t s)
 one_log h done s t fresh = logs_said h done s (t ∷ []) fresh
 

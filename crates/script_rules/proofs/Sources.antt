@@ -35,10 +35,10 @@ ends_in h done s = declared h (done ++ s ∷ []) [] []
 
 -- ---- the last source is the one that a log line names
 
-last_named : (h : List ℕ) (done : List SourceSpec) (s : SourceSpec) → is_among s.name (names_in done) ≡ false → source_named (ends_in h done s) s.name ≡ Some (length done)
+pub last_named : (h : List ℕ) (done : List SourceSpec) (s : SourceSpec) → is_among s.name (names_in done) ≡ false → source_named (ends_in h done s) s.name ≡ Some (length done)
 last_named h done s fresh = ap (place_of_name s.name) (map_push name_of done s) ∙ place-last s.name (names_in done) fresh ∙ ap Some (length-map done name_of)
 
-last_at : (h : List ℕ) (done : List SourceSpec) (s : SourceSpec) → is_among s.name (names_in done) ≡ false → source_at (ends_in h done s) s.name ≡ s
+pub last_at : (h : List ℕ) (done : List SourceSpec) (s : SourceSpec) → is_among s.name (names_in done) ≡ false → source_at (ends_in h done s) s.name ≡ s
 last_at h done s fresh = ap (λ o. nth no_source (done ++ s ∷ []) (unwrap_or o 0)) (last_named h done s fresh) ∙ nth-last no_source done s
 
 one_log : (h : List ℕ) (done : List SourceSpec) (s : SourceSpec) (t : Tuple) → is_among s.name (names_in done) ≡ false → and_then (ends_in h done s) (log_statement s.name t) ≡ ends_in h done (with_log t s)

@@ -23,11 +23,6 @@ use Rattle.settling_scripts.proofs.Few.{few_frags, once_at, role_once}
 replicas_low : (f : FragSpec) → has_sizes f ≡ true → f.replicas ≤ 4
 replicas_low f h = leb-true f.replicas 4 (and_parts (nat_le 1 f.replicas) (nat_le f.replicas 4) (and_parts (is_between 1 4 f.replicas) (is_between 1 8 (length f.inputs)) h).0).1
 
-few_replicas : (fs : List FragSpec) → list_all has_sizes fs ≡ true → All (λ (f : FragSpec). f.replicas ≤ 4) fs
-few_replicas [] h = All-nil (λ (f : FragSpec). f.replicas ≤ 4)
-few_replicas (f ∷ fs) h =
-    let p = and_parts (has_sizes f) (list_all has_sizes fs) h in All-cons (λ (x : FragSpec). x.replicas ≤ 4) f fs (replicas_low f p.0) (few_replicas fs p.1)
-
 low_clock : (plan : Plan) (p : Phase) → is_phase_in_range plan p ≡ true → p.now ≤ 10 ^ 12
 low_clock plan p h = (between 0 (10 ^ 12) p.now (and_parts (list_all (is_directive_in_range plan) p.directives) (is_between 0 (10 ^ 12) p.now) h).1).1
 
@@ -62,7 +57,6 @@ can_settle s c =
     let limit : quiet_limit s.plan ≤ 3230 = limit_low (length s.plan.frags) (fold max 0 (map (λ (f : FragSpec). f.replicas) s.plan.frags)) (few_frags s c) (most_low 0 s.plan.frags (omega arith) form.sizes) in
     record {
       plan = checked_plan s facts;
-      replicas = few_replicas s.plan.frags form.sizes;
       once = λ x p q u e f. once_at (inputs_of s.plan (role_of s.plan x)) p q u (role_once s.plan (role_of s.plan x) form.once) e f;
       clocks = form.clocks;
       low = low_clocks s.plan s.phases phases;
