@@ -1,7 +1,6 @@
 -- Stable items, one more at the end.
-use Rattle.std.proofs.Common.{◌≡◌, ℕ, zero, suc, ◌+◌, ◌-◌, ◌<◌, ◌≤◌, List, [], ◌∷◌, ◌++◌, take, drop, length, refl, ap, arith, slice_index_or, slice_set}
-use Rattle.dpc_model.specs.Lists.{changed}
-use Rattle.dpc_model.specs.Sessions.{Acked, stable_items}
+use Rattle.std.proofs.Common.{◌≡◌, ℕ, zero, suc, ◌+◌, ◌-◌, ◌<◌, ◌≤◌, List, [], ◌∷◌, ◌++◌, take, drop, length, arith, slice_index_or}
+use Rattle.dpc_model.specs.Sessions.{stable_items}
 use Rattle.dpc_model.specs.declared.tuples.Tuple.{Tuple}
 use Rattle.dpc_model.proofs.StableItems.{stable_items-taken}
 use Rattle.dpc_model.specs.declared.tuples.Item.TheVariants.{Stable}

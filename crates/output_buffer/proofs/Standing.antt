@@ -1,5 +1,5 @@
 -- A buffer goes on to stand for the whole stable output.
-use Rattle.std.proofs.Common.{◌≡◌, ℕ, zero, suc, ◌+◌, ◌-◌, ◌≤◌, List, [], ◌∷◌, ◌++◌, drop, length, refl, sym, ap, ◌∙◌, arith, max, min, length-append}
+use Rattle.std.proofs.Common.{◌≡◌, ℕ, ◌-◌, ◌≤◌, List, ◌++◌, drop, length, sym, ap, ◌∙◌, arith, max, min, length-append}
 use Rattle.std.proofs.lemmas.List.{length-drop, drop-drop, drop-append-le}
 use Rattle.dpc_model.specs.Lists.{least, changed}
 use Rattle.dpc_model.specs.Sessions.{Acked, base_after, after_ack, stable_items}

@@ -102,23 +102,24 @@ fn drop_first(tuples: &mut VecDeque<Tuple>, count: usize)
     }
 }
 
-/// The tuples from a place on, as stable items numbered from `number` on.
-fn items_from(
+/// Appends the tuples from a place on, as stable items numbered from `number` on.
+fn push_items(
     alloc: Global,
+    items: &mut Vec<Item>,
     tuples: &VecDeque<Tuple>,
     place: usize,
     number: u64,
-) -> Result<Items, AllocError>
+) -> Result<(), AllocError>
     requires inside { place ≤ length tuples.now.items }
     requires range { number + length tuples.now.items < 2 ^ 64 + place }
-    ensures { IfOk result (λ items. items ≡ stable_items number (drop place tuples.now.items)) }
+    ensures { OnOk result (items.new.items ≡ items.old.items ++ stable_items number (drop place tuples.now.items)) }
 {
-    let mut items = Vec::with_capacity(alloc, tuples.len() - place)?;
+    items.reserve(tuples.len() - place)?;
     for i in place..tuples.len() {
         let tuple = tuples[i].copy(alloc)?;
         items.push(Item::Stable(number + (i - place) as u64, tuple))?;
     }
-    Ok(Listed::from_vec(items))
+    Ok(())
 }
 
 impl OutputBuffer {
@@ -166,15 +167,26 @@ impl OutputBuffer {
         ensures truncated { n < self.now.base → result ≡ Err (FromFault.Truncated self.now.base) }
         ensures only { (base : ℕ) → result ≡ Err (FromFault.Truncated base) → n < self.now.base }
     {
+        let mut items = Vec::new(alloc);
+        self.push_from(alloc, &mut items, n)?;
+        Ok(Listed::from_vec(items))
+    }
+
+    /// Appends the stable items from number `n` on to a batch that is under way. `Truncated`, which changes
+    /// nothing, exactly where `n` is below the base.
+    pub fn push_from(&self, alloc: Global, items: &mut Vec<Item>, n: u64) -> Result<(), FromFault>
+        ensures items { OnOk result (items.new.items ≡ items.old.items ++ stable_items n (drop (n - self.now.base) self.now.kept)) }
+        ensures truncated { n < self.now.base → (result ≡ Err (FromFault.Truncated self.now.base)) × (items.new.items ≡ items.old.items) }
+        ensures only { (base : ℕ) → result ≡ Err (FromFault.Truncated base) → n < self.now.base }
+    {
         if n < self.base {
             return Err(FromFault::Truncated { base: self.base });
         }
         let place = (n - self.base) as usize;
-        if place >= self.kept.len() {
-            return Ok(Listed::from_vec(Vec::new(alloc)));
+        if place < self.kept.len() {
+            push_items(alloc, items, &self.kept, place, n)?;
         }
-        let items = items_from(alloc, &self.kept, place, n)?;
-        Ok(items)
+        Ok(())
     }
 
     /// A reader acknowledged `count` tuples in an incarnation. What every reader acknowledged goes. It

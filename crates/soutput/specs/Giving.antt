@@ -3,11 +3,10 @@ use Rattle.std.specs.Prelude.{◌≡◌, ℕ, ◌+◌, ◌-◌, ◌^◌, ◌<◌
 use Rattle.dpc_model.specs.Lists.{nth, changed, list_all, is_nil}
 use Rattle.dpc_model.specs.Parts.{Stream, shown_of}
 use Rattle.dpc_model.specs.PartStands.{OutputValue}
-use Rattle.dpc_model.specs.Sessions.{no_session, with_session_shut, base_after, tentative_items, boundary_item, passed_item, item_if, Given, given_items, with_batches, Answered, answer_to}
+use Rattle.dpc_model.specs.Sessions.{no_session, with_session_shut, base_after, Given, given_items, with_batches, Answered, answer_to}
 use Rattle.dpc_model.specs.declared.sessions.Sub.{Sub}
 use Rattle.dpc_model.specs.declared.tuples.Tuple.{Tuple}
 use Rattle.dpc_model.specs.declared.tuples.Item.{Item}
-use Rattle.dpc_model.specs.declared.tuples.Item.TheVariants.{Undo, RecDone}
 use Rattle.dpc_model.specs.declared.messages.Subscribe.{Subscribe}
 use Rattle.dpc_model.specs.declared.messages.Message.{Message}
 use Rattle.dpc_model.specs.declared.messages.Message.TheVariants as message
@@ -106,11 +105,6 @@ pub record HasRoom (v : OutputValue) (tuples : ℕ) : Type 0 where
   pub batches : list_all (λ (s : Sub). nat_lt (s.batches + 1) (2 ^ 64)) v.subs ≡ true
 
 -- ---- answering
-
--- the first batch of a session, where its stable items are made already
-abbrev pub first_items : Subscribe → List Item → Option (ℕ × ℕ) → List Tuple → Option ℕ → Bool → List Item
-first_items asked stable boundary tentative passed done =
-    item_if asked.tentative (Undo asked.n) ++ stable ++ boundary_item boundary ++ tentative_items tentative ++ passed_item passed ++ item_if done RecDone
 
 -- the stream with the tuples before the base in their place
 abbrev pub stream_behind : List Tuple → OutputValue → Stream

@@ -2,12 +2,12 @@
 ghost use Rattle.std.specs.Prelude.{◌≡◌, ◌+◌, ◌^◌, ◌<◌, ◌++◌, length, IfOk, OnOk, ◌&&◌};
 ghost use Rattle.dpc_model.specs.NodeStates.{is_stable};
 ghost use Rattle.dpc_model.specs.Sessions.{stable_items, tentative_items, boundary_item, passed_item, item_if, given_items};
-ghost use Rattle.soutput.specs.Giving.{given_behind, first_items};
+ghost use Rattle.soutput.specs.Giving.{given_behind};
 
 use crate::fresh::Fresh;
 use dpc_model::exact::Exact;
 use dpc_model::messages::{NodeState, Subscribe};
-use dpc_model::tuples::{Item, Items, Tuple};
+use dpc_model::tuples::{Item, Tuple};
 use std::alloc::{AllocError, Global};
 
 /// Appends stable items, the first of this number.
@@ -97,26 +97,4 @@ pub fn is_done(asked: Subscribe, state: NodeState) -> bool
     ensures { result ≡ (asked.tentative && is_stable state) }
 {
     asked.tentative && matches!(state, NodeState::Stable)
-}
-
-/// The items of the first batch of a session, where its stable items are made already.
-pub fn first_items(
-    alloc: Global,
-    asked: Subscribe,
-    stable: Items,
-    boundary: Option<(u64, u64)>,
-    tentative: &[Tuple],
-    passed: Option<u64>,
-    done: bool,
-) -> Result<Vec<Item>, AllocError>
-    ensures { IfOk result (λ items. items.items ≡ first_items asked stable boundary tentative.now passed done) }
-{
-    let mut items = Vec::with_capacity(alloc, stable.len() + tentative.len() + 4)?;
-    push_if(&mut items, asked.tentative, Item::Undo(asked.n))?;
-    items.append(&mut stable.into_vec())?;
-    push_boundary(&mut items, boundary)?;
-    push_tentative(alloc, &mut items, tentative)?;
-    push_passed(&mut items, passed)?;
-    push_if(&mut items, done, Item::RecDone)?;
-    Ok(items)
 }

@@ -1,6 +1,6 @@
 //! The parts of a source's steps.
 ghost use Rattle.std.specs.Prelude.{◌≡◌, ◌<◌, ◌≤◌, Some, length, drop, take, IfOk, OnOk, OnErr};
-ghost use Rattle.dpc_model.specs.Sessions.{stable_items, first_batch};
+ghost use Rattle.dpc_model.specs.Sessions.{first_batch};
 ghost use Rattle.node_model.specs.Mails.{mails};
 ghost use Rattle.node_model.specs.Sources.{source_shown, source_gives, source_subscribed};
 ghost use Rattle.source_core.specs.Emitting.{IsSourceOf, HasRoom, after_step, with_emitted};
@@ -9,7 +9,6 @@ use crate::giving::{addressed, batches_upto, gives_items};
 use crate::log::{bound_at, log_of};
 use crate::source::SourceNode;
 use dpc_model::faults::NoMemory;
-use dpc_model::lists::Listed;
 use dpc_model::messages::{Message, NodeState, Out, Subscribe};
 use dpc_model::plans::Plan;
 use dpc_model::sessions::Sub;
@@ -17,24 +16,16 @@ use dpc_model::shared::Shared;
 use dpc_model::streams::count_below;
 use dpc_model::tuples::{Item, Tuple};
 use soutput::batches::count_batches;
-use soutput::items::{first_items, is_done, push_stable};
-use std::alloc::{AllocError, Global};
+use soutput::items::{is_done, push_boundary, push_if, push_stable};
+use std::alloc::Global;
 
-/// What was emitted from number `first` on, as stable items.
-fn emitted_from(
-    alloc: Global,
-    log: &[Tuple],
-    emitted: usize,
-    first: u64,
-) -> Result<Vec<Item>, AllocError>
+/// What was emitted from number `first` on.
+fn emitted_from(log: &[Tuple], emitted: usize, first: u64) -> &[Tuple]
     requires { emitted ≤ length log.now }
-    ensures { IfOk result (λ items. items.items ≡ stable_items first (drop first (take emitted log.now))) }
+    ensures { result.now ≡ drop first (take emitted log.now) }
 {
     let start = first.min(emitted as u64) as usize;
-    let tuples = &log[start..emitted];
-    let mut items = Vec::with_capacity(alloc, tuples.len())?;
-    push_stable(alloc, &mut items, first, tuples)?;
-    Ok(items)
+    &log[start..emitted]
 }
 
 impl SourceNode {
@@ -85,11 +76,13 @@ impl SourceNode {
         ensures { IfOk result (λ items. items.items ≡ first_batch (source_shown plan.now self.now.number self.now.state) asked) }
     {
         let log = log_of(plan, self.number);
-        let stable = emitted_from(alloc, log, self.emitted, asked.n)?;
+        let emitted = emitted_from(log, self.emitted, asked.n);
         let boundary = bound_at(plan, self.number, self.bound);
-        let done = is_done(asked, NodeState::Stable);
-        let stable = Listed::from_vec(stable);
-        let items = first_items(alloc, asked, stable, boundary, &[], None, done)?;
+        let mut items = Vec::with_capacity(alloc, emitted.len().saturating_add(3))?;
+        push_if(&mut items, asked.tentative, Item::Undo(asked.n))?;
+        push_stable(alloc, &mut items, asked.n, emitted)?;
+        push_boundary(&mut items, boundary)?;
+        push_if(&mut items, is_done(asked, NodeState::Stable), Item::RecDone)?;
         Ok(items)
     }
 

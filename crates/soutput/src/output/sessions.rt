@@ -8,7 +8,7 @@ ghost use Rattle.dpc_model.specs.Sessions.{no_session, opening_session, with_ses
 ghost use Rattle.soutput.specs.Giving.{restarted_output, with_base_after, stream_behind, HasRoom, IsAnswered};
 
 use crate::batches::{can_count, open_all, shut_all};
-use crate::items::{first_items, is_done};
+use crate::items::{is_done, push_boundary, push_if, push_passed, push_tentative};
 use crate::output::SOutput;
 use dpc_model::faults::NoMemory;
 use dpc_model::lists::Listed;
@@ -178,18 +178,19 @@ impl SOutput {
         requires { self.now.base ≤ asked.n }
         ensures { IfOk result (λ items. (gone : List Tuple) → length gone ≡ self.now.base → items.items ≡ first_batch (shown_of (stream_behind gone self.now) self.now.base (is_stable state)) asked) }
     {
-        let Ok(stable) = self.buffer.from(alloc, asked.n) else {
+        let stable = self.buffer.count().saturating_sub(asked.n) as usize;
+        let most = stable
+            .saturating_add(self.tentative.len())
+            .saturating_add(4);
+        let mut items = Vec::with_capacity(alloc, most)?;
+        push_if(&mut items, asked.tentative, Item::Undo(asked.n))?;
+        let Ok(()) = self.buffer.push_from(alloc, &mut items, asked.n) else {
             return Err(NoMemory);
         };
-        let items = first_items(
-            alloc,
-            asked,
-            stable,
-            self.boundary(),
-            self.tentative.as_slice(),
-            self.passed,
-            is_done(asked, state),
-        )?;
+        push_boundary(&mut items, self.boundary())?;
+        push_tentative(alloc, &mut items, self.tentative.as_slice())?;
+        push_passed(&mut items, self.passed)?;
+        push_if(&mut items, is_done(asked, state), Item::RecDone)?;
         Ok(items)
     }
 }
