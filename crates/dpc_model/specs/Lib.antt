@@ -7,6 +7,7 @@ pub mod Values
 pub mod Operators
 pub mod Fragments
 pub mod Reading
+pub mod Held
 pub mod Inlets
 pub mod Due
 pub mod Replicas

@@ -97,7 +97,7 @@ pub fn copied<T: Exact>(alloc: Global, elements: &[T]) -> Result<Vec<T>, AllocEr
 }
 
 /// Whether the two have the same elements.
-fn are_same<T: Exact>(elements: &[T], others: &[T]) -> bool
+pub fn are_same<T: Exact>(elements: &[T], others: &[T]) -> bool
     ensures { IsTrue result ↔ (elements.now ≡ others.now) }
 {
     if elements.len() != others.len() {

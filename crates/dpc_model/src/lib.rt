@@ -21,3 +21,4 @@ pub mod streams;
 #[cfg(test)]
 mod tests;
 pub mod tuples;
+pub mod vals;

@@ -1,11 +1,8 @@
 //! Tuples, and the items of a stream.
 use crate::exact::Exact;
-use crate::inlined::Inlined;
 use crate::lists::Listed;
+pub use crate::vals::Vals;
 use std::alloc::{AllocError, Global};
-
-/// The values of a tuple, one for each column. Up to five, as a group and four totals, need no memory.
-pub type Vals = Inlined<i64, 5>;
 
 /// Tuples in order.
 pub type Tuples = Listed<Tuple>;
