@@ -1,5 +1,5 @@
 -- The whole run of a script.
-use Rattle.std.proofs.Common.{◌≡◌, ℕ, ◌+◌, Bool, true, false, cond, List, [], map, length, refl, sym, ap, subst, ◌∙◌, arith, Option, Some, None, Result, Err}
+use Rattle.std.proofs.Common.{◌≡◌, ℕ, ◌+◌, Bool, true, false, cond, List, [], map, length, refl, sym, ap, subst, ◌∙◌, arith, Option, Some, None, Result, Ok, Err, IfOk, IfErr}
 use Rattle.std.specs.Prelude.{reverse, fold}
 use Rattle.std.specs.Result.{IsErr, IsErrAnd}
 use Rattle.std.proofs.lemmas.Result.{err_from_is_err_and}
@@ -131,6 +131,21 @@ settle-excess script new fault settles a h envelopes items is =
     excess-of script (tell_quiet limit new.phase new.first (new.now + 1) x) envelopes items
     (quiet-way script new a ∙ ap (λ (t : Bool). rest_of t script (phases_of script (start script.plan))) (sym settles))
     (ap (λ (plan : Plan). excess plan (reverse (tell_quiet limit new.phase new.first (new.now + 1) x).events)) (sym a.follows.plan) ∙ past)
+
+-- ---- what the quiet phases answer
+
+abbrev quiet_behind : Lock → Told → Told
+quiet_behind new = tell_quiet (quiet_limit new.world.plan) new.phase new.first (new.now + 1)
+
+pub settled-answers : (script : Script) (new : Lock) (r : Result RunOf RunFault) {Q : RunOf → Type 0} → script.settle ≡ true → ArePhases script.phases (first_lock script.plan) new →
+    IfOk r (λ w. Follows (quiet_behind new) new.world w) → ((w : RunOf) → Ends script w → Q w) → IfOk r Q
+settled-answers script new (Ok w) settles a q f = f w (settled-ends script new w settles a q)
+settled-answers script new (Err fault) settles a q f = tt
+
+pub settled-past : (script : Script) (new : Lock) (r : Result RunOf RunFault) → script.settle ≡ true → ArePhases script.phases (first_lock script.plan) new →
+    IfErr r (Exceeds (quiet_behind new) new.world) → (envelopes items : ℕ) → r ≡ Err (TooLong envelopes items) → excess script.plan (lock_of script) ≡ reached envelopes items
+settled-past script new (Ok w) settles a q envelopes items e = cc
+settled-past script new (Err fault) settles a q envelopes items e = settle-excess script new fault settles a q envelopes items cc
 
 -- the exit of a `?`
 pub raised-past : {X : Type 0} (r : Result X RunFault) (fault : RunFault) (plan : Plan) (es : List Event) → IsErr r × IsErrAnd r (λ e. e ≡ fault) →

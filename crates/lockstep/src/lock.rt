@@ -29,7 +29,7 @@ pub fn run(alloc: Global, script: Script) -> Result<World, RunFault>
     let mut lock = Lock::new(World::new(alloc, plan)?);
     lock.phases(alloc, phases.as_slice())?;
     if settle {
-        lock.settle(alloc)?;
+        return lock.settle(alloc);
     }
     Ok(lock.world)
 }

@@ -1,7 +1,6 @@
 //! A run so far, and its phases.
 ghost use Rattle.std.specs.Prelude.{◌≡◌, ◌+◌, false, fold, length, map, max, IfOk, OnOk, IfErr};
 ghost use Rattle.world_model.specs.Schedules.{quiet_limit, tell_phase, tell_phases, tell_quiet, Told};
-ghost use Rattle.world_model.specs.Worlds.{all_settled};
 ghost use Rattle.world_core.specs.Runs.{world_of};
 ghost use Rattle.lockstep.specs.Locking.{IsAt, Follows, Exceeds};
 
@@ -99,32 +98,30 @@ impl Lock {
         Ok(())
     }
 
-    /// Quiet phases, at most so many, until every client is settled.
-    fn quiet(&mut self, alloc: Global, most: u128) -> Result<(), RunFault>
-        requires { self.old.world.spent ≡ false }
-        ensures ok { OnOk result (Follows (tell_quiet most self.old.phase self.old.first (self.old.now + 1)) self.old.world self.new.world) }
-        ensures long { IfErr result (Exceeds (tell_quiet most self.old.phase self.old.first (self.old.now + 1)) self.old.world) }
+    /// Quiet phases, at most so many, until every client is settled: the world behind them.
+    fn quiet(mut self, alloc: Global, most: u128) -> Result<World, RunFault>
+        requires { self.world.spent ≡ false }
+        ensures ok { IfOk result (λ w. Follows (tell_quiet most self.phase self.first (self.now + 1)) self.world w) }
+        ensures long { IfErr result (Exceeds (tell_quiet most self.phase self.first (self.now + 1)) self.world) }
     {
         for _ in 0..most {
             if self.world.settled() {
-                return Ok(());
+                return Ok(self.world);
             }
             let now = self.now.checked_add(1).ok_or(RunFault::NoMemory)?;
             self.phase(alloc, &[], now)?;
         }
-        Ok(())
+        Ok(self.world)
     }
 
-    /// Quiet phases, at most as many as the plan lets there be, until every client is settled; and whether
-    /// every client is.
-    pub fn settle(&mut self, alloc: Global) -> Result<bool, RunFault>
-        requires { self.old.world.spent ≡ false }
-        ensures ok { OnOk result (Follows (tell_quiet (quiet_limit self.old.world.plan) self.old.phase self.old.first (self.old.now + 1)) self.old.world self.new.world) }
-        ensures settled { IfOk result (λ all. all ≡ all_settled (world_of self.new.world)) }
-        ensures long { IfErr result (Exceeds (tell_quiet (quiet_limit self.old.world.plan) self.old.phase self.old.first (self.old.now + 1)) self.old.world) }
+    /// The end of a run: quiet phases, at most as many as the plan lets there be, until every client is
+    /// settled.
+    pub fn settle(self, alloc: Global) -> Result<World, RunFault>
+        requires { self.world.spent ≡ false }
+        ensures ok { IfOk result (λ w. Follows (tell_quiet (quiet_limit self.world.plan) self.phase self.first (self.now + 1)) self.world w) }
+        ensures long { IfErr result (Exceeds (tell_quiet (quiet_limit self.world.plan) self.phase self.first (self.now + 1)) self.world) }
     {
         let most = quiet_limit(self.world.plan());
-        self.quiet(alloc, most)?;
-        Ok(self.world.settled())
+        self.quiet(alloc, most)
     }
 }

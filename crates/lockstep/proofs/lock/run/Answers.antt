@@ -1,9 +1,7 @@
-use Rattle.std.proofs.Common.{sym, subst}
 use Rattle.world_model.specs.Schedules.{lock_of}
-use Rattle.lockstep.specs.declared.phase.Lock.{Lock}
-use Rattle.lockstep.proofs.Ending.{ArePhases, Ends, first_lock, of-script, plain-ends, settled-ends, phases-excess, settle-excess, raised-past}
+use Rattle.lockstep.proofs.Ending.{ArePhases, first_lock, of-script, plain-ends, phases-excess, settled-answers, settled-past, raised-past}
 use Rattle.lockstep.proofs.lock.run.Goals as goal
-use Rattle.lockstep.proofs.lock.run.Goals.{In_ok-phases, then-settle+in_ok-settle, else-settle}
+use Rattle.lockstep.proofs.lock.run.Goals.{In_ok-phases}
 
 pub returns-in_err-phases-clause-long : goal.returns-in_err-phases-clause-long
 returns-in_err-phases-clause-long c =
@@ -16,24 +14,20 @@ phased c =
     of-script c.args.script c.as_slice.result.now c.in_ok-new.field-0 c.new-lock.result c.phases-2.new.self c.in_ok-new.ensures c.new-lock.ensures c.as_slice.ensures
     (record { follows = c.in_ok-phases.ensures.ok; number = c.in_ok-phases.ensures.phase; sent = c.in_ok-phases.ensures.first; clock = c.in_ok-phases.ensures.clock })
 
-pub returns-in_err-settle-clause-long : goal.returns-in_err-settle-clause-long
-returns-in_err-settle-clause-long c =
-    raised-past c.from_residual-in_err-settle.result c.in_err-settle.field-0.0 c.args.script.plan (lock_of c.args.script) c.from_residual-in_err-settle.ensures
-    (settle-excess c.args.script c.phases-2.new.self c.in_err-settle.field-0.0 c.if-settle.true
-    (phased (goal.at.returns-in_err-settle-clause-long c).In_ok-phases) c.in_err-settle.ensures.long)
+pub returns-then-settle-clause-ok : goal.returns-then-settle-clause-ok
+returns-then-settle-clause-ok c =
+    settled-answers c.args.script c.phases-2.new.self c.settle.result c.if-settle.true (phased (goal.at.returns-then-settle-clause-ok c).In_ok-phases) c.settle.ensures.ok (λ w e. e.is)
 
-ended : (c : goal.After-drop-phases-inside-2) → Ends c.args.script c.if-settle.lock.world
-ended c =
-    let behind = phased (goal.at.returns-clause-ok c).In_ok-phases in
-    elim c.if-settle.branch [
-      | then-settle+in_ok-settle w ↦
-          subst (λ (l : Lock). Ends c.args.script l.world) (sym w.lock-is)
-          (settled-ends c.args.script c.phases-2.new.self w.settle.new.self.world w.if-settle.true behind w.in_ok-settle.ensures.ok)
-      | else-settle w ↦ subst (λ (l : Lock). Ends c.args.script l.world) (sym w.lock-is) (plain-ends c.args.script c.phases-2.new.self w.if-settle.false behind)
-    ]
+pub returns-then-settle-clause-within : goal.returns-then-settle-clause-within
+returns-then-settle-clause-within c =
+    settled-answers c.args.script c.phases-2.new.self c.settle.result c.if-settle.true (phased (goal.at.returns-then-settle-clause-within c).In_ok-phases) c.settle.ensures.ok (λ w e. e.within)
+
+pub returns-then-settle-clause-long : goal.returns-then-settle-clause-long
+returns-then-settle-clause-long c =
+    settled-past c.args.script c.phases-2.new.self c.settle.result c.if-settle.true (phased (goal.at.returns-then-settle-clause-long c).In_ok-phases) c.settle.ensures.long
 
 pub returns-clause-ok : goal.returns-clause-ok
-returns-clause-ok c = (ended c).is
+returns-clause-ok c = (plain-ends c.args.script c.phases-2.new.self c.if-settle.false (phased (goal.at.returns-clause-ok c).In_ok-phases)).is
 
 pub returns-clause-within : goal.returns-clause-within
-returns-clause-within c = (ended c).within
+returns-clause-within c = (plain-ends c.args.script c.phases-2.new.self c.if-settle.false (phased (goal.at.returns-clause-within c).In_ok-phases)).within
