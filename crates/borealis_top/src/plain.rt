@@ -122,7 +122,10 @@ fn read<S: Source, O: Sink, E: Sink>(
         Err(InputFault::Failed) => return Status::ReadFault,
         Err(InputFault::TooLong) => return refused(alloc, err, TOO_LONG),
     };
-    match read_script(alloc, text.as_slice()) {
+    let script = read_script(alloc, text.as_slice());
+    // a run takes long, and does not need the text
+    drop(text);
+    match script {
         Ok(script) => match answer_script(alloc, reading, script) {
             Ok(Answer::Text(text)) => told(out, text.as_slice(), Status::Done),
             Ok(Answer::Open(text)) => told_open(out, err, text.as_slice()),

@@ -8,13 +8,13 @@ use Rattle.borealis_top.proofs.Ended.{WasRead, long-refusal, long-whole, read-in
 use Rattle.borealis_top.proofs.plain.read.Goals as goal
 
 pub answer_script-requires-clause-ideal : goal.answer_script-requires-clause-ideal
-answer_script-requires-clause-ideal g c = read_ideal c.as_slice.result.now c.in-Ok-read_script.script c.in-Ok-read_script.ensures
+answer_script-requires-clause-ideal g c = read_ideal c.as_slice.result.now c.in-Ok-script.script c.in-Ok-script.ensures
 
 pub answer_script-requires-clause-run : goal.answer_script-requires-clause-run
-answer_script-requires-clause-run g c = read_can_run c.as_slice.result.now c.in-Ok-read_script.script c.in-Ok-read_script.ensures
+answer_script-requires-clause-run g c = read_can_run c.as_slice.result.now c.in-Ok-script.script c.in-Ok-script.ensures
 
 pub answer_script-requires-clause-names : goal.answer_script-requires-clause-names
-answer_script-requires-clause-names g c = reads_have_plain_names c.as_slice.result.now c.in-Ok-read_script.script (ap script_in c.in-Ok-read_script.ensures)
+answer_script-requires-clause-names g c = reads_have_plain_names c.as_slice.result.now c.in-Ok-script.script (ap script_in c.in-Ok-script.ensures)
 
 pub returns-in-Err-TooLong-clause-ends : goal.returns-in-Err-TooLong-clause-ends
 returns-in-Err-TooLong-clause-ends g c =
@@ -35,21 +35,21 @@ returns-in-Err-TooLong-clause-complete g c =
 
 pub returns-in-Ok-Text-clause-ends : goal.returns-in-Ok-Text-clause-ends
 returns-in-Ok-Text-clause-ends g c =
-    let s = c.in-Ok-read_script.script in
+    let s = c.in-Ok-script.script in
     let input = g.S.Source.edge c.args.input.now in
     let input_new = g.S.Source.edge c.read_whole.new.input in
     let err = g.E.Sink.edge c.args.err.now in
-    let was : WasRead input input_new s = record { text = c.in-Ok.text.items; gave = c.in-Ok.ensures.gave; end = c.in-Ok.ensures.end; reads = rw c.as_slice.ensures.value at c.in-Ok-read_script.ensures } in
+    let was : WasRead input input_new s = record { text = c.in-Ok.text.items; gave = c.in-Ok.ensures.gave; end = c.in-Ok.ensures.end; reads = rw c.as_slice.ensures.value at c.in-Ok-script.ensures } in
     let text = c.in-Ok-Text.text.items in
     told-ReadEnds c.args.reading input input_new (g.O.Sink.edge c.args.out.now) (g.O.Sink.edge c.told.new.sink) err err text c.told.result
     (read-Answers c.args.reading input input_new s false text was (rw c.in-Ok-Text.field-0-is at c.in-Ok-Text.ensures)) (Stays-same err) (rw c.as_slice-in-Ok-Text.ensures.value at c.told.ensures)
 
 pub returns-in-Ok-Open-clause-ends : goal.returns-in-Ok-Open-clause-ends
 returns-in-Ok-Open-clause-ends g c =
-    let s = c.in-Ok-read_script.script in
+    let s = c.in-Ok-script.script in
     let input = g.S.Source.edge c.args.input.now in
     let input_new = g.S.Source.edge c.read_whole.new.input in
-    let was : WasRead input input_new s = record { text = c.in-Ok.text.items; gave = c.in-Ok.ensures.gave; end = c.in-Ok.ensures.end; reads = rw c.as_slice.ensures.value at c.in-Ok-read_script.ensures } in
+    let was : WasRead input input_new s = record { text = c.in-Ok.text.items; gave = c.in-Ok.ensures.gave; end = c.in-Ok.ensures.end; reads = rw c.as_slice.ensures.value at c.in-Ok-script.ensures } in
     let text = c.in-Ok-Open.text.items in
     open-ReadEnds c.args.reading input input_new (g.O.Sink.edge c.args.out.now) (g.O.Sink.edge c.told_open.new.out) (g.E.Sink.edge c.args.err.now) (g.E.Sink.edge c.told_open.new.err) text c.told_open.result
     (read-Answers c.args.reading input input_new s true text was (rw c.in-Ok-Open.field-0-is at c.in-Ok-Open.ensures)) (rw c.as_slice-in-Ok-Open.ensures.value at c.told_open.ensures)
