@@ -6,7 +6,7 @@ use Rattle.dpc_model.specs.declared.messages.NodeState.TheVariants as state
 use Rattle.dpc_model.specs.declared.messages.Rank.{Rank}
 use Rattle.dpc_model.specs.declared.messages.Rank.TheVariants.{Stable, UpFailure, Stabilizing, Silent}
 
--- what is known of one replica: the newest incarnation, the lesser of 4 and the ticks since the last beat after_beat, what that beat said,
+-- what is known of one replica: the newest incarnation, the lesser of 4 and the ticks since the last beat noted, what that beat said,
 -- and the base of a truncation
 pub record Watch : Type 0 where
   pub inc : ℕ
@@ -52,7 +52,7 @@ is_silent w = nat_le 3 w.ticks || is_some w.truncated
 abbrev pub rank_of : Watch → Rank
 rank_of w = if is_silent w then Silent else rank_by w.said
 
--- the last beat after_beat says recovering
+-- the last beat noted says recovering
 abbrev pub says_recovering : Watch → Bool
 says_recovering w = elim w.said [ None ↦ false | Some s ↦ s.1 ]
 

@@ -1,4 +1,4 @@
--- A node's own order of with_ask: who asks has a complete first bucket, who reconciles promised nobody, and promises are proper.
+-- A node's own order of asking: who asks has a complete first bucket, who reconciles promised nobody, and promises are proper.
 use Rattle.std.proofs.Common.{◌≡◌, ℕ, ◌+◌, ◌-◌, ◌*◌, ◌<◌, ◌≤◌, Bool, true, false, cond, not, ◌&&◌, ◌==◌, nat_lt, min, List, [], ◌∷◌, map, length, refl, sym, ap, subst, ◌∙◌, arith, Option, Some, None, slice_get, ◌⊎◌, inl, inr}
 use Rattle.std.specs.Prelude.{is_none}
 use Rattle.std.proofs.lemmas.Grind.{common_steps}
@@ -198,7 +198,7 @@ subscribe-asking : (home : Home) (asked : Subscribe) (o : Option ℕ) (n : Plain
 subscribe-asking home asked None n h = h
 subscribe-asking home asked (Some k) n h = record { runs = λ e. let w = h.runs e in record { up = w.up; unstable = w.unstable; first = w.first }; busy = λ up e. let b = h.busy up e in record { asks = b.asks; promised = b.promised }; promise = h.promise }
 
--- an ask is with_promise to another replica
+-- an ask is granted to another replica
 ask-asking : (home : Home) (i ask r : ℕ) (n : PlainNode) → n.grants.me ≡ home.replica → (r ≡ home.replica → ⊥) → IsGranted n.grants n.state r (i, ask) → IsAsking home n → IsAsking home (record n { grants = with_promise n.grants r (i, ask) })
 ask-asking home i ask r n me other may h =
     record {
@@ -410,7 +410,7 @@ reconciling-asking home n up h =
           }
         ]
 
--- ---- processing_step
+-- ---- processing
 
 failure-state : (m : PlainNode) → ((with_failure m).state ≡ m.state) ⊎ ((with_failure m).state ≡ UpFailure)
 failure-state m = elim (is_nil m.closed) as (λ b. (cond b m.state UpFailure ≡ m.state) ⊎ (cond b m.state UpFailure ≡ UpFailure)) [ true ↦ inl refl | false ↦ inr refl ]

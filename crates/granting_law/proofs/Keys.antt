@@ -94,7 +94,7 @@ nth-changed d (suc i) f (x ∷ xs) (suc j) =
     ]
 
 module _ (Hears Asks Ends : ℕ → Key → Type 0) where
-  -- what a beat after_peer_beat
+  -- what a beat told
   pub step-told : (g : Grants) (r : ℕ) (k : Key) → Hears r k → ((key : Key) → key_le key k ≡ true → Ends r key) → IsAskStep Hears Asks Ends g (after_peer_beat g r k)
   step-told g r k hears ends =
       record {

@@ -110,7 +110,7 @@ ports-changed T i f ps h p r e =
 
 -- ---- taking a batch
 
--- a batch that is after_next_batch is the next one of the session
+-- a batch that is used is the next one of the session
 pub took-moves : (T : ℕ → Sess → ℕ → Type 0) (q : Port) (u : Sess) (index : ℕ) (items : List Item) → (same_sess u q.inlet.sess ≡ true → index ≡ q.inlet.next → T q.chosen q.inlet.sess q.inlet.next) →
     Moves T q (record q { inlet = (take_batch q.inlet u index items).after })
 unfolding take_batch

@@ -68,7 +68,7 @@ module _ (home : Home) (a k : ℕ) (s : Sess) (opens : Bool) (distinct : AreDist
             (subst (λ (z : List Sub). SendsOn s opens (nth no_session old k) (nth no_session z k) []) (sym same) (sends-none s opens (nth no_session old k)));
       }
 
-  -- all sessions are with_session_shut
+  -- all sessions are shut
   sends-closed : (old : List Sub) (m : PlainNode) → length old ≡ length (own_readers home) → m.subs ≡ map with_session_shut old → Sends old (silent_step m)
   sends-closed old m many same =
       record {

@@ -163,7 +163,7 @@ abbrev pub on_ack : Home → ℕ → ℕ → Option ℕ → PlainNode → PlainN
 on_ack home i count None n = n
 on_ack home i count (Some k) n = with_base home (record n { acks = changed k (after_ack i count) n.acks })
 
--- an ask of another replica is with_promise, or has no answer
+-- an ask of another replica is granted, or has no answer
 abbrev pub on_ask : Home → ℕ → ℕ → Option ℕ → PlainNode → Stepped PlainNode
 on_ask home i ask None n = silent_step n
 on_ask home i ask (Some r) n =
@@ -194,7 +194,7 @@ on_message home a (message.Ask i ask) n = on_ask home i ask (replica_number home
 on_message home a (message.Grant i ask) n = on_grant home i ask n
 on_message home a (message.SnapAsk i try) n = if n.recovering then silent_step n else on_snap_ask home a i try n
 
--- a snapshot is after_adoption while the node recovers, where it is for the present try
+-- a snapshot is adopted while the node recovers, where it is for the present try
 abbrev pub on_snap : Home → ℕ → ℕ → Snap → PlainNode → PlainNode
 on_snap home i try s n = if n.recovering && i == n.grants.inc && try == n.tries then after_adoption home s n else n
 

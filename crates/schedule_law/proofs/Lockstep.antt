@@ -19,7 +19,7 @@ use Rattle.schedule_law.proofs.Directing.{IsBetween}
 use Rattle.schedule_law.proofs.Phases.{phase-told}
 use Rattle.world_safety.proofs.Ticked.{or-left, or-right}
 
--- ---- the first_progress
+-- ---- the opening
 
 new-zeroed : (home : Home) → IsZeroed (new_node home)
 unfolding new_node

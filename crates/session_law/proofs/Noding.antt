@@ -95,7 +95,7 @@ shown-same home most more n m place g k up same =
     let view = view-same home n m inputs same.cursor same.closed in
     record { stable = stable; bound = rw (stable, same.cursor) refl; tentative = tentative-same home n m stable view; passed = rw (same.cursor, same.closed) refl }
 
--- sessions that are all with_session_shut
+-- sessions that are all shut
 all-shut : (subs : List Sub) → list_all is_shut subs ≡ true → (k : ℕ) (sub : Sub) → slice_get subs k ≡ Some sub → sub.is_open ≡ false
 all-shut subs h k sub e = let q = all-at is_shut subs k sub h e in not-open sub.is_open q
   where
@@ -109,7 +109,7 @@ recovering-goes home a most n m ms down g same bare =
     keeps-shut home.plan (Frag home.frag) a (own_readers home) (shown home n) (shown home m) n.subs m.subs ms
     (λ k sub e. let f = ap (λ (l : List Sub). slice_get l k) (sym same) ∙ e in (sub, f, refl, all-shut n.subs (emptied-of n down g.orderly.recovering).subs k sub f)) bare
 
--- one whose sessions are with_session_shut has none
+-- one whose sessions are shut has none
 pub shut-goes : (home : Home) (a : ℕ) (n m : PlainNode) → m.subs ≡ map with_session_shut n.subs → Goes home a n (silent_step m)
 shut-goes home a n m same =
     keeps-shut home.plan (Frag home.frag) a (own_readers home) (shown home n) (shown home m) n.subs m.subs []
@@ -152,7 +152,7 @@ entered-goes home a n server =
     give-goes home a (Undo (length (out_stable home n)) ∷ []) n m server refl
     (λ asked before law. undo-law home.plan (Frag home.frag) asked (shown home n) (shown home m) (length (out_stable home n)) before stable bound (clear-shown home m refl) law)
 
--- processing_step
+-- processing
 with_failure-subs : (m : PlainNode) → (with_failure m).subs ≡ m.subs
 with_failure-subs m = refl
 

@@ -34,7 +34,7 @@ use Rattle.session_law.proofs.Worlds.{no_slot, HeldNode, HeldSource, HeldAt, Are
 use Rattle.session_law.proofs.Events.{run-held}
 use Rattle.dpc_model.proofs.Elements.{get-map}
 
--- ---- the first_subscription
+-- ---- the opening
 
 -- a sender that has nothing
 abbrev empty_view : Shown

@@ -74,7 +74,7 @@ NoneIsInvented plan events = EachStep NoneInvented (new_world plan) events
 
 -- ---- who asked for a session
 
--- the subscription that a session was opened by is that of the first_subscription, or one that its reader sent to its sender
+-- the subscription that a session was opened by is that of the opening, or one that its reader sent to its sender
 abbrev pub WasAsked : Plan → List Event → Channel → Type 0
 WasAsked plan events l =
     let asked = opened_by l (first_subscription l) (new_world plan) events in

@@ -10,7 +10,7 @@ use Rattle.node_model.specs.Mails.{Packet, Plain, SnapFor}
 use Rattle.world_model.specs.Worlds.{World, Envelope, happens}
 use Rattle.world_model.specs.SessionLaw.{Channel}
 
--- at the first_subscription a reader holds nothing
+-- at the opening a reader holds nothing
 abbrev pub first_subscription : Channel → Subscribe
 first_subscription l = record { sess = l.sess; n = 0; tentative = false }
 

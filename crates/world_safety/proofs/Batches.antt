@@ -150,7 +150,7 @@ port-good home most p s f n place up at holds grows sound g =
       };
     }
 
--- a port whose inlet after_taking a batch
+-- a port whose inlet took a batch
 pub took-sound : (plan : Plan) (s : StreamRef) (i most : ℕ) (q : Port) (t : AfterBatch) → TookSoundly plan s q.inlet t → is_port_sound plan s i most q ≡ true → is_port_sound plan s i most (record q { inlet = t.after }) ≡ true
 took-sound plan s i most q t h sound =
     let p = port-of plan s i most q sound in

@@ -45,7 +45,7 @@ batch-carried readers k (suc i) items (s ∷ subs) sub l e f =
 
 -- ---- the sessions after it
 
--- the session in whose place a with_batch one stands
+-- the session in whose place a counted one stands
 counted-from : (subs : List Sub) (k : ℕ) (sub : Sub) → slice_get (map with_batch subs) k ≡ Some sub → (old : Sub) × (slice_get subs k ≡ Some old) × (sub ≡ with_batch old)
 counted-from [] k sub e = cc
 counted-from (s ∷ subs) zero sub e = (s, refl, cc)

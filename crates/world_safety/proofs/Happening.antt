@@ -365,7 +365,7 @@ tick-serves w most a now Nobody e h = tt
 
 -- ---- milling
 
--- a node that may be mill_step has nothing closed, and the buckets are complete
+-- a node that may be milled has nothing closed, and the buckets are complete
 pub record MayMill (home : Home) (r : ℕ) (n : PlainNode) : Type 0 where
   pub up : n.recovering ≡ false
   pub none : n.closed ≡ []

@@ -117,7 +117,7 @@ pub length-counted : (items : List Item) (subs : List Sub) → length (with_batc
 length-counted [] subs = refl
 length-counted (i ∷ items) subs = length-map subs with_batch
 
--- a node whose sessions were with_batch is orderly
+-- a node whose sessions were counted is orderly
 pub give-orderly : (home : Home) (most : ℕ) (items : List Item) (n : PlainNode) → n.recovering ≡ false → IsOrderlyNode home most n → IsOrderlyNode home most (give home items n).after
 unfolding out_stable
 give-orderly home most items n up o =
