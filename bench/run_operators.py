@@ -1,7 +1,7 @@
 #!/usr/bin/env python3
 """Measures the operators over generated streams, bucket by bucket: processor seconds, and the most memory held.
 
-The program is `operator_trials` (`rt run` in `crates/operator_trials` proves and builds it).
+The program is `trial_operators` (`rt run` in `crates/trial_operators` proves and builds it).
 """
 import os
 import resource
@@ -9,7 +9,7 @@ import subprocess
 import sys
 
 TOP = os.path.dirname(os.path.dirname(os.path.abspath(__file__)))
-PROGRAM = os.path.join(TOP, "crates", "operator_trials", "out", "operator_trials")
+PROGRAM = os.path.join(TOP, "crates", "trial_operators", "out", "trial_operators")
 DIAGRAMS = ["filter", "map", "union", "join", "aggregate", "chain"]
 SIZES = [(200_000, 10_000), (100_000, 10_000), (200_000, 5_000), (100_000, 5_000)]
 

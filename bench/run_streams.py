@@ -1,7 +1,7 @@
 #!/usr/bin/env python3
 """Measures a stream through an inlet, its buckets and an output with two readers: processor seconds, and the most memory held.
 
-The program is `stream_trials` (`rt run -- 1000 300` in `crates/stream_trials` proves and builds it). The tuples come in batches
+The program is `trial_streams` (`rt run -- 1000 300` in `crates/trial_streams` proves and builds it). The tuples come in batches
 of 100; one reader acknowledges at once, the other one LATE tuples late.
 """
 import os
@@ -14,7 +14,7 @@ RUNS = [(1_000_000, 1_000), (500_000, 1_000), (1_000_000, 100_000), (1_000_000, 
 
 
 def main():
-    run_operators.PROGRAM = os.path.join(run_operators.TOP, "crates", "stream_trials", "out", "stream_trials")
+    run_operators.PROGRAM = os.path.join(run_operators.TOP, "crates", "trial_streams", "out", "trial_streams")
     print("| tuples | late | seconds | MiB |")
     print("|---|---|---|---|")
     for tuples, late in RUNS:

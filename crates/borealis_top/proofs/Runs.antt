@@ -8,16 +8,16 @@ use Rattle.dpc_model.specs.declared.scripts.Script.{Script}
 use Rattle.script_rules.specs.Reading.{reading, script_in}
 use Rattle.script_rules.specs.Checking.{IsChecked}
 use Rattle.script_rules.proofs.ReadForms.{reads_have_facts}
-use Rattle.script_laws.proofs.ReadChecked.{reads_checked}
-use Rattle.settling_whole.proofs.Whole.{healed-settles, crashless-settles}
-use Rattle.fit_law.specs.Fits.{CanRun}
-use Rattle.checked_runs.proofs.Plans.{can_run}
-use Rattle.world_safety.proofs.Law.{run-good, run-safe}
+use Rattle.law_scripts.proofs.ReadChecked.{reads_checked}
+use Rattle.law_settling_whole.proofs.Whole.{healed-settles, crashless-settles}
+use Rattle.law_fit.specs.Fits.{CanRun}
+use Rattle.law_checked_runs.proofs.Plans.{can_run}
+use Rattle.law_safety.proofs.Law.{run-good, run-safe}
 use Rattle.world_model.specs.Worlds.{run, all_settled}
 use Rattle.world_model.specs.Schedules.{lock_of, quiet_limit}
-use Rattle.schedule_law.specs.Journals.{phases_in}
-use Rattle.schedule_law.proofs.Lockstep.{lock-live}
-use Rattle.schedule_law.proofs.Timely.{live-ends}
+use Rattle.law_schedules.specs.Journals.{phases_in}
+use Rattle.law_schedules.proofs.Lockstep.{lock-live}
+use Rattle.law_schedules.proofs.Timely.{live-ends}
 use Rattle.borealis_top.specs.declared.command.Reading.{Reading}
 use Rattle.borealis_top.specs.declared.command.Reading.TheVariants.{Run, Check, Print, Ideal}
 use Rattle.borealis_top.specs.Ends.{run_of, IsGoodRun, Holds}

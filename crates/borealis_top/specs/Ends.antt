@@ -12,10 +12,10 @@ use Rattle.load_gen.specs.Generated.{generated}
 use Rattle.world_model.specs.Worlds.{World, Sums, run, all_settled}
 use Rattle.world_model.specs.Safe.{IsSafe}
 use Rattle.world_model.specs.Schedules.{lock_of, is_live, quiet_limit}
-use Rattle.schedule_law.specs.Journals.{phases_in}
-use Rattle.healing_law.specs.Healing.{heals}
-use Rattle.lock_law.specs.Calm.{IsCalm}
-use Rattle.calm_law.specs.Crashes.{has_no_crash}
+use Rattle.law_schedules.specs.Journals.{phases_in}
+use Rattle.law_healing.specs.Healing.{heals}
+use Rattle.law_lockstep.specs.Calm.{IsCalm}
+use Rattle.law_calm.specs.Crashes.{has_no_crash}
 use Rattle.world_core.specs.Runs.{excess}
 use Rattle.report.specs.Text.{report_text, report_short, ideal_text}
 use Rattle.client_reports.specs.Json.{report_json}

@@ -1,7 +1,7 @@
 //! What is written of a script.
 ghost use Rattle.std.specs.Prelude.{◌≡◌, false, IfOk};
 ghost use Rattle.ideal_run.specs.IdealPlans.{IsIdealPlan};
-ghost use Rattle.fit_law.specs.Fits.{CanRun};
+ghost use Rattle.law_fit.specs.Fits.{CanRun};
 ghost use Rattle.client_reports.specs.Json.{HasPlainNames};
 ghost use Rattle.world_core.specs.Runs.{world_of};
 ghost use Rattle.borealis_top.specs.Ends.{IsAnswer, report_as};

@@ -4,7 +4,7 @@ use Rattle.dpc_model.specs.declared.messages.Event.{Event}
 use Rattle.dpc_model.specs.declared.plans.Plan.{Plan}
 use Rattle.world_model.specs.Worlds.{World, Sums, new_world, happens, run_from, run, sums_after, passes_limit}
 use Rattle.world_core.specs.Runs.{excess_from}
-use Rattle.world_safety.proofs.Growing.{event-grows}
+use Rattle.law_safety.proofs.Growing.{event-grows}
 
 -- where there was one, it is the same of more events
 pub excess-more : (w : World) (es fs : List Event) (s : Sums) → excess_from w es ≡ Some s → excess_from w (es ++ fs) ≡ Some s

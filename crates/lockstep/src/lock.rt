@@ -1,7 +1,7 @@
 //! The run of a script by one thread.
 ghost use Rattle.std.specs.Prelude.{◌≡◌, ℕ, false, Some, None, Err, IfOk};
 ghost use Rattle.world_model.specs.Schedules.{lock_of};
-ghost use Rattle.fit_law.specs.Fits.{CanRun};
+ghost use Rattle.law_fit.specs.Fits.{CanRun};
 ghost use Rattle.world_core.specs.Runs.{excess};
 ghost use Rattle.lockstep.specs.declared.faults.RunFault.TheVariants as fault;
 

@@ -24,8 +24,8 @@ use Rattle.node_model.specs.Mails.{Plain, Mail, mail, mails, in_actor_order, to_
 use Rattle.node_model.specs.Nodes.{Home, spec_of, streams_of, own_readers, PlainNode}
 use Rattle.node_model.specs.NodeSteps.{peers_of, done_at, acks_from, beat_of, beats, announcing_step}
 use Rattle.node_model.specs.Views.{inputs_of, outputs_of}
-use Rattle.node_laws.specs.Fitting.{IsFit}
-use Rattle.node_laws.proofs.Viewed.{inlet-at}
+use Rattle.law_node.specs.Fitting.{IsFit}
+use Rattle.law_node.proofs.Viewed.{inlet-at}
 use Rattle.node_core.specs.declared.packets.Mail as code_mail
 use Rattle.node_core.specs.Standing.{NodeValue, StandsForNode, AreMails}
 use Rattle.node_core.specs.Stepping.{IsSound, Steps, plain_mail, beat_with}

@@ -11,8 +11,8 @@ use Rattle.dpc_model.proofs.Mapped.{mapped_to}
 use Rattle.node_model.specs.Mails.{Mail, mail, mails}
 use Rattle.node_model.specs.Nodes.{Home, streams_of, PlainNode}
 use Rattle.node_model.specs.NodeSteps.{with_port, choice_step}
-use Rattle.node_laws.specs.Fitting.{IsFit}
-use Rattle.node_laws.proofs.FitNodes.{fit-choice-at}
+use Rattle.law_node.specs.Fitting.{IsFit}
+use Rattle.law_node.proofs.FitNodes.{fit-choice-at}
 use Rattle.node_core.specs.declared.packets.Mail as code_mail
 use Rattle.node_core.specs.Standing.{NodeValue, StandsForNode, AreMails}
 use Rattle.node_core.specs.Stepping.{Steps, choice_at_port}

@@ -4,15 +4,15 @@ use Rattle.std.proofs.lemmas.Grind.{common_steps}
 use Rattle.dpc_model.specs.PartStands.{at_cursor}
 use Rattle.dpc_model.specs.declared.tuples.Tuple.{Tuple}
 use Rattle.dpc_model.specs.declared.tuples.Tagged.{Tagged}
-use Rattle.bucket_laws.specs.Series.{buckets_from, AreReady}
+use Rattle.law_buckets.specs.Series.{buckets_from, AreReady}
 use Rattle.fragment_mill.specs.Mills.{MillState}
 use Rattle.mill_work.specs.Milling.{OrderValue}
 use Rattle.pipeline.specs.Committing.{ready_in, CanMillReady, IsAt, IsDone, CanPut}
 use Rattle.node_model.specs.Nodes.{Home, spec_of, buckets_of, PlainNode, ready}
 use Rattle.node_model.specs.Views.{inputs_of, outputs_of}
-use Rattle.node_laws.specs.Fitting.{IsFit}
-use Rattle.node_laws.proofs.Buckets.{buckets-are}
-use Rattle.node_laws.proofs.Fits.{are-ready, some-ready}
+use Rattle.law_node.specs.Fitting.{IsFit}
+use Rattle.law_node.proofs.Buckets.{buckets-are}
+use Rattle.law_node.proofs.Fits.{are-ready, some-ready}
 use Rattle.dpc_model.specs.Limits.{most_milled}
 use Rattle.node_core.specs.declared.faults.Point.{Point}
 use Rattle.node_core.specs.declared.faults.CommitFault.{CommitFault}

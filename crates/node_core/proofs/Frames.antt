@@ -15,8 +15,8 @@ use Rattle.node_links.specs.Linking.{LinksValue}
 use Rattle.node_links.specs.Laws.{KnowsNeighbours}
 use Rattle.pipeline.specs.Flowing.{PipelineValue, StandsForData, IsSetAs, stream_at}
 use Rattle.pipeline.specs.Recovery.{IsSetFor}
-use Rattle.node_laws.proofs.Stepped.{made_by}
-use Rattle.node_laws.proofs.Viewed.{made_of, stable-is}
+use Rattle.law_node.proofs.Stepped.{made_by}
+use Rattle.law_node.proofs.Viewed.{made_of, stable-is}
 use Rattle.node_core.specs.Standing.{NodeValue, StandsForNode}
 
 -- ---- what is set

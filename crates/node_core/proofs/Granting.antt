@@ -12,8 +12,8 @@ use Rattle.pipeline.specs.declared.snapshots.Snapshot.{Snapshot}
 use Rattle.node_model.specs.Nodes.{Home, PlainNode, out_stable}
 use Rattle.node_model.specs.NodeSteps.{silent_step, enter_step, after_adoption, on_grant, on_snap, on_message, packet_step, with_marks_ended}
 use Rattle.node_model.specs.Views.{neighbours_of}
-use Rattle.node_laws.specs.Fitting.{IsFit, IsFitPacket}
-use Rattle.node_laws.proofs.FitNodes.{fit-marks}
+use Rattle.law_node.specs.Fitting.{IsFit, IsFitPacket}
+use Rattle.law_node.proofs.FitNodes.{fit-marks}
 use Rattle.node_core.specs.declared.packets.Mail as code_mail
 use Rattle.node_core.specs.declared.packets.Packet as code
 use Rattle.node_core.specs.declared.packets.Packet.TheVariants as packet

@@ -7,17 +7,17 @@ use Rattle.dpc_model.specs.Sessions.{batches_of}
 use Rattle.dpc_model.specs.declared.messages.Message.{Message}
 use Rattle.dpc_model.specs.declared.tuples.Item.{Item}
 use Rattle.sunion.specs.Unions.{after_advancing}
-use Rattle.bucket_laws.specs.Series.{AreReady}
-use Rattle.bucket_laws.proofs.Advancing.{ready-buckets-advance}
+use Rattle.law_buckets.specs.Series.{AreReady}
+use Rattle.law_buckets.proofs.Advancing.{ready-buckets-advance}
 use Rattle.pipeline.specs.Recovery.{IsSetFor}
 use Rattle.pipeline.specs.Flowing.{PipelineValue, StandsForData, IsSetAs, IsMilled, CanMill as CanMillPath, stream_at, items_between, outputs_given}
 use Rattle.node_model.specs.Mails.{Mail}
 use Rattle.node_model.specs.Nodes.{Home, spec_of, own_readers, PlainNode}
 use Rattle.node_model.specs.NodeSteps.{mill_step}
 use Rattle.node_model.specs.Views.{inputs_of, outputs_of, neighbours_of}
-use Rattle.node_laws.proofs.FitNodes.{node-ready}
-use Rattle.node_laws.proofs.Stepped.{made_by, ends_by, mill_items, mill-inputs, mill-sends, mill-outputs}
-use Rattle.node_laws.proofs.Viewed.{made_of}
+use Rattle.law_node.proofs.FitNodes.{node-ready}
+use Rattle.law_node.proofs.Stepped.{made_by, ends_by, mill_items, mill-inputs, mill-sends, mill-outputs}
+use Rattle.law_node.proofs.Viewed.{made_of}
 use Rattle.node_core.specs.declared.packets.Mail as code_mail
 use Rattle.node_core.specs.Milling.{CanMill, MillSteps, corrected}
 use Rattle.node_core.specs.Standing.{NodeValue, StandsForNode, AreMails}

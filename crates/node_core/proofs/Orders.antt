@@ -6,15 +6,15 @@ use Rattle.dpc_model.specs.Lists.{nth}
 use Rattle.dpc_model.specs.PartStands.{at_cursor}
 use Rattle.dpc_model.specs.declared.tuples.Tagged.{Tagged}
 use Rattle.checkpoint_redo.specs.Keeping.{AcceptsAll}
-use Rattle.bucket_laws.specs.Series.{buckets_from, AreReady}
-use Rattle.bucket_laws.proofs.Accepted.{buckets-accepted, count-buckets}
+use Rattle.law_buckets.specs.Series.{buckets_from, AreReady}
+use Rattle.law_buckets.proofs.Accepted.{buckets-accepted, count-buckets}
 use Rattle.fragment_mill.specs.Mills.{MillState}
 use Rattle.mill_work.specs.Milling.{OrderValue}
 use Rattle.pipeline.specs.Flowing.{IsMillOf}
 use Rattle.pipeline.proofs.Work.{cursor-mill}
 use Rattle.node_model.specs.Nodes.{Home, spec_of, PlainNode}
 use Rattle.node_model.specs.Views.{inputs_of}
-use Rattle.node_laws.proofs.Buckets.{buckets-are}
+use Rattle.law_node.proofs.Buckets.{buckets-are}
 use Rattle.node_core.specs.Milling.{CanMill, next_buckets, CanBeMilled}
 use Rattle.node_core.specs.Standing.{NodeValue}
 use Rattle.node_core.proofs.Milled.{ready-at}

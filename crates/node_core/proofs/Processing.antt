@@ -14,17 +14,17 @@ use Rattle.dpc_model.specs.declared.operators.OpSpec.{OpSpec}
 use Rattle.dpc_model.specs.declared.tuples.Item.{Item}
 use Rattle.dpc_model.specs.NodeStates.{is_stabilization}
 use Rattle.sunion.specs.Unions.{held_in, last_due_in, after_advancing}
-use Rattle.bucket_laws.specs.Series.{AreReady, CanClose}
+use Rattle.law_buckets.specs.Series.{AreReady, CanClose}
 use Rattle.pipeline.specs.Flowing.{PipelineValue, StandsForData, IsSetAs, CanProcess, IsProcessedTo, stream_at, items_between, processed_items, outputs_given, count_upto, stably_upto, after_processing}
 use Rattle.node_model.specs.Mails.{Stepped, Mail, to_readers}
 use Rattle.node_model.specs.Nodes.{Home, spec_of, own_readers, buckets_of, PlainNode, due_at, due_view}
 use Rattle.node_model.specs.NodeSteps.{silent_step, processing_upto, processing_step}
 use Rattle.node_model.specs.Views.{inputs_of, outputs_of}
-use Rattle.node_laws.specs.Fitting.{IsFit}
-use Rattle.node_laws.proofs.Buckets.{held-in-is}
-use Rattle.node_laws.proofs.Fits.{due-lies, can-close, can-advance}
-use Rattle.node_laws.proofs.Stepped.{made_by, upto_items, upto-inputs, upto-sends, upto-outputs}
-use Rattle.node_laws.proofs.Viewed.{made_of}
+use Rattle.law_node.specs.Fitting.{IsFit}
+use Rattle.law_node.proofs.Buckets.{held-in-is}
+use Rattle.law_node.proofs.Fits.{due-lies, can-close, can-advance}
+use Rattle.law_node.proofs.Stepped.{made_by, upto_items, upto-inputs, upto-sends, upto-outputs}
+use Rattle.law_node.proofs.Viewed.{made_of}
 use Rattle.node_core.specs.declared.packets.Mail as code_mail
 use Rattle.node_core.specs.Standing.{NodeValue, StandsForNode, AreMails}
 use Rattle.node_core.specs.Stepping.{IsSound, Steps, plain_mail}

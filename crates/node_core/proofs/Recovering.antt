@@ -8,7 +8,7 @@ use Rattle.dpc_model.specs.Lists.{nth}
 use Rattle.dpc_model.specs.Sessions.{batches_of, with_batches}
 use Rattle.dpc_model.specs.declared.messages.Message.{Message}
 use Rattle.dpc_model.specs.declared.tuples.Item.TheVariants.{Undo}
-use Rattle.node_laws.specs.Fitting.{IsFit}
+use Rattle.law_node.specs.Fitting.{IsFit}
 use Rattle.dpc_model.specs.declared.messages.NodeState.TheVariants.{Stable, Stabilization}
 use Rattle.dpc_model.specs.declared.tuples.Tuple.{Tuple}
 use Rattle.node_model.specs.Mails.{Snap}
@@ -24,7 +24,7 @@ use Rattle.sunion.specs.Laws.{inlets_anew}
 use Rattle.node_model.specs.Stands.{SnapValue}
 use Rattle.pipeline.specs.Flowing.{PipelineValue, StandsForData, IsSetAs, IsUndone, stream_at}
 use Rattle.pipeline.specs.Recovery.{StandsForSnapshot, snap_of, CanAdopt as CanAdoptPath, lost_inputs, lost_outputs, adopted_inputs, adopted_outputs}
-use Rattle.node_laws.proofs.Viewed.{inlets, mapped-inlets, done-is}
+use Rattle.law_node.proofs.Viewed.{inlets, mapped-inlets, done-is}
 use Rattle.node_core.specs.Standing.{NodeValue, StandsForNode, AreMails}
 use Rattle.node_core.specs.Stepping.{CanAdopt, taken_back, plain_mail}
 use Rattle.node_core.proofs.Mailing.{readers-mails}

@@ -12,7 +12,7 @@ use Rattle.node_model.specs.Nodes.{Home, PlainNode, bucket_of, ready}
 use Rattle.node_model.specs.NodeSteps.{mill_step}
 use Rattle.node_core.specs.declared.faults.Point.{Point}
 use Rattle.node_core.specs.declared.packets.Mail as code_mail
-use Rattle.node_laws.specs.Fitting.{IsFit}
+use Rattle.law_node.specs.Fitting.{IsFit}
 use Rattle.node_core.specs.Standing.{NodeValue, StandsForNode, AreMails}
 
 -- so many buckets may be processed at a fit plain node that is stood for

@@ -20,7 +20,7 @@ use Rattle.node_core.specs.declared.packets.Packet.TheVariants as packet
 use Rattle.node_core.specs.declared.sending.Request.{Request}
 use Rattle.node_core.specs.declared.sending.Request.TheVariants as request
 use Rattle.node_core.specs.Standing.{NodeValue, StandsForNode, StandsForPacket, AreMails}
-use Rattle.node_laws.specs.Fitting.{IsFit, IsFitMessage, IsFitPacket, IsFitSnap}
+use Rattle.law_node.specs.Fitting.{IsFit, IsFitMessage, IsFitPacket, IsFitSnap}
 
 -- some fit plain node is stood for
 abbrev pub IsSound : NodeValue → Type 0

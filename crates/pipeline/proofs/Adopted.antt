@@ -17,7 +17,7 @@ use Rattle.dpc_model.specs.declared.operators.OpSpec.{OpSpec}
 use Rattle.dpc_model.specs.declared.sessions.Sub.{Sub}
 use Rattle.dpc_model.specs.declared.tuples.Tagged.{Tagged}
 use Rattle.dpc_model.specs.declared.tuples.Tuple.{Tuple}
-use Rattle.bucket_laws.proofs.Advancing.{open-stream}
+use Rattle.law_buckets.proofs.Advancing.{open-stream}
 use Rattle.checkpoint_redo.specs.Keeping.{KeptValue}
 use Rattle.fragment_mill.specs.Mills.{MillState, MillAfter}
 use Rattle.node_model.specs.Mails.{Snap}

@@ -8,7 +8,7 @@ use Rattle.dpc_model.specs.declared.operators.OpSpec.{OpSpec}
 use Rattle.dpc_model.specs.declared.tuples.Tuple.{Tuple}
 use Rattle.dpc_model.specs.declared.tuples.Tagged.{Tagged}
 use Rattle.dpc_model.proofs.Buckets.{nameless-value}
-use Rattle.bucket_laws.specs.Series.{buckets_from}
+use Rattle.law_buckets.specs.Series.{buckets_from}
 use Rattle.checkpoint_redo.specs.Keeping.{KeptValue, added_by}
 use Rattle.fragment_mill.specs.Mills.{MillState, MillAfter, specs_of}
 use Rattle.mill_work.specs.Milling.{OrderValue}

@@ -12,7 +12,7 @@ use Rattle.dpc_model.proofs.Buckets.{nameless-value}
 use Rattle.checkpoint_redo.specs.Keeping.{added_by}
 use Rattle.fragment_mill.specs.Mills.{MillState, MillAfter, specs_of}
 use Rattle.sunion.specs.Unions.{bucket_in}
-use Rattle.bucket_laws.specs.Series.{buckets_from}
+use Rattle.law_buckets.specs.Series.{buckets_from}
 use Rattle.pipeline.specs.Running.{HasRun}
 
 pub buckets-more : (w : ℕ) (x : Inputs) (k i : ℕ) → buckets_from w x k (i + 1) ≡ buckets_from w x k i ++ bucket_in w x (k + i) ∷ []

@@ -26,9 +26,9 @@ use Rattle.sunion.specs.Laws.{new_inputs}
 use Rattle.sunion.specs.Unions.{new_union, complete_upto_in, after_advancing, after_taking_at, taken_at, IsAccepted}
 use Rattle.sunion.specs.declared.sunion.Verdict.{Verdict}
 use Rattle.sunion.proofs.Lawful.{start-stands}
-use Rattle.bucket_laws.specs.Series.{AreReady, CanClose}
-use Rattle.bucket_laws.proofs.Advancing.{open-stream}
-use Rattle.bucket_laws.proofs.Ordered.{processed-ordered}
+use Rattle.law_buckets.specs.Series.{AreReady, CanClose}
+use Rattle.law_buckets.proofs.Advancing.{open-stream}
+use Rattle.law_buckets.proofs.Ordered.{processed-ordered}
 use Rattle.dpc_model.specs.Operators.{all_of}
 use Rattle.pipeline.specs.Flowing.{PipelineValue, IsMillOf, StandsForData, stably_upto, count_upto, CanMill, CanProcess}
 use Rattle.pipeline.proofs.Work.{open-at}

@@ -11,10 +11,10 @@ use Rattle.dpc_model.specs.declared.tuples.Tuple.{Tuple}
 use Rattle.dpc_model.specs.declared.tuples.Tagged.{Tagged}
 use Rattle.checkpoint_redo.specs.Keeping.{added_by}
 use Rattle.sunion.specs.Unions.{after_advancing}
-use Rattle.bucket_laws.specs.Series.{buckets_from, AreReady, CanClose, after_closing_all}
-use Rattle.bucket_laws.proofs.Accepted.{count-buckets}
-use Rattle.bucket_laws.proofs.Advancing.{ready-buckets-advance, open-stream}
-use Rattle.bucket_laws.proofs.Closing.{buckets-close}
+use Rattle.law_buckets.specs.Series.{buckets_from, AreReady, CanClose, after_closing_all}
+use Rattle.law_buckets.proofs.Accepted.{count-buckets}
+use Rattle.law_buckets.proofs.Advancing.{ready-buckets-advance, open-stream}
+use Rattle.law_buckets.proofs.Closing.{buckets-close}
 use Rattle.soutput.specs.declared.fresh.Fresh.{Fresh}
 use Rattle.soutput.specs.Laws.{stream_with}
 

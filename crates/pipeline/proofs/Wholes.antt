@@ -19,7 +19,7 @@ use Rattle.soutput.specs.declared.fresh.Fresh.{Fresh}
 use Rattle.soutput.specs.Giving.{fresh_items, after_giving, with_batch_of, without_tentative}
 use Rattle.soutput.specs.Laws.{stream_with}
 use Rattle.soutput.proofs.Standing.{undoing-stands as output-undone}
-use Rattle.bucket_laws.proofs.Advancing.{undoing-keeps-stable}
+use Rattle.law_buckets.proofs.Advancing.{undoing-keeps-stable}
 use Rattle.pipeline.specs.Flowing.{PipelineValue, IsMillOf, HasSameSetting, StandsForData, stream_at, items_between, outputs_given, count_upto, stably_upto, after_processing, CanMill, CanProcess, IsMilled, IsProcessedTo, IsUndone}
 use Rattle.pipeline.specs.Running.{StandsForWork, CanAdvance, HasAdvanced, HasClosed}
 use Rattle.pipeline.proofs.Ranges.{ends-below}

@@ -14,10 +14,10 @@ use Rattle.fragment_mill.specs.Mills.{MillState, MillAfter}
 use Rattle.sunion.specs.Values.{SUnionValue}
 use Rattle.sunion.specs.Unions.{held_in, bucket_in, after_advancing, with_closed}
 use Rattle.sunion.proofs.Lawful.{closing-stands}
-use Rattle.bucket_laws.specs.Series.{buckets_from, AreReady, CanClose, after_closing_all}
-use Rattle.bucket_laws.proofs.Accepted.{bucket-fits, count-buckets}
-use Rattle.bucket_laws.proofs.Advancing.{ready-buckets-advance}
-use Rattle.bucket_laws.proofs.Closing.{inputs-close, view-closes}
+use Rattle.law_buckets.specs.Series.{buckets_from, AreReady, CanClose, after_closing_all}
+use Rattle.law_buckets.proofs.Accepted.{bucket-fits, count-buckets}
+use Rattle.law_buckets.proofs.Advancing.{ready-buckets-advance}
+use Rattle.law_buckets.proofs.Closing.{inputs-close, view-closes}
 use Rattle.pipeline.specs.Flowing.{IsMillOf}
 use Rattle.pipeline.specs.Running.{StandsForWork, HasRun, HasAdvanced, HasClosed}
 use Rattle.pipeline.proofs.OneMore.{buckets-more}

@@ -5,7 +5,7 @@ use Rattle.dpc_model.specs.Parts.{Inputs, Outputs}
 use Rattle.dpc_model.specs.PartStands.{at_cursor}
 use Rattle.dpc_model.specs.declared.operators.OpSpec.{OpSpec}
 use Rattle.dpc_model.specs.declared.tuples.Tuple.{Tuple}
-use Rattle.bucket_laws.specs.Series.{AreReady, buckets_from}
+use Rattle.law_buckets.specs.Series.{AreReady, buckets_from}
 use Rattle.fragment_mill.specs.Mills.{MillState, MillAfter, specs_of}
 use Rattle.mill_work.specs.Milling.{OrderValue, IsMilled as IsOrderMilled}
 use Rattle.sunion.specs.Unions.{complete_upto_in}

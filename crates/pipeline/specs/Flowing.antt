@@ -14,7 +14,7 @@ use Rattle.checkpoint_redo.specs.Keeping.{KeptValue}
 use Rattle.fragment_mill.specs.Mills.{MillState, MillAfter, specs_of}
 use Rattle.sunion.specs.Values.{SUnionValue}
 use Rattle.sunion.specs.Unions.{complete_upto_in, after_advancing, without_closed}
-use Rattle.bucket_laws.specs.Series.{AreReady, CanClose, after_closing_all}
+use Rattle.law_buckets.specs.Series.{AreReady, CanClose, after_closing_all}
 
 -- ---- what contracts see, and what it stands for
 

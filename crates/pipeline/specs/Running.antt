@@ -12,7 +12,7 @@ use Rattle.checkpoint_redo.specs.Keeping.{KeptValue, added_by}
 use Rattle.fragment_mill.specs.Mills.{MillState, MillAfter}
 use Rattle.sunion.specs.Values.{SUnionValue}
 use Rattle.sunion.specs.Unions.{after_advancing}
-use Rattle.bucket_laws.specs.Series.{buckets_from, AreReady, after_closing_all}
+use Rattle.law_buckets.specs.Series.{buckets_from, AreReady, after_closing_all}
 use Rattle.pipeline.specs.Flowing.{IsMillOf}
 
 -- the inputs and the operators stand for these inputs

@@ -3,7 +3,7 @@ ghost use Rattle.std.specs.Prelude.{◌≡◌, ◌<◌, List, Some, IfOk, OnOk};
 ghost use Rattle.dpc_model.specs.Parts.{Inputs};
 ghost use Rattle.dpc_model.specs.PartStands.{at_cursor};
 ghost use Rattle.dpc_model.specs.declared.operators.OpSpec.{OpSpec};
-ghost use Rattle.bucket_laws.specs.Series.{CanClose};
+ghost use Rattle.law_buckets.specs.Series.{CanClose};
 ghost use Rattle.pipeline.specs.Flowing.{HasSameSetting};
 ghost use Rattle.pipeline.specs.Running.{StandsForWork, HasClosed};
 

@@ -3,7 +3,7 @@ ghost use Rattle.std.specs.Prelude.{◌≡◌, ◌<◌, List, IfOk};
 ghost use Rattle.dpc_model.specs.Parts.{Inputs, processed};
 ghost use Rattle.dpc_model.specs.declared.operators.OpSpec.{OpSpec};
 ghost use Rattle.sunion.specs.Unions.{StandsForInputs};
-ghost use Rattle.bucket_laws.specs.Series.{buckets_from, AreReady};
+ghost use Rattle.law_buckets.specs.Series.{buckets_from, AreReady};
 ghost use Rattle.pipeline.specs.Flowing.{HasSameSetting};
 ghost use Rattle.pipeline.specs.Running.{StandsForWork, HasRun, CanAdvance, HasAdvanced};
 

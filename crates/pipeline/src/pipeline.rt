@@ -5,7 +5,7 @@ ghost use Rattle.dpc_model.specs.Parts.{Inputs, Outputs};
 ghost use Rattle.dpc_model.specs.PartStands.{at_cursor};
 ghost use Rattle.dpc_model.specs.declared.operators.OpSpec.{OpSpec};
 ghost use Rattle.sunion.specs.Unions.{complete_upto_in};
-ghost use Rattle.bucket_laws.specs.Series.{buckets_from};
+ghost use Rattle.law_buckets.specs.Series.{buckets_from};
 ghost use Rattle.pipeline.specs.Flowing.{StandsForData, CanMill, CanProcess, IsMilled, IsProcessedTo, IsUndone, IsSetAs};
 
 use crate::closing::close;

@@ -8,7 +8,7 @@ ghost use Rattle.dpc_model.specs.declared.sessions.Sub.{Sub};
 ghost use Rattle.fragment_mill.specs.Mills.{MillAfter};
 ghost use Rattle.soutput.specs.Giving.{new_output};
 ghost use Rattle.sunion.specs.Unions.{StandsForInputs, complete_upto_in};
-ghost use Rattle.bucket_laws.specs.Series.{AreReady};
+ghost use Rattle.law_buckets.specs.Series.{AreReady};
 ghost use Rattle.pipeline.specs.Flowing.{IsMillOf, CanMill, CanProcess};
 
 use crate::pipeline::Pipeline;

@@ -3,9 +3,9 @@ use Rattle.std.proofs.Common.{◌≡◌, ℕ, ◌+◌, List, [], ◌∷◌, ◌+
 use Rattle.dpc_model.specs.declared.messages.Event.{Event}
 use Rattle.dpc_model.specs.declared.plans.Plan.{Plan}
 use Rattle.world_model.specs.Worlds.{World, run, sums_after}
-use Rattle.world_safety.proofs.Runs.{run-push}
-use Rattle.fit_law.specs.Fits.{CanRun}
-use Rattle.fit_law.proofs.FitWorlds.{run-world}
+use Rattle.law_safety.proofs.Runs.{run-push}
+use Rattle.law_fit.specs.Fits.{CanRun}
+use Rattle.law_fit.proofs.FitWorlds.{run-world}
 use Rattle.world_parts.specs.Parts.{PartsValue, StandsForWorld}
 use Rattle.world_parts.specs.Events.{IsWorldOf, IsSomeWorld, Happened, WouldPass}
 use Rattle.world_parts.specs.declared.faults.EventFault.{EventFault}

@@ -12,12 +12,12 @@ use Rattle.fragment_mill.specs.Mills.{MillState, MillAfter}
 use Rattle.mill_work.specs.Milling.{OrderValue}
 use Rattle.node_model.specs.Nodes.{Home, PlainNode, ready}
 use Rattle.node_model.specs.Views.{inputs_of}
-use Rattle.node_laws.specs.Fitting.{IsFit}
+use Rattle.law_node.specs.Fitting.{IsFit}
 use Rattle.node_core.specs.declared.faults.Point.{Point}
 use Rattle.node_core.specs.Milling.{IsOrderOf, is_stale}
 use Rattle.node_core.specs.Standing.{NodeValue, StandsForNode}
 use Rattle.world_model.specs.Worlds.{home_of, slot_of, node_at, ready_at}
-use Rattle.fit_law.specs.Fits.{CanRun}
+use Rattle.law_fit.specs.Fits.{CanRun}
 use Rattle.world_parts.specs.Parts.{PartsValue, StandsForWorld}
 use Rattle.world_parts.specs.Handing.{up_node, IsHandedOut, StandsAt, IsTimely, down_point, IsElsewhere, IsStaleAt as IsStaleInParts}
 use Rattle.world_parts.specs.declared.faults.CommitFault.{CommitFault as PartFault}

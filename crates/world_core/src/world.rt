@@ -1,7 +1,7 @@
 //! The world of a run.
 ghost use Rattle.std.specs.Prelude.{◌≡◌, ◌↔◌, ℕ, [], ◌∷◌, ◌++◌, true, false, Err, IfOk, OnOk, OnErr};
 ghost use Rattle.world_model.specs.Worlds.{passes_limit};
-ghost use Rattle.fit_law.specs.Fits.{CanRun};
+ghost use Rattle.law_fit.specs.Fits.{CanRun};
 ghost use Rattle.world_parts.specs.Events.{IsSomeWorld, Happened, WouldPass};
 ghost use Rattle.world_parts.specs.declared.faults.EventFault.TheVariants as part_fault;
 ghost use Rattle.world_core.specs.Runs.{world_of, WouldReach};
@@ -34,7 +34,7 @@ impl Model for World {
     ghost use Rattle.std.specs.Coded.{codes};
     ghost use Rattle.dpc_model.specs.FormulaCode.{coded_formula};
     ghost use Rattle.world_model.specs.Worlds.{run};
-    ghost use Rattle.fit_law.specs.Fits.{CanRun};
+    ghost use Rattle.law_fit.specs.Fits.{CanRun};
     ghost use Rattle.world_parts.specs.Parts.{StandsForWorld};
     ghost use Rattle.world_core.specs.Runs.{RunOf};
 

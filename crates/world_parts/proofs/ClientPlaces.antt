@@ -11,7 +11,7 @@ use Rattle.node_model.specs.Clients.{ClientState, client_after_packet}
 use Rattle.node_core.specs.declared.packets.Packet.TheVariants as packet
 use Rattle.client_fold.specs.Folding.{ClientValue, StandsForClient, Follows, StandForClients}
 use Rattle.world_model.specs.Worlds.{World, happens}
-use Rattle.world_safety.proofs.Worlding.{client-below}
+use Rattle.law_safety.proofs.Worlding.{client-below}
 use Rattle.world_parts.specs.Parts.{PartsValue, StandsForWorld}
 use Rattle.world_parts.specs.Counting.{IsWithinLimits}
 use Rattle.world_parts.specs.Events.{IsSomeWorld, IsComing, IsWorldOf, Happened}

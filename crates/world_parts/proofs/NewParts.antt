@@ -16,9 +16,9 @@ use Rattle.client_fold.specs.Folding.{ClientValue, StandsForClient, StandForClie
 use Rattle.source_core.specs.Emitting.{SourceValue, opening_source}
 use Rattle.source_core.proofs.Staying.{opens}
 use Rattle.world_model.specs.Worlds.{new_world}
-use Rattle.world_safety.proofs.Tests.{lt-of}
-use Rattle.fit_law.specs.Fits.{CanRun}
-use Rattle.fit_law.proofs.Replicas.{few-senders}
+use Rattle.law_safety.proofs.Tests.{lt-of}
+use Rattle.law_fit.specs.Fits.{CanRun}
+use Rattle.law_fit.proofs.Replicas.{few-senders}
 use Rattle.world_parts.specs.Parts.{PartsValue, SlotValue, StandForSources, StandForSlots, StandsForWorld}
 use Rattle.world_parts.specs.Opening.{new_slot, IsNewSlot, AreNewSlots, replicas_below, AreNewClients}
 use Rattle.world_parts.proofs.PartFrames.{read-at}

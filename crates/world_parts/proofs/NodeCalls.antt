@@ -13,7 +13,7 @@ use Rattle.node_model.specs.Mails.{Packet}
 use Rattle.node_model.specs.Nodes.{Home}
 use Rattle.node_core.specs.declared.packets.Mail as code_mail
 use Rattle.world_model.specs.Worlds.{World, Slot, home_of, node_place, link_up, restart_slot}
-use Rattle.fit_law.specs.Fits.{CanRun}
+use Rattle.law_fit.specs.Fits.{CanRun}
 use Rattle.world_parts.specs.Parts.{PartsValue, SlotValue, EnvelopeValue, StandsForSlot, StandsForWorld}
 use Rattle.world_parts.specs.Counting.{with_posted, IsWithinLimits, IsPastLimits, IsTooLong}
 use Rattle.world_parts.specs.Events.{IsSomeWorld, IsComing, Leads, Happened, WouldPass}

@@ -10,7 +10,7 @@ use Rattle.node_model.specs.Mails.{Stepped}
 use Rattle.node_model.specs.Nodes.{PlainNode}
 use Rattle.node_model.specs.NodeSteps.{packet_step, mill_step, tick_step}
 use Rattle.world_model.specs.Worlds.{World, Envelope, Slot, home_of, node_place, sent, slot_of, is_clock, link_up, role_up, crashes, restart_slot, restarts, node_stepped, node_takes, taken_by, comes, node_ticks, ticks, can_mill, node_mills, mills, happens}
-use Rattle.world_safety.proofs.Pointwise.{changed-same}
+use Rattle.law_safety.proofs.Pointwise.{changed-same}
 use Rattle.world_parts.specs.Slots.{still, up_stepped, slot_mills, slot_takes, slot_ticks}
 use Rattle.world_parts.proofs.NodePlaces.{slot-here}
 

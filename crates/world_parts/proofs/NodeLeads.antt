@@ -11,16 +11,16 @@ use Rattle.dpc_model.specs.declared.messages.Event.TheVariants.{Crash, Restart, 
 use Rattle.dpc_model.specs.declared.plans.Plan.{Plan}
 use Rattle.node_model.specs.Mails.{Packet, Stepped}
 use Rattle.node_model.specs.Nodes.{Home, PlainNode}
-use Rattle.node_laws.specs.Fitting.{IsFit, IsFitPacket}
+use Rattle.law_node.specs.Fitting.{IsFit, IsFitPacket}
 use Rattle.node_core.specs.declared.packets.Mail as code_mail
 use Rattle.world_model.specs.Worlds.{World, Envelope, Slot, home_of, node_place, from, link_up, restart_slot, happens}
 use Rattle.world_model.specs.Orderly.{is_fitting}
-use Rattle.world_safety.specs.Plans.{IsCheckedPlan}
-use Rattle.world_safety.specs.Keeps.{IsFineWorld}
-use Rattle.world_safety.proofs.Tests.{both}
-use Rattle.world_safety.proofs.Law.{event-keeps}
-use Rattle.fit_law.specs.Fits.{CanRun}
-use Rattle.fit_law.proofs.FitWorlds.{world-nodes, world-packets}
+use Rattle.law_safety.specs.Plans.{IsCheckedPlan}
+use Rattle.law_safety.specs.Keeps.{IsFineWorld}
+use Rattle.law_safety.proofs.Tests.{both}
+use Rattle.law_safety.proofs.Law.{event-keeps}
+use Rattle.law_fit.specs.Fits.{CanRun}
+use Rattle.law_fit.proofs.FitWorlds.{world-nodes, world-packets}
 use Rattle.world_parts.specs.Parts.{PartsValue, SlotValue, EnvelopeValue, StandsForSlot, StandsForSent, StandsForEnvelope, StandsForWorld}
 use Rattle.world_parts.specs.Counting.{with_posted}
 use Rattle.world_parts.specs.Events.{IsWorldOf, IsSomeWorld, Leads}

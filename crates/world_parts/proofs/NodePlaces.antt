@@ -6,7 +6,7 @@ use Rattle.dpc_model.specs.Actors.{role_of, nodes_of}
 use Rattle.dpc_model.specs.declared.actors.Role.TheVariants.{Node as IsNode}
 use Rattle.dpc_model.specs.declared.plans.Plan.{Plan}
 use Rattle.world_model.specs.Worlds.{World, Envelope, Slot, home_of, node_place, slot_of, items_in, item_count}
-use Rattle.world_safety.proofs.Numbering.{node-at}
+use Rattle.law_safety.proofs.Numbering.{node-at}
 use Rattle.world_parts.specs.Parts.{PartsValue, SlotValue, StandsForSlot, StandForSlots, StandsForWorld}
 
 -- ---- lists of places

@@ -18,8 +18,8 @@ use Rattle.node_core.specs.declared.faults.CommitFault.{CommitFault as NodeFault
 use Rattle.node_core.specs.declared.faults.CommitFault.TheVariants as node_fault
 use Rattle.node_core.specs.Standing.{NodeValue}
 use Rattle.world_model.specs.Worlds.{World, Slot, home_of, node_place, slot_of, ready_in, ready_role, ready_at}
-use Rattle.world_safety.proofs.Numbering.{replica-at}
-use Rattle.fit_law.specs.Fits.{CanRun}
+use Rattle.law_safety.proofs.Numbering.{replica-at}
+use Rattle.law_fit.specs.Fits.{CanRun}
 use Rattle.world_parts.specs.declared.faults.EventFault.{EventFault}
 use Rattle.world_parts.specs.declared.faults.EventFault.TheVariants as event_fault
 use Rattle.world_parts.specs.declared.faults.CommitFault.{CommitFault}

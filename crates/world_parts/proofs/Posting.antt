@@ -22,7 +22,7 @@ use Rattle.node_core.specs.declared.packets.Packet.TheVariants as packet
 use Rattle.node_core.specs.declared.packets.Mail as code_mail
 use Rattle.world_model.specs.Worlds.{World, Envelope, home_of, happens, from, sent, item_count, items_in, passes_limit}
 use Rattle.world_model.specs.Orderly.{is_fitting, packet_way, carries_fitting}
-use Rattle.world_safety.proofs.Tests.{both, eq-of}
+use Rattle.law_safety.proofs.Tests.{both, eq-of}
 use Rattle.world_parts.specs.Parts.{PartsValue, EnvelopeValue, StandsForSent, StandsForEnvelope, StandsForWorld}
 use Rattle.world_parts.specs.Counting.{items_carried, all_carried, posted, with_posted, IsPastLimits, IsWithinLimits, IsTooLong}
 use Rattle.world_parts.specs.Events.{Leads, Happened, WouldPass}

@@ -8,7 +8,7 @@ use Rattle.dpc_model.specs.declared.plans.Plan.{Plan}
 use Rattle.node_model.specs.Nodes.{Home, PlainNode, ready}
 use Rattle.node_core.specs.Standing.{NodeValue, StandsForNode}
 use Rattle.world_model.specs.Worlds.{World, Slot, node_place, home_of, slot_of, node_role, node_at, role_up, is_up, ready_in, ready_role, ready_at}
-use Rattle.world_safety.proofs.Numbering.{node-at}
+use Rattle.law_safety.proofs.Numbering.{node-at}
 use Rattle.world_parts.specs.Parts.{SlotValue, PartsValue, StandsForUp, StandsForSlot, StandForSlots, StandsForWorld}
 use Rattle.world_parts.specs.Telling.{IsNoNode, StandsForRole}
 

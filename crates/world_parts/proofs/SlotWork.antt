@@ -7,7 +7,7 @@ use Rattle.dpc_model.specs.Limits.{most_milled}
 use Rattle.fragment_mill.specs.Mills.{MillState}
 use Rattle.mill_work.specs.Milling.{OrderValue}
 use Rattle.node_model.specs.Nodes.{Home, PlainNode, bucket_of, ready}
-use Rattle.node_laws.specs.Fitting.{IsFit}
+use Rattle.law_node.specs.Fitting.{IsFit}
 use Rattle.node_core.specs.Milling.{CanMillNode, IsOrderOf}
 use Rattle.node_core.specs.Standing.{NodeValue, StandsForNode}
 use Rattle.world_model.specs.Worlds.{Slot, ready_in}

@@ -12,7 +12,7 @@ use Rattle.node_model.specs.Sources.{SourceState}
 use Rattle.node_core.specs.declared.packets.Mail as code_mail
 use Rattle.source_core.specs.Emitting.{SourceValue, IsSourceOf, after_step}
 use Rattle.world_model.specs.Worlds.{World, no_source, source_at, source_stepped, happens}
-use Rattle.world_safety.proofs.Numbering.{source-at, role-split, no-node-source}
+use Rattle.law_safety.proofs.Numbering.{source-at, role-split, no-node-source}
 use Rattle.world_parts.specs.declared.faults.EventFault.{EventFault}
 use Rattle.world_parts.specs.Parts.{PartsValue, StandsForSource, StandForSources, StandsForWorld}
 use Rattle.world_parts.specs.Counting.{with_posted, IsPastLimits, IsWithinLimits, IsTooLong}

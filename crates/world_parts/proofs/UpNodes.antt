@@ -5,11 +5,11 @@ use Rattle.dpc_model.specs.declared.actors.Role.{Role}
 use Rattle.dpc_model.specs.declared.actors.Role.TheVariants.{Source as IsSource, Node as IsNode, Client as IsClient, Nobody}
 use Rattle.dpc_model.specs.declared.plans.Plan.{Plan}
 use Rattle.node_model.specs.Nodes.{Home, PlainNode, ready}
-use Rattle.node_laws.specs.Fitting.{IsFit}
+use Rattle.law_node.specs.Fitting.{IsFit}
 use Rattle.node_core.specs.Standing.{NodeValue, StandsForNode}
 use Rattle.world_model.specs.Worlds.{World, home_of, node_place, slot_of, node_role, node_at, ready_in, ready_role, ready_at}
-use Rattle.fit_law.specs.Fits.{CanRun}
-use Rattle.fit_law.proofs.FitWorlds.{world-nodes}
+use Rattle.law_fit.specs.Fits.{CanRun}
+use Rattle.law_fit.proofs.FitWorlds.{world-nodes}
 use Rattle.world_parts.specs.Parts.{PartsValue, StandsForUp, StandsForWorld}
 use Rattle.world_parts.specs.Telling.{StandsForRole}
 use Rattle.world_parts.specs.Events.{IsWorldOf}

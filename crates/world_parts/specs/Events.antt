@@ -5,7 +5,7 @@ use Rattle.dpc_model.specs.declared.actors.Role.{Role}
 use Rattle.dpc_model.specs.declared.messages.Event.{Event}
 use Rattle.dpc_model.specs.declared.plans.Plan.{Plan}
 use Rattle.world_model.specs.Worlds.{World, happens, link_up, sums_after, passes_limit}
-use Rattle.world_safety.specs.Keeps.{IsFineWorld}
+use Rattle.law_safety.specs.Keeps.{IsFineWorld}
 use Rattle.world_parts.specs.Parts.{PartsValue, EnvelopeValue, StandsForWorld}
 
 -- it stands for a plain world that is safe and orderly

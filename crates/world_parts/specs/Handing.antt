@@ -9,7 +9,7 @@ use Rattle.dpc_model.specs.declared.plans.Plan.{Plan}
 use Rattle.fragment_mill.specs.Mills.{MillState}
 use Rattle.mill_work.specs.Milling.{OrderValue}
 use Rattle.node_model.specs.Nodes.{Home, PlainNode}
-use Rattle.node_laws.specs.Fitting.{IsFit}
+use Rattle.law_node.specs.Fitting.{IsFit}
 use Rattle.node_core.specs.declared.faults.Point.{Point}
 use Rattle.node_core.specs.declared.faults.CommitFault.{CommitFault as NodeFault}
 use Rattle.node_core.specs.declared.faults.CommitFault.TheVariants as node_fault

@@ -6,7 +6,7 @@ ghost use Rattle.dpc_model.specs.declared.plans.Plan.{Plan};
 ghost use Rattle.node_model.specs.Nodes.{no_fragment};
 ghost use Rattle.source_core.specs.Emitting.{opening_source};
 ghost use Rattle.world_model.specs.Worlds.{new_world, is_clock};
-ghost use Rattle.fit_law.specs.Fits.{CanRun};
+ghost use Rattle.law_fit.specs.Fits.{CanRun};
 ghost use Rattle.world_parts.specs.Parts.{StandsForWorld};
 ghost use Rattle.world_parts.specs.Opening.{IsNewSlot, AreNewSlots, replicas_below, AreNewClients};
 

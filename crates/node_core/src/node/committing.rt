@@ -3,7 +3,7 @@ ghost use Rattle.std.specs.Prelude.{◌≡◌, ◌↔◌, ◌≤◌, false, true
 ghost use Rattle.node_model.specs.Nodes.{Home, PlainNode, spec_of};
 ghost use Rattle.node_model.specs.Views.{inputs_of, outputs_of};
 ghost use Rattle.pipeline.specs.Committing.{CanPut};
-ghost use Rattle.node_laws.specs.Fitting.{IsFit};
+ghost use Rattle.law_node.specs.Fitting.{IsFit};
 ghost use Rattle.node_core.specs.declared.faults.Point.{Point};
 ghost use Rattle.node_core.specs.declared.faults.CommitFault.TheVariants as commit;
 ghost use Rattle.node_core.specs.Milling.{CanMill, CanMillNode, MillSteps, Fits, IsBeside, is_stale, IsCommitted, WasStale};

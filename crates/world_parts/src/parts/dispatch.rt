@@ -2,7 +2,7 @@
 ghost use Rattle.std.specs.Prelude.{◌≡◌, ℕ, Err, OnOk};
 ghost use Rattle.dpc_model.specs.declared.messages.Event.TheVariants as event;
 ghost use Rattle.world_parts.specs.declared.faults.EventFault.TheVariants as fault;
-ghost use Rattle.fit_law.specs.Fits.{CanRun};
+ghost use Rattle.law_fit.specs.Fits.{CanRun};
 ghost use Rattle.world_parts.specs.Events.{IsSomeWorld, Happened, WouldPass};
 
 use crate::faults::EventFault;

@@ -3,7 +3,7 @@ ghost use Rattle.std.specs.Prelude.{◌≡◌, ◌↔◌, ℕ, length, Err, IsNo
 ghost use Rattle.dpc_model.specs.declared.messages.Event.TheVariants as event;
 ghost use Rattle.node_core.specs.declared.faults.Point.{Point};
 ghost use Rattle.world_model.specs.Worlds.{World, ready_at};
-ghost use Rattle.fit_law.specs.Fits.{CanRun};
+ghost use Rattle.law_fit.specs.Fits.{CanRun};
 ghost use Rattle.world_parts.specs.declared.faults.CommitFault.TheVariants as fault;
 ghost use Rattle.world_parts.specs.Events.{IsWorldOf, IsSomeWorld, Happened, WouldPass};
 ghost use Rattle.world_parts.specs.Handing.{IsHandedOut, IsTimely, IsStaleAt};

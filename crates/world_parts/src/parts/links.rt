@@ -4,7 +4,7 @@ ghost use Rattle.dpc_model.specs.Lists.{list_any};
 ghost use Rattle.world_model.specs.Worlds.{World, same_pair, link_up};
 ghost use Rattle.world_parts.specs.Parts.{StandsForWorld};
 ghost use Rattle.dpc_model.specs.declared.messages.Event.TheVariants as event;
-ghost use Rattle.fit_law.specs.Fits.{CanRun};
+ghost use Rattle.law_fit.specs.Fits.{CanRun};
 ghost use Rattle.world_parts.specs.Events.{IsSomeWorld, Happened};
 
 use crate::parts::Parts;

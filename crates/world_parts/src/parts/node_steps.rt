@@ -4,7 +4,7 @@ ghost use Rattle.dpc_model.specs.Actors.{role_of};
 ghost use Rattle.dpc_model.specs.declared.actors.Role.TheVariants.{Node as IsNode};
 ghost use Rattle.dpc_model.specs.declared.messages.Event.TheVariants as event;
 ghost use Rattle.world_parts.specs.declared.faults.EventFault.TheVariants as fault;
-ghost use Rattle.fit_law.specs.Fits.{CanRun};
+ghost use Rattle.law_fit.specs.Fits.{CanRun};
 ghost use Rattle.world_parts.specs.Events.{IsSomeWorld, IsComing, Happened, WouldPass};
 
 use crate::faults::EventFault;

@@ -2,7 +2,7 @@
 ghost use Rattle.std.specs.Prelude.{◌≡◌, OnOk};
 ghost use Rattle.dpc_model.specs.declared.messages.Event.TheVariants as event;
 ghost use Rattle.world_model.specs.Worlds.{node_place};
-ghost use Rattle.fit_law.specs.Fits.{CanRun};
+ghost use Rattle.law_fit.specs.Fits.{CanRun};
 ghost use Rattle.world_parts.specs.Events.{IsSomeWorld, Happened};
 
 use crate::parts::Parts;

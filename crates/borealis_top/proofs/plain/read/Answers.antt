@@ -2,7 +2,7 @@
 use Rattle.std.proofs.Common.{◌≡◌, inr, Err, true, false, ap, arith}
 use Rattle.script_rules.specs.Reading.{script_in}
 use Rattle.borealis_top.proofs.Ideals.{read_ideal}
-use Rattle.checked_runs.proofs.Names.{reads_have_plain_names}
+use Rattle.law_checked_runs.proofs.Names.{reads_have_plain_names}
 use Rattle.borealis_top.proofs.Runs.{read_can_run}
 use Rattle.borealis_top.proofs.Ended.{WasRead, long-refusal, long-whole, read-in_part, read-Answers, told-ReadEnds, open-ReadEnds, refused-ReadEnds, Stays-same}
 use Rattle.borealis_top.proofs.plain.read.Goals as goal

@@ -6,7 +6,7 @@ use Rattle.dpc_model.specs.declared.tuples.Tuple.{Tuple}
 use Rattle.fragment_mill.specs.Mills.{MillState}
 use Rattle.sunion.specs.Values.{SUnionValue}
 use Rattle.dpc_model.specs.Engines.{FitsBucket}
-use Rattle.bucket_laws.specs.Series.{buckets_from, after_closing_all}
+use Rattle.law_buckets.specs.Series.{buckets_from, after_closing_all}
 use Rattle.pipeline.specs.Running.{HasRun}
 use Rattle.pipeline.proofs.Work.{next-run, fits-run, run-next, view-run, ports-more, work-closed, view-number, view-is, closed-bucket, can-end, can-number}
 use Rattle.pipeline.proofs.closing.close_some.Goals as goal

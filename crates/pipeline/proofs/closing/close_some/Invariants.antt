@@ -3,7 +3,7 @@ use Rattle.dpc_model.specs.Parts.{Inputs, view_of, processed_view}
 use Rattle.dpc_model.specs.PartStands.{at_cursor}
 use Rattle.dpc_model.specs.declared.operators.OpSpec.{OpSpec}
 use Rattle.sunion.specs.Unions.{StandsForInputs}
-use Rattle.bucket_laws.specs.Series.{buckets_from, CanClose, after_closing_all}
+use Rattle.law_buckets.specs.Series.{buckets_from, CanClose, after_closing_all}
 use Rattle.pipeline.specs.Flowing.{HasSameSetting}
 use Rattle.pipeline.specs.Running.{StandsForWork, HasRun}
 use Rattle.pipeline.proofs.closing.close_some.Given as goal

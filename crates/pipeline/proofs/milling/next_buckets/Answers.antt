@@ -1,7 +1,7 @@
 use Rattle.std.proofs.Common.{rules, ◌≡◌, ◌+◌, ◌++◌, ◌∷◌, [], ◌∙◌, ℕ, List, ap, sym}
 use Rattle.dpc_model.specs.declared.tuples.Tagged.{Tagged}
 use Rattle.sunion.specs.Unions.{bucket_in}
-use Rattle.bucket_laws.specs.Series.{buckets_from}
+use Rattle.law_buckets.specs.Series.{buckets_from}
 use Rattle.pipeline.proofs.OneMore.{buckets-more}
 use Rattle.pipeline.proofs.milling.next_buckets.Goals as goal
 

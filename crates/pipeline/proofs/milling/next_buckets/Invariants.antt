@@ -1,7 +1,7 @@
 use Rattle.std.proofs.Common.{◌≡◌}
 use Rattle.dpc_model.specs.Parts.{Inputs}
 use Rattle.sunion.specs.Unions.{StandsForInputs}
-use Rattle.bucket_laws.specs.Series.{buckets_from, AreReady}
+use Rattle.law_buckets.specs.Series.{buckets_from, AreReady}
 use Rattle.pipeline.proofs.milling.next_buckets.Given as goal
 
 -- the first i buckets are listed

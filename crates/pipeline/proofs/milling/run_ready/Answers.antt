@@ -1,7 +1,7 @@
 use Rattle.std.proofs.Common.{◌≡◌, ◌+◌, ◌*◌, ◌^◌, ◌<◌, ◌∙◌, ℕ, ap, subst, arith}
 use Rattle.dpc_model.specs.Parts.{processed}
 use Rattle.sunion.specs.Unions.{bucket_in}
-use Rattle.bucket_laws.specs.Series.{buckets_from}
+use Rattle.law_buckets.specs.Series.{buckets_from}
 use Rattle.pipeline.specs.Running.{HasRun}
 use Rattle.pipeline.proofs.Ranges.{ends-below}
 use Rattle.pipeline.proofs.Work.{next-run, fits-run, run-next}

@@ -1,7 +1,7 @@
 use Rattle.std.proofs.Common.{◌≡◌, List}
 use Rattle.dpc_model.specs.Parts.{Inputs, processed}
 use Rattle.dpc_model.specs.declared.operators.OpSpec.{OpSpec}
-use Rattle.bucket_laws.specs.Series.{buckets_from, AreReady}
+use Rattle.law_buckets.specs.Series.{buckets_from, AreReady}
 use Rattle.pipeline.specs.Running.{StandsForWork, HasRun}
 use Rattle.pipeline.proofs.milling.run_ready.Given as goal
 

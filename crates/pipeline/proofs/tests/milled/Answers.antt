@@ -1,6 +1,6 @@
 use Rattle.std.proofs.Common.{ℕ, ◌∙◌, subst}
 use Rattle.sunion.specs.Unions.{after_advancing}
-use Rattle.bucket_laws.specs.Series.{AreReady}
+use Rattle.law_buckets.specs.Series.{AreReady}
 use Rattle.pipeline.proofs.Opening.{can-close-next}
 use Rattle.pipeline.proofs.tests.milled.Goals as goal
 

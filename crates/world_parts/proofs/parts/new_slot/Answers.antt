@@ -1,4 +1,4 @@
-use Rattle.fit_law.proofs.Replicas.{replica-made}
+use Rattle.law_fit.proofs.Replicas.{replica-made}
 use Rattle.world_parts.proofs.parts.new_slot.Goals as goal
 
 pub new-requires : goal.new-requires

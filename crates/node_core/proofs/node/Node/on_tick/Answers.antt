@@ -1,7 +1,7 @@
 use Rattle.std.proofs.Common.{rules, ◌≡◌, ◌∙◌, ◌++◌, List, true, false, sym, ap, subst}
 use Rattle.node_links.specs.Linking.{nobody_can_help}
 use Rattle.node_model.specs.NodeSteps.{with_fresh_start, tick_step}
-use Rattle.node_laws.proofs.FitNodes.{fit-afresh}
+use Rattle.law_node.proofs.FitNodes.{fit-afresh}
 use Rattle.node_core.specs.declared.packets.Mail.{Mail}
 use Rattle.node_core.specs.Standing.{NodeValue}
 use Rattle.node_core.specs.Stepping.{Steps}

@@ -1,7 +1,7 @@
 use Rattle.std.proofs.Common.{◌≡◌, ◌∙◌, sym, ap, subst}
 use Rattle.mill_work.specs.Milling.{OrderValue}
 use Rattle.fragment_mill.specs.Mills.{MillState}
-use Rattle.bucket_laws.specs.Series.{buckets_from}
+use Rattle.law_buckets.specs.Series.{buckets_from}
 use Rattle.node_model.specs.Nodes.{Home, PlainNode, spec_of}
 use Rattle.node_model.specs.Views.{inputs_of, outputs_of}
 use Rattle.node_core.specs.Milling.{CanMill, CanMillNode, IsOrderOf}

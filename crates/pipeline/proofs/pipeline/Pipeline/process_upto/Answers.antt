@@ -2,7 +2,7 @@ use Rattle.std.proofs.Common.{◌≡◌, ◌+◌, ◌-◌, ◌*◌, ◌^◌, ◌
 use Rattle.std.specs.Prelude.{if◌then◌else◌}
 use Rattle.dpc_model.specs.declared.tuples.Tuple.{Tuple}
 use Rattle.sunion.specs.Unions.{after_advancing}
-use Rattle.bucket_laws.specs.Series.{CanClose}
+use Rattle.law_buckets.specs.Series.{CanClose}
 use Rattle.pipeline.specs.Flowing.{PipelineValue, count_upto, CanProcess, IsProcessedTo, IsSetAs}
 use Rattle.pipeline.specs.Running.{CanAdvance, HasAdvanced, HasClosed}
 use Rattle.pipeline.specs.contracts.pipeline.Pipeline.{the_view}

@@ -1,6 +1,6 @@
 use Rattle.std.proofs.Common.{rules, ◌<◌, length, sym, subst, ◌∙◌}
 use Rattle.dpc_model.specs.declared.messages.Event.TheVariants as event
-use Rattle.fit_law.proofs.Replicas.{actor-made}
+use Rattle.law_fit.proofs.Replicas.{actor-made}
 use Rattle.world_parts.specs.Parts.{PartsValue}
 use Rattle.world_parts.specs.Events.{Happened}
 use Rattle.world_parts.proofs.Posting.{happened}

@@ -1,5 +1,0 @@
-use Rattle.calm_law.proofs.Running.{none-recovers}
-use Rattle.calm_law.proofs.without_crashes_none_recovers.Goals as goal
-
-pub returns : goal.returns
-returns c = λ plan events checked none. none-recovers plan checked events none

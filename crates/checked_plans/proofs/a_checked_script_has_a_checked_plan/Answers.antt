@@ -1,6 +1,0 @@
-use Rattle.script_rules.proofs.SaysItself.{checked_has_facts}
-use Rattle.checked_plans.proofs.Plans.{checked_plan}
-use Rattle.checked_plans.proofs.a_checked_script_has_a_checked_plan.Goals as goal
-
-pub returns : goal.returns
-returns c = λ s checked. checked_plan s (checked_has_facts s checked)

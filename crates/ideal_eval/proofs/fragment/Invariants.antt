@@ -1,6 +1,0 @@
-use Rattle.std.proofs.Common.{◌≡◌, [], take}
-use Rattle.dpc_model.specs.Fragments.{outputs_after, serial}
-use Rattle.ideal_eval.proofs.fragment.Given as goal
-
-abbrev pub invariant-loop-op : goal.invariant-loop-op
-invariant-loop-op l = l.outputs.items ≡ outputs_after [] (take l.op-index l.ops) (serial l.ports) l.b

@@ -1,6 +1,0 @@
-use Rattle.std.proofs.Common.{◌≡◌, take}
-use Rattle.dpc_model.specs.Operators.{all_of}
-use Rattle.ideal_eval.proofs.operators.union.Given as goal
-
-abbrev pub invariant-loop-input : goal.invariant-loop-input
-invariant-loop-input l = l.out.items ≡ all_of (take l.input-index l.inputs)

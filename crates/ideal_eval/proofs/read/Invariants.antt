@@ -1,6 +1,0 @@
-use Rattle.std.proofs.Common.{◌≡◌, map, take}
-use Rattle.dpc_model.specs.Fragments.{read_wire, serial}
-use Rattle.ideal_eval.proofs.read.Given as goal
-
-abbrev pub invariant-loop-wire : goal.invariant-loop-wire
-invariant-loop-wire l = l.inputs.items ≡ map (read_wire (serial l.ports) l.outputs) (take l.wire-index l.wires)

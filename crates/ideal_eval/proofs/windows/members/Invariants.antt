@@ -1,6 +1,0 @@
-use Rattle.std.proofs.Common.{◌≡◌, take}
-use Rattle.ideal_eval.specs.Rows.{with_value}
-use Rattle.ideal_eval.proofs.windows.members.Given as goal
-
-abbrev pub invariant-loop-tuple : goal.invariant-loop-tuple
-invariant-loop-tuple l = l.out.items ≡ with_value l.column l.value (take l.tuple-index l.tuples)

@@ -1,6 +1,0 @@
-use Rattle.std.proofs.Common.{◌≡◌, ◌++◌, map, take}
-use Rattle.dpc_model.specs.Operators.{total_of}
-use Rattle.ideal_eval.proofs.windows.push_totals.Given as goal
-
-abbrev pub invariant-loop-agg : goal.invariant-loop-agg
-invariant-loop-agg l = l.vals ≡ l.initial.vals ++ map (total_of l.tuples) (take l.agg-index l.aggs)

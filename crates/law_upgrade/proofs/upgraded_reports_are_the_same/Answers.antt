@@ -1,0 +1,5 @@
+use Rattle.law_upgrade.proofs.Runs.{report-same, short-same, ideal-same}
+use Rattle.law_upgrade.proofs.upgraded_reports_are_the_same.Goals as goal
+
+pub returns : goal.returns
+returns c = record { report = report-same; short = short-same; ideal = ideal-same }

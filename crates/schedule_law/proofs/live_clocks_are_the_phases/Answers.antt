@@ -1,5 +1,0 @@
-use Rattle.schedule_law.proofs.Timely.{tick-clock, clock-rises, clock-within}
-use Rattle.schedule_law.proofs.live_clocks_are_the_phases.Goals as goal
-
-pub returns : goal.returns
-returns c = record { tick = tick-clock; rises = clock-rises; within = clock-within }

@@ -1,5 +1,0 @@
-use Rattle.schedule_law.proofs.Journals.{none-live, prefix-live, live-far, each-may, one-more, progress-run}
-use Rattle.schedule_law.proofs.live_journals_grow.Goals as goal
-
-pub returns : goal.returns
-returns c = record { none = none-live; so_far = live-far; prefix = prefix-live; each = each-may; more = one-more; world = progress-run }

@@ -1,5 +1,0 @@
-use Rattle.script_laws.proofs.Canonical.{prints_canonical}
-use Rattle.script_laws.proofs.what_is_printed_is_canonical.Goals as goal
-
-pub returns : goal.returns
-returns c = prints_canonical

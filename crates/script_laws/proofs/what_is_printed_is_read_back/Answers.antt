@@ -1,5 +1,0 @@
-use Rattle.script_laws.proofs.Printing.{reads_back}
-use Rattle.script_laws.proofs.what_is_printed_is_read_back.Goals as goal
-
-pub returns : goal.returns
-returns c = reads_back

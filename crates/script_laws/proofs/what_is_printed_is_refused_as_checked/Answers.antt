@@ -1,5 +1,0 @@
-use Rattle.script_laws.proofs.Printing.{refuses_as_checked}
-use Rattle.script_laws.proofs.what_is_printed_is_refused_as_checked.Goals as goal
-
-pub returns : goal.returns
-returns c = refuses_as_checked

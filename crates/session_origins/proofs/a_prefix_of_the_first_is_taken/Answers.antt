@@ -1,5 +1,0 @@
-use Rattle.session_origins.proofs.Opening.{first-prefix}
-use Rattle.session_origins.proofs.a_prefix_of_the_first_is_taken.Goals as goal
-
-pub returns : goal.returns
-returns c = first-prefix

@@ -1,5 +1,0 @@
-use Rattle.session_origins.proofs.RoleNumbers.{has-numbers}
-use Rattle.session_origins.proofs.actors_have_numbers.Goals as goal
-
-pub returns : goal.returns
-returns c = has-numbers

@@ -1,5 +1,0 @@
-use Rattle.session_origins.proofs.FirstSession.{never-asked}
-use Rattle.session_origins.proofs.the_first_is_never_asked_for.Goals as goal
-
-pub returns : goal.returns
-returns c = never-asked

@@ -1,5 +1,0 @@
-use Rattle.session_origins.proofs.OnePort.{read-reads-once}
-use Rattle.session_origins.proofs.what_is_read_reads_once.Goals as goal
-
-pub returns : goal.returns
-returns c = read-reads-once

@@ -1,5 +1,0 @@
-use Rattle.settling_whole.proofs.Whole.{healed-settles}
-use Rattle.settling_whole.proofs.a_script_that_heals_settles.Goals as goal
-
-pub returns : goal.returns
-returns c = healed-settles

@@ -1,0 +1,36 @@
+-- The edge of overdue.
+use Rattle.std.specs.Prelude.{◌≡◌, pos, true, false, [], ◌∷◌, None, codes, refl}
+use Rattle.dpc_model.specs.declared.scripts.Script.{Script}
+use Rattle.dpc_model.specs.declared.scripts.Directive.TheVariants.{Emit}
+use Rattle.dpc_model.specs.declared.plans.StreamRef.TheVariants.{Source, Frag}
+use Rattle.dpc_model.specs.declared.operators.OpKind.TheVariants.{Filter}
+use Rattle.dpc_model.specs.declared.operators.Wire.TheVariants.{Port}
+use Rattle.dpc_model.specs.Formula as formula
+use Rattle.world_model.specs.Schedules.{lockstep, lock_of, is_live}
+use Rattle.report.specs.Text.{report_text}
+use Rattle.trial_runs.specs.Opened.{all_opened}
+
+abbrev pub script : Script
+script =
+    record {
+      plan = record {
+        version = 1;
+        passing = false;
+        width = 10;
+        delay = 5;
+        end = 20;
+        sources = record { name = codes "a"; columns = 1; log = record { stime = 2; vals = (pos 9) ∷ [] } ∷ [] } ∷ [];
+        frags = record { name = codes "f"; replicas = 1; delay = None; inputs = Source 0 ∷ []; ops = record { name = codes "k"; kind = Filter (formula.Num (pos 1)); reads = Port 0 ∷ [] } ∷ [] } ∷ [];
+        clients = record { name = codes "c"; input = Frag 0 } ∷ [];
+      };
+      phases = record { directives = Emit 0 20 ∷ []; now = 1 } ∷ record { directives = []; now = 2 } ∷ record { directives = []; now = 5 } ∷ record { directives = []; now = 6 } ∷ record { directives = []; now = 7 } ∷ [];
+      settle = false;
+    }
+
+pub report : report_text (lockstep script).world ≡ codes "client c\ntentative 2 9\nsummary c stable 0 bound 0 tentative 1 open\n"
+unfolding all_opened
+report = refl
+
+pub live : is_live script (lock_of script) ≡ true
+unfolding all_opened
+live = refl

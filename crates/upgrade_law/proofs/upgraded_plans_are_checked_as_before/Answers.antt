@@ -1,5 +1,0 @@
-use Rattle.upgrade_law.proofs.Checked.{stays-checked, was-checked}
-use Rattle.upgrade_law.proofs.upgraded_plans_are_checked_as_before.Goals as goal
-
-pub returns : goal.returns
-returns c = record { stays = stays-checked; was = was-checked }

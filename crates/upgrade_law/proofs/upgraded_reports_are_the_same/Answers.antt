@@ -1,5 +1,0 @@
-use Rattle.upgrade_law.proofs.Runs.{report-same, short-same, ideal-same}
-use Rattle.upgrade_law.proofs.upgraded_reports_are_the_same.Goals as goal
-
-pub returns : goal.returns
-returns c = record { report = report-same; short = short-same; ideal = ideal-same }

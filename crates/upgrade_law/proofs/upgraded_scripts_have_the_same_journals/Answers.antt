@@ -1,7 +1,0 @@
-use Rattle.upgrade_law.proofs.Events.{run-same}
-use Rattle.upgrade_law.proofs.Journals.{may-same, so-far-same, live-same, progress-same}
-use Rattle.upgrade_law.proofs.Telling.{lock-same}
-use Rattle.upgrade_law.proofs.upgraded_scripts_have_the_same_journals.Goals as goal
-
-pub returns : goal.returns
-returns c = record { next = may-same; so_far = so-far-same; live = live-same; lock = lock-same; world = λ s. run-same s.plan; stands = progress-same }

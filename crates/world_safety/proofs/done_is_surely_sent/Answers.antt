@@ -1,5 +1,0 @@
-use Rattle.world_safety.proofs.Promises.{done-surely-sent}
-use Rattle.world_safety.proofs.done_is_surely_sent.Goals as goal
-
-pub returns : goal.returns
-returns c = done-surely-sent

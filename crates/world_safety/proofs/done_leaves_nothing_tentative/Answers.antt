@@ -1,5 +1,0 @@
-use Rattle.world_safety.proofs.Promises.{done-leaves-nothing}
-use Rattle.world_safety.proofs.done_leaves_nothing_tentative.Goals as goal
-
-pub returns : goal.returns
-returns c = done-leaves-nothing

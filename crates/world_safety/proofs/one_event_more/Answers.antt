@@ -1,5 +1,0 @@
-use Rattle.world_safety.proofs.Runs.{run-push}
-use Rattle.world_safety.proofs.one_event_more.Goals as goal
-
-pub returns : goal.returns
-returns c = run-push

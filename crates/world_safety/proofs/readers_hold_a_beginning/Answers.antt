@@ -1,5 +1,0 @@
-use Rattle.world_safety.proofs.Promises.{readers-right}
-use Rattle.world_safety.proofs.readers_hold_a_beginning.Goals as goal
-
-pub returns : goal.returns
-returns c = readers-right

@@ -1,5 +1,0 @@
-use Rattle.world_safety.proofs.Promises.{sent-true}
-use Rattle.world_safety.proofs.what_is_sent_is_true.Goals as goal
-
-pub returns : goal.returns
-returns c = sent-true
