@@ -2,7 +2,7 @@
 use Rattle.std.proofs.Common.{◌≡◌, ℕ, zero, suc, ◌+◌, ◌<◌, Bool, true, false, cond, List, [], ◌∷◌, ◌++◌, map, filter, take, length, refl, ap, sym, ◌∙◌, arith, append_assoc, append-nil, slice_index_or}
 use Rattle.std.proofs.lemmas.List.FromFn.{map-range_with_len_more}
 use Rattle.std.proofs.lemmas.List.{map-append}
-use Rattle.dpc_model.specs.Lists.{range_with_len, enumerate_from}
+use Rattle.dpc_lists.specs.Lists.{range_with_len, enumerate_from}
 use Rattle.dpc_model.specs.Actors.{nodes_from}
 use Rattle.dpc_model.specs.declared.actors.Role.{Role}
 use Rattle.dpc_model.specs.declared.actors.Role.TheVariants.{Node as IsNode}

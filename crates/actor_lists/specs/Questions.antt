@@ -1,6 +1,6 @@
 -- What is asked of every actor.
 use Rattle.std.specs.Prelude.{Bool}
-use Rattle.dpc_model.specs.Lists.{list_any}
+use Rattle.dpc_lists.specs.Lists.{list_any}
 use Rattle.dpc_model.specs.Actors.{same_stream, sends_stream, inputs_of, is_replica_of}
 use Rattle.dpc_model.specs.declared.actors.Role.{Role}
 use Rattle.dpc_model.specs.declared.plans.Plan.{Plan}

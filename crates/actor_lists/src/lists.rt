@@ -1,12 +1,12 @@
 //! Questions that are asked of every actor.
 ghost use Rattle.std.specs.Prelude.{◌≡◌, ◌+◌, ◌^◌, ◌<◌, ◌++◌, ◌==◌, ℕ, map, length, position, IfOk, OnOk};
-ghost use Rattle.dpc_model.specs.Lists.{nth, list_any, range_with_len, place_of};
+ghost use Rattle.dpc_lists.specs.Lists.{nth, list_any, range_with_len, place_of};
 ghost use Rattle.dpc_model.specs.Actors.{same_stream, inputs_of, nodes_of, roles_of, actors_where, senders_of, readers_of, replicas_of};
 ghost use Rattle.dpc_model.specs.declared.actors.Role.TheVariants.{Source as IsSource, Node as IsNode, Client as IsClient};
 ghost use Rattle.actor_lists.specs.Questions.{holds};
 
+use dpc_lists::faults::NoMemory;
 use dpc_model::actors::{Role, sends};
-use dpc_model::faults::NoMemory;
 use dpc_model::plans::{Plan, StreamRef};
 use std::alloc::{AllocError, Global};
 

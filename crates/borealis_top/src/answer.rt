@@ -12,7 +12,7 @@ use crate::command::{Form, Reading};
 use client_reports::json::report_json;
 use client_reports::text::{report_short, report_text};
 use diagram_printer::print_script;
-use dpc_model::faults::NoMemory;
+use dpc_lists::faults::NoMemory;
 use dpc_model::scripts::Script;
 use ideal_run::ideal_text;
 use itoa::Buffer;

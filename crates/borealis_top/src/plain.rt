@@ -17,7 +17,7 @@ use diagram_reader::faults::ScriptFault;
 use diagram_reader::read_script;
 use dpc_edge::sink::Sink;
 use dpc_edge::source::Source;
-use dpc_model::faults::NoMemory;
+use dpc_lists::faults::NoMemory;
 use dpc_model::scripts::PlanFault;
 use itoa::Buffer;
 use load_gen::generate;

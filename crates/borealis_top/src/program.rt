@@ -7,7 +7,7 @@ use crate::status::Status;
 use dpc_edge::counted::Counted;
 use dpc_edge::sink::Sink;
 use dpc_edge::source::Source;
-use dpc_model::faults::NoMemory;
+use dpc_lists::faults::NoMemory;
 use std::alloc::AllocGlobal;
 use std::env::{self, Env};
 use std::io::{ErrorKind, Stderr, Stdin, Stdout};

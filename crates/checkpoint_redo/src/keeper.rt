@@ -6,10 +6,10 @@ ghost use Rattle.dpc_model.specs.PartStands.{at_cursor};
 ghost use Rattle.dpc_model.specs.declared.tuples.Tagged.{Tagged};
 ghost use Rattle.checkpoint_redo.specs.Keeping.{AcceptsAll, added_by};
 
+use dpc_lists::lists::Listed;
+use dpc_lists::steps::Steps;
 use dpc_model::engines::Engine;
 use dpc_model::faults::StepFault;
-use dpc_model::lists::Listed;
-use dpc_model::steps::Steps;
 use dpc_model::tuples::{Tagged, Tuple, Tuples};
 use std::alloc::Global;
 use std::marker::Model;

@@ -2,9 +2,9 @@
 ghost use Rattle.std.specs.Prelude.{◌≡◌, ◌<◌};
 
 use crate::keeper::Keeper;
+use dpc_lists::lists::Listed;
+use dpc_lists::steps::Steps;
 use dpc_model::expressions::{Expr, ExprNode};
-use dpc_model::lists::Listed;
-use dpc_model::steps::Steps;
 use dpc_model::tuples::{Tagged, Tuple, Vals};
 use ops_stateless::filter::Filter;
 use std::alloc::{AllocError, Global};

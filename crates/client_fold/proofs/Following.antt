@@ -1,6 +1,6 @@
 -- A client goes on to stand for the plain one where a message comes.
 use Rattle.std.proofs.Common.{◌≡◌, ℕ, zero, suc, ◌<◌, ◌==◌, List, [], ◌∷◌, map, length, Option, Some, None, refl, sym, ap, subst, ◌∙◌, arith, slice_index_or}
-use Rattle.dpc_model.specs.Lists.{nth, place_of}
+use Rattle.dpc_lists.specs.Lists.{nth, place_of}
 use Rattle.dpc_model.specs.Actors.{senders_of}
 use Rattle.dpc_model.specs.Inlets.{new_inlet}
 use Rattle.dpc_model.specs.declared.messages.Beat.{Beat}
@@ -12,7 +12,7 @@ use Rattle.dpc_model.specs.declared.plans.ClientSpec.{ClientSpec}
 use Rattle.dpc_model.specs.declared.plans.Plan.{Plan}
 use Rattle.dpc_model.specs.declared.plans.StreamRef.TheVariants.{Source}
 use Rattle.upstream.specs.Upstreams.{new_upstream}
-use Rattle.dpc_model.proofs.Places.{place-within}
+use Rattle.dpc_lists.proofs.Places.{place-within}
 use Rattle.node_model.specs.Clients.{client_stream, new_client, client_message, client_marks_ended, client_packet, client_after_packet}
 use Rattle.node_model.specs.Mails.{Plain}
 use Rattle.client_fold.specs.Folding.{ClientValue, StandsForClient, Follows}

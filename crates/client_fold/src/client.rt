@@ -7,9 +7,9 @@ ghost use Rattle.dpc_model.specs.declared.plans.TheConstants.{MOST_REPLICAS};
 ghost use Rattle.node_model.specs.Clients.{ClientState, client_stream, new_client, client_settled};
 ghost use Rattle.client_fold.specs.Folding.{all_taken, StandsForClient};
 
-use dpc_model::faults::NoMemory;
+use dpc_lists::faults::NoMemory;
+use dpc_lists::shared::Shared;
 use dpc_model::plans::Plan;
-use dpc_model::shared::Shared;
 use dpc_model::tuples::Item;
 use inlet::inlet::Inlet;
 use std::alloc::Global;

@@ -4,11 +4,11 @@ ghost use Rattle.dpc_model.specs.Actors.{senders_of};
 ghost use Rattle.node_model.specs.Clients.{client_stream};
 
 use crate::client::Client;
-use dpc_model::faults::NoMemory;
-use dpc_model::lists::Listed;
+use dpc_lists::faults::NoMemory;
+use dpc_lists::lists::Listed;
+use dpc_lists::shared::Shared;
 use dpc_model::messages::{Message, Out, Sess, Subscribe};
 use dpc_model::plans::{ClientSpec, Plan, SourceSpec, StreamRef};
-use dpc_model::shared::Shared;
 use dpc_model::tuples::{Item, Tuple, Vals};
 use std::alloc::{AllocError, Global};
 use std::test::Fail;

@@ -1,6 +1,6 @@
 //! The JSON report.
 ghost use Rattle.std.specs.Prelude.{◌≡◌, ◌++◌, map, nat_lt, true, OnOk, IfOk};
-ghost use Rattle.dpc_model.specs.Lists.{list_all};
+ghost use Rattle.dpc_lists.specs.Lists.{list_all};
 ghost use Rattle.dpc_model.specs.declared.plans.ClientSpec.{ClientSpec};
 ghost use Rattle.std.specs.Str.{IsUtf8};
 ghost use Rattle.serde_json.specs.Data.{array};
@@ -13,9 +13,9 @@ ghost use Rattle.world_model.specs.Worlds.{World};
 
 use crate::text::summary;
 use client_fold::client::Client;
-use dpc_model::faults::NoMemory;
+use dpc_lists::faults::NoMemory;
+use dpc_lists::shared::Shared;
 use dpc_model::plans::{ClientSpec, Plan};
-use dpc_model::shared::Shared;
 use dpc_model::tuples::{Item, Tuple};
 use report::text::Summary;
 use serde_json::{Map, Value, json, put};

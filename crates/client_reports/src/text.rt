@@ -7,9 +7,9 @@ ghost use Rattle.report.specs.Text.{item_words, report_text, report_short};
 ghost use Rattle.world_model.specs.Worlds.{World};
 
 use client_fold::client::Client;
-use dpc_model::faults::NoMemory;
+use dpc_lists::faults::NoMemory;
+use dpc_lists::shared::Shared;
 use dpc_model::plans::{ClientSpec, Plan};
-use dpc_model::shared::Shared;
 use dpc_model::tuples::Item;
 use report::text::{Summary, put_items, put_name, put_summary};
 use std::alloc::Global;

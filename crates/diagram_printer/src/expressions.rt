@@ -3,8 +3,8 @@ ghost use Rattle.std.specs.Prelude.{◌≡◌, ◌∷◌, [], ◌++◌, OnOk, fl
 ghost use Rattle.dpc_model.specs.ScriptText.{binary_word, column_word, formula_words};
 ghost use Rattle.line_writer.specs.Spaces.{behind_spaces};
 
+use dpc_lists::faults::NoMemory;
 use dpc_model::expressions::{BinOp, Expr, ExprNode};
-use dpc_model::faults::NoMemory;
 use itoa::Buffer;
 use line_writer::{put_first, put_value, put_word};
 

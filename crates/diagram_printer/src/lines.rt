@@ -7,7 +7,7 @@ ghost use Rattle.line_writer.specs.Spaces.{behind_spaces};
 
 use crate::names::{put_actor, source_name, stream_name};
 use crate::operators::put_operator;
-use dpc_model::faults::NoMemory;
+use dpc_lists::faults::NoMemory;
 use dpc_model::operators::OpSpec;
 use dpc_model::plans::{ClientSpec, FragSpec, Plan, SourceSpec, StreamRef};
 use dpc_model::scripts::{Directive, Phase, Script};

@@ -3,8 +3,8 @@ ghost use Rattle.std.specs.Prelude.{◌≡◌, ◌∷◌, [], ◌++◌, OnOk, de
 ghost use Rattle.dpc_model.specs.ScriptText.{source_name, frag_name, client_name, stream_name, actor_name, wire_word};
 ghost use Rattle.line_writer.specs.Spaces.{behind_spaces};
 
+use dpc_lists::faults::NoMemory;
 use dpc_model::actors::{Role, role_of};
-use dpc_model::faults::NoMemory;
 use dpc_model::operators::Wire;
 use dpc_model::plans::{FragSpec, Plan, StreamRef};
 use itoa::Buffer;

@@ -6,7 +6,7 @@ ghost use Rattle.line_writer.specs.Spaces.{behind_spaces};
 
 use crate::expressions::{put_column, put_expression, put_expressions};
 use crate::names::wire_name;
-use dpc_model::faults::NoMemory;
+use dpc_lists::faults::NoMemory;
 use dpc_model::operators::{Agg, OpKind, OpSpec, Wire};
 use dpc_model::plans::{FragSpec, Plan};
 use line_writer::{end_line, put_first, put_number, put_word};

@@ -2,7 +2,7 @@
 use Rattle.std.specs.Prelude.{if◌then◌else◌, unwrap_or, is_none}
 use Rattle.std.proofs.lemmas.Grind.{common_steps}
 use Rattle.std.proofs.Common.{◌≡◌, ◌||◌, ℕ, ℤ, zero, suc, ◌-◌, ◌^◌, ◌<◌, ◌≤◌, Bool, true, false, cond, ◌&&◌, List, take, Option, None, Some, not, refl, sym, arith, slice_get, nat_lt}
-use Rattle.dpc_model.specs.Lists.{is_nil, list_all}
+use Rattle.dpc_lists.specs.Lists.{is_nil, list_all}
 use Rattle.script_rules.specs.Reasons.{is_its_part, declares, first_of_tests, tests_said, last_time, source_at}
 use Rattle.dpc_model.specs.Words.{Word}
 use Rattle.script_rules.specs.Statements.{word, number_at, LogLine}

@@ -4,7 +4,7 @@ use Rattle.std.proofs.lemmas.Bool.{and_parts, or_parts, leb-true, leb-false, lt-
 use Rattle.std.proofs.lemmas.List.Folds.{list_all_more}
 use Rattle.std.specs.Prelude.{nat_lt, nat_le, option_map, unwrap_or, get_or}
 use Rattle.dpc_model.specs.Formula.{Formula}
-use Rattle.dpc_model.specs.Lists.{list_all, nth}
+use Rattle.dpc_lists.specs.Lists.{list_all, nth}
 use Rattle.dpc_model.specs.Words.{Word}
 use Rattle.dpc_model.specs.declared.operators.Agg.{Agg}
 use Rattle.dpc_model.specs.declared.operators.OpKind.TheVariants as kind

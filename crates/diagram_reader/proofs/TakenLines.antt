@@ -2,7 +2,7 @@
 use Rattle.std.specs.Prelude.{⊤}
 use Rattle.std.proofs.Common.{◌≡◌, ℕ, suc, ◌+◌, ◌^◌, ◌<◌, ◌≤◌, true, false, cond, nat_lt, length, ◌==◌, List, [], ◌∷◌, ◌++◌, drop, None, Some, Result, Ok, Err, refl, subst, arith, bytes_eq}
 use Rattle.std.proofs.lemmas.Grind.{common_steps}
-use Rattle.dpc_model.specs.Lists.{nth}
+use Rattle.dpc_lists.specs.Lists.{nth}
 use Rattle.dpc_model.specs.Words.{Word}
 use Rattle.script_rules.specs.Lines.{is_skipped, words_of, lines_of, in_front}
 use Rattle.script_rules.specs.Keywords.{looked_up, keywords, late_keywords, keyword_of}

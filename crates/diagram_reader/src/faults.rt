@@ -1,5 +1,5 @@
 //! Why a text or a line is refused.
-use dpc_model::faults::NoMemory;
+use dpc_lists::faults::NoMemory;
 use dpc_model::scripts::PlanFault;
 
 /// Why a text was not read as a script.

@@ -1,7 +1,7 @@
 //! Lines of operators, taken into the script under way. Nothing of reasons 1 to 6 stands against the line.
 ghost use Rattle.std.specs.Prelude.{◌≡◌, ◌+◌, ◌^◌, ◌<◌, ◌≤◌, ℕ, nat_lt, nat_le, true, length, map, drop, option_map, unwrap_or, is_some, if◌then◌else◌, IfSome};
 ghost use Rattle.dpc_model.specs.Formula as formula;
-ghost use Rattle.dpc_model.specs.Lists.{nth, list_all};
+ghost use Rattle.dpc_lists.specs.Lists.{nth, list_all};
 ghost use Rattle.dpc_model.specs.declared.operators.OpKind.TheVariants as kind;
 ghost use Rattle.script_rules.specs.Reasons.{is_its_part, agg_reads_below};
 ghost use Rattle.script_rules.specs.Statements.{statement_of, pairs};
@@ -14,8 +14,8 @@ ghost use Rattle.diagram_reader.specs.Readings.{IsSaid};
 
 use crate::faults::LineFault;
 use crate::statements::{all_names, names_at, number_at};
+use dpc_lists::lists::Listed;
 use dpc_model::expressions::Expr;
-use dpc_model::lists::Listed;
 use dpc_model::operators::{Agg, OpKind};
 use script_draft::draft::Draft;
 use script_draft::shape::Shape;

@@ -6,7 +6,7 @@ use Rattle.std.proofs.lemmas.List.{map-append, append-nil}
 use Rattle.std.proofs.lemmas.List.Elements.{filter-append, recursion_from_All, All-append, All-weaker, All-filter, filter_passes}
 use Rattle.std.specs.List.{filter, AllByRecursion}
 use Rattle.std.specs.Cmp.Derive.{both_true}
-use Rattle.dpc_model.specs.Lists.{range_with_len, push, last_or}
+use Rattle.dpc_lists.specs.Lists.{range_with_len, push, last_or}
 use Rattle.dpc_model.specs.Streams.{NoneBelow, IsOrdered, time_of, InOrder, cut, is_below}
 use Rattle.dpc_model.specs.Engines.{Value, IsBucket, LiesIn, LiesBelow, from_time, ports_of, engine_value, lone_operator, nameless, operator_value, added_output}
 use Rattle.dpc_model.specs.Fragments.{at_port, cut_tagged, read_wire, outputs_after, IsSoundKind}

@@ -4,7 +4,7 @@ use Rattle.std.proofs.lemmas.Grind.{common_steps}
 use Rattle.std.proofs.lemmas.Bool.{ltb-true, ltb-false}
 use Rattle.std.specs.List.{filter}
 use Rattle.std.proofs.lemmas.List.Elements.{filter-append}
-use Rattle.dpc_model.specs.Lists.{insert_by, sort_by}
+use Rattle.dpc_lists.specs.Lists.{insert_by, sort_by}
 use Rattle.dpc_model.specs.Streams.{NoneBelow, IsOrdered, cut, is_below}
 use Rattle.dpc_model.specs.Values.{value_of, is_true}
 use Rattle.dpc_model.specs.Operators.{filtered, mapped, mapped_tuple, united, all_of}

@@ -1,7 +1,7 @@
 -- The choice of a replica keeps the current one where it has the best rank, and else takes the first one that has.
 use Rattle.std.proofs.Common.{◌≡◌, ℕ, zero, suc, ◌<◌, true, false, cond, ◌==◌, List, [], ◌∷◌, map, min, Option, Some, None, unwrap_or, refl, subst, arith}
 use Rattle.std.proofs.lemmas.Grind.{common_steps}
-use Rattle.dpc_model.specs.Lists.{nth, least, place_of}
+use Rattle.dpc_lists.specs.Lists.{nth, least, place_of}
 use Rattle.dpc_model.specs.Replicas.{rank_order, has_best_rank, choose}
 use Rattle.dpc_model.specs.declared.messages.Rank.{Rank}
 

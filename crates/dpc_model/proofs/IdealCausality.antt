@@ -3,7 +3,7 @@ use Rattle.std.proofs.Common.{◌≡◌, ℕ, ◌≤◌, List, [], ◌∷◌, ma
 use Rattle.std.proofs.lemmas.Grind.{common_steps}
 use Rattle.std.proofs.lemmas.List.{map-append}
 use Rattle.std.specs.List.{last_or}
-use Rattle.dpc_model.specs.Lists.{nth, push}
+use Rattle.dpc_lists.specs.Lists.{nth, push}
 use Rattle.dpc_model.specs.Streams.{cut, is_below, cut_each}
 use Rattle.dpc_model.specs.Operators.{output_of}
 use Rattle.dpc_model.specs.Fragments.{serial, read_wire, outputs_after, fragment_value, log_of, stream_upto, fragments_upto, ideal_upto, ideal, IsSoundKind, AreSoundOps, AreSoundFrags, cut_tagged}

@@ -2,7 +2,7 @@
 use Rattle.std.proofs.Common.{◌≡◌, ℕ, zero, suc, ◌+◌, Bool, ◌==◌, List, [], ◌∷◌, map, refl, ◌∙◌, ap, Option, Some, None, unwrap_or, option_map}
 use Rattle.std.proofs.lemmas.List.Elements.{filter-append}
 use Rattle.std.specs.List.{filter, last_or}
-use Rattle.dpc_model.specs.Lists.{nth, sort_by, range_with_len}
+use Rattle.dpc_lists.specs.Lists.{nth, sort_by, range_with_len}
 use Rattle.dpc_model.specs.Engines.{ports_of}
 use Rattle.dpc_model.specs.Fragments.{tag, tagged_from, serial, at_port, read_wire}
 use Rattle.dpc_model.specs.declared.tuples.Tuple.{Tuple}

@@ -2,7 +2,6 @@ pub mod Buckets
 pub mod Causality
 pub mod Choice
 pub mod Cuts
-pub mod Elements
 pub mod Folding
 pub mod FragmentValues
 pub mod Halves
@@ -16,5 +15,3 @@ pub mod Serial
 pub mod Sorting
 pub mod StableItems
 pub mod WindowCausality
-pub mod Mapped
-pub mod Places

@@ -1,7 +1,7 @@
 -- Every output is in order of time.
 use Rattle.std.proofs.Common.{◌≡◌, ℕ, zero, suc, ◌+◌, ◌-◌, ◌*◌, ◌≤◌, Bool, true, false, cond, ◌==◌, List, [], ◌∷◌, ◌++◌, map, refl, arith, Option, Some, None, unwrap_or}
 use Rattle.std.specs.List.{filter, flat_map, last_or}
-use Rattle.dpc_model.specs.Lists.{nth, push, range_with_len, is_nil}
+use Rattle.dpc_lists.specs.Lists.{nth, push, range_with_len, is_nil}
 use Rattle.dpc_model.specs.Streams.{AllInOrder, NoneBelow, IsOrdered, time_of, InOrder, is_below}
 use Rattle.dpc_model.specs.Values.{column, is_true, value_of}
 use Rattle.dpc_model.specs.Operators.{output_of, all_of, pairs_with, group_rows, window_rows, between, window_count, tuple_of, total_of, distinct_values, mapped_tuple}

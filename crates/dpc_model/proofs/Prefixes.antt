@@ -3,7 +3,7 @@ use Rattle.std.proofs.Common.{◌≡◌, ℕ, zero, suc, ◌≤◌, Bool, true, 
 use Rattle.std.proofs.lemmas.Grind.{common_steps}
 use Rattle.std.proofs.lemmas.List.{append-nil}
 use Rattle.std.proofs.lemmas.List.Elements.{filter-append}
-use Rattle.dpc_model.specs.Lists.{IsPrefixOf}
+use Rattle.dpc_lists.specs.Lists.{IsPrefixOf}
 use Rattle.std.specs.List.{filter}
 use Rattle.dpc_model.specs.Streams.{NoneBelow, time_of, InOrder, cut, is_below}
 use Rattle.dpc_model.specs.declared.tuples.Tuple.{Tuple}

@@ -9,7 +9,7 @@ use Rattle.std.proofs.lemmas.Bool.{and_parts, ltb-true, ltb-false}
 use Rattle.std.proofs.lemmas.List.Sorted.{IsNonDecreasingBy-from_all_adjacent}
 use Rattle.dpc_model.specs.Engines.{precedes, is_serial, ports_of}
 use Rattle.dpc_model.proofs.Sorting.{IsOrdered-from}
-use Rattle.dpc_model.specs.Lists.{nth, insert_by, sort_by, range_with_len}
+use Rattle.dpc_lists.specs.Lists.{nth, insert_by, sort_by, range_with_len}
 use Rattle.dpc_model.specs.Streams.{NoneBelow, IsOrdered, time_of, AllInOrder}
 use Rattle.dpc_model.specs.Fragments.{tag, tagged_from, serial, at_port}
 use Rattle.dpc_model.specs.declared.tuples.Tuple.{Tuple}

@@ -4,7 +4,7 @@ use Rattle.std.proofs.lemmas.Grind.{common_steps}
 use Rattle.std.specs.List.{filter}
 use Rattle.std.specs.List.Sorted.{IsNonDecreasingBy, ties}
 use Rattle.std.specs.Ordering.{is_lt, nat_cmp}
-use Rattle.dpc_model.specs.Lists.{sort_by}
+use Rattle.dpc_lists.specs.Lists.{sort_by}
 use Rattle.dpc_model.specs.Streams.{NoneBelow, IsOrdered}
 use Rattle.dpc_model.proofs.Causality.{IsOrdered-sort, filter-sort, sort_by-ordered}
 

@@ -4,7 +4,7 @@ use Rattle.std.proofs.lemmas.Grind.{common_steps}
 use Rattle.std.proofs.lemmas.Bool.{ltb-true, ltb-false, lt-ltb, le-ltb}
 use Rattle.std.proofs.Math.Nat.{le-div_iff_mul-le}
 use Rattle.std.specs.List.{filter, flat_map}
-use Rattle.dpc_model.specs.Lists.{range_with_len, is_nil}
+use Rattle.dpc_lists.specs.Lists.{range_with_len, is_nil}
 use Rattle.dpc_model.specs.Streams.{cut, is_below}
 use Rattle.dpc_model.specs.Operators.{aggregated, window_rows, window_count, group_rows, between, tuple_of, total_of, distinct_values}
 use Rattle.dpc_model.specs.Values.{column}

@@ -1,6 +1,6 @@
 -- How many columns the tuples of a stream have.
 use Rattle.std.specs.Prelude.{ℕ, ◌+◌, List, [], ◌∷◌, map, length, None, unwrap_or, is_some, if◌then◌else◌}
-use Rattle.dpc_model.specs.Lists.{nth, push, last_or}
+use Rattle.dpc_lists.specs.Lists.{nth, push, last_or}
 use Rattle.dpc_model.specs.declared.operators.OpKind.{OpKind}
 use Rattle.dpc_model.specs.declared.operators.OpKind.TheVariants.{Filter, Map, Union, Join, Aggregate}
 use Rattle.dpc_model.specs.declared.operators.OpSpec.{OpSpec}

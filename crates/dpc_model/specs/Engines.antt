@@ -1,7 +1,7 @@
 -- Engines that take one bucket after another: what they take, and what they answer.
 use Rattle.std.specs.Prelude.{⊤, ℕ, ◌+◌, ◌*◌, ◌^◌, ◌<◌, Bool, true, IsTrue, ◌&&◌, ◌||◌, ◌==◌, nat_lt, nat_le, Option, Some, None, List, [], ◌∷◌, ◌++◌, map, filter, length, drop, All}
 use Rattle.std.specs.List.{AllAdjacentBelow}
-use Rattle.dpc_model.specs.Lists.{range_with_len}
+use Rattle.dpc_lists.specs.Lists.{range_with_len}
 use Rattle.dpc_model.specs.Fragments.{at_port, fragment_value}
 use Rattle.dpc_model.specs.Operators.{output_of}
 use Rattle.dpc_model.specs.declared.tuples.Tuple.{Tuple}

@@ -1,6 +1,6 @@
 -- What a fragment gives of its inputs, and the failure-free output of a stream.
 use Rattle.std.specs.Prelude.{⊤, ℕ, ◌+◌, ◌<◌, ◌==◌, List, [], ◌∷◌, ◌++◌, map, filter, None, unwrap_or}
-use Rattle.dpc_model.specs.Lists.{nth, sort_by, push, last_or}
+use Rattle.dpc_lists.specs.Lists.{nth, sort_by, push, last_or}
 use Rattle.dpc_model.specs.Streams.{InOrder, is_below, cut}
 use Rattle.dpc_model.specs.Operators.{output_of}
 use Rattle.dpc_model.specs.declared.tuples.Tuple.{Tuple}

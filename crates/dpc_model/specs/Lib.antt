@@ -1,13 +1,11 @@
 pub mod Formula
 pub mod FormulaCode
 pub mod Expressions
-pub mod Lists
 pub mod Streams
 pub mod Values
 pub mod Operators
 pub mod Fragments
 pub mod Reading
-pub mod Held
 pub mod Inlets
 pub mod Due
 pub mod Replicas

@@ -2,7 +2,7 @@
 use Rattle.std.specs.Prelude.{ℕ, ◌+◌, ◌-◌, ◌*◌, ◌/◌, max, ℤ, pos, ◌+ℤ◌, int_lt, Bool, ◌&&◌, nat_lt, nat_le, if◌then◌else◌, List, [], ◌∷◌, ◌++◌, map, length, filter, flat_map, Option, Some, None}
 use Rattle.std.specs.Int.{int_min, int_max}
 use Rattle.std.specs.Ordering.{int_eq}
-use Rattle.dpc_model.specs.Lists.{nth, sort_by, list_all, range_with_len, is_nil}
+use Rattle.dpc_lists.specs.Lists.{nth, sort_by, list_all, range_with_len, is_nil}
 use Rattle.dpc_model.specs.Streams.{is_below}
 use Rattle.dpc_model.specs.Values.{value_of, is_true, column, clamp}
 use Rattle.dpc_model.specs.declared.tuples.Tuple.{Tuple}

@@ -1,6 +1,6 @@
 -- The parts of a node, as the contracts of each part see them: its inputs, its output, and what it knows of others.
 use Rattle.std.specs.Prelude.{ℕ, ◌+◌, ◌*◌, Bool, not, ◌&&◌, ◌==◌, if◌then◌else◌, List, ◌++◌, map, length, drop, Option, Some, None}
-use Rattle.dpc_model.specs.Lists.{is_nil}
+use Rattle.dpc_lists.specs.Lists.{is_nil}
 use Rattle.dpc_model.specs.Streams.{cut}
 use Rattle.dpc_model.specs.Operators.{between, all_of}
 use Rattle.dpc_model.specs.Reading.{Reader}

@@ -1,6 +1,6 @@
 -- Watching replicas, and the choice among them.
 use Rattle.std.specs.Prelude.{ℕ, ◌+◌, Bool, false, ◌||◌, ◌==◌, nat_lt, nat_le, min, if◌then◌else◌, List, map, Option, Some, None, is_some, unwrap_or}
-use Rattle.dpc_model.specs.Lists.{nth, least, place_of}
+use Rattle.dpc_lists.specs.Lists.{nth, least, place_of}
 use Rattle.dpc_model.specs.declared.messages.NodeState.{NodeState}
 use Rattle.dpc_model.specs.declared.messages.NodeState.TheVariants as state
 use Rattle.dpc_model.specs.declared.messages.Rank.{Rank}

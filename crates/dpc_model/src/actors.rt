@@ -1,10 +1,10 @@
 //! The actors of a plan, by number: sources, then the replicas of the fragments, then clients.
 ghost use Rattle.std.specs.Prelude.{◌≡◌, ◌+◌, length, slice_get, Some, IfOk, IfErr};
 ghost use Rattle.dpc_model.specs.Actors.{nodes_from, role_of, sends_stream, reads_from, are_peers, are_linked};
-ghost use Rattle.dpc_model.specs.Lists.{list_any};
+ghost use Rattle.dpc_lists.specs.Lists.{list_any};
 
-use crate::faults::NoMemory;
 use crate::plans::{FragSpec, Plan, StreamRef};
+use dpc_lists::faults::NoMemory;
 
 /// What an actor is: a source, a replica of a fragment (fragment and replica), a client, or nobody.
 #[derive(Clone, Copy, PartialEq, Eq, Debug)]

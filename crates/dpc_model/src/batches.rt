@@ -1,6 +1,6 @@
 //! What a reader makes of a batch.
-use crate::shared::Shared;
 use crate::tuples::Item;
+use dpc_lists::shared::Shared;
 
 /// The answer to a batch.
 #[derive(Drop)]

@@ -1,5 +1,5 @@
 //! Expressions over the columns and the time of a tuple.
-use crate::exact::Exact;
+use dpc_lists::exact::Exact;
 use std::alloc::{AllocError, Global};
 use std::marker::Model;
 

@@ -1,7 +1,7 @@
 //! Laws of the definitions. Each function does nothing; its contract is the law.
 ghost use Rattle.std.specs.Prelude.{◌≡◌, ℕ, ◌≤◌, ◌<◌, true, false, List, length, Some, map};
 ghost use Rattle.dpc_model.specs.Streams.{InOrder, cut, cut_each};
-ghost use Rattle.dpc_model.specs.Lists.{nth};
+ghost use Rattle.dpc_lists.specs.Lists.{nth};
 ghost use Rattle.dpc_model.specs.Operators.{output_of};
 ghost use Rattle.dpc_model.specs.Fragments.{serial, fragment_value, cut_tagged, ideal_upto, IsSoundKind, AreSoundOps, AreSoundFrags, LogsInOrder, ReadBefore};
 ghost use Rattle.dpc_model.specs.Reading.{Reader, Folded, fold_items};

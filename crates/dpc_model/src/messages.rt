@@ -1,7 +1,7 @@
 //! Events, and what actors send one another.
-use crate::lists::Listed;
-use crate::shared::Shared;
 use crate::tuples::Item;
+use dpc_lists::lists::Listed;
+use dpc_lists::shared::Shared;
 
 /// What may happen in a run. Actors have narrow numbers here, since a run keeps all its events.
 #[derive(Clone, Copy, PartialEq, Eq)]

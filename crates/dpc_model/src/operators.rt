@@ -1,7 +1,7 @@
 //! The operators of a fragment.
-use crate::exact::Exact;
 use crate::expressions::Expr;
-use crate::lists::{Listed, Name};
+use dpc_lists::exact::Exact;
+use dpc_lists::lists::{Listed, Name};
 use std::alloc::{AllocError, Global};
 
 /// What an operator reads: a port of its fragment, or an earlier operator of it.

@@ -1,8 +1,8 @@
 //! A plan: sources, fragments of operators, and clients.
-use crate::exact::Exact;
-use crate::lists::{Listed, Name};
 use crate::operators::OpSpec;
 use crate::tuples::Tuples;
+use dpc_lists::exact::Exact;
+use dpc_lists::lists::{Listed, Name};
 use std::alloc::{AllocError, Global};
 
 /// The most replicas of a fragment.

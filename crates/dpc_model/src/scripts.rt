@@ -1,6 +1,6 @@
 //! A script: a plan, and what happens in each phase.
-use crate::lists::Listed;
 use crate::plans::Plan;
+use dpc_lists::lists::Listed;
 
 #[derive(Clone, Copy, PartialEq, Eq)]
 pub enum Directive {

@@ -1,7 +1,7 @@
 //! Tuples, and the items of a stream.
-use crate::exact::Exact;
-use crate::lists::Listed;
-pub use crate::vals::Vals;
+use dpc_lists::exact::Exact;
+use dpc_lists::lists::Listed;
+pub use dpc_lists::vals::Vals;
 use std::alloc::{AllocError, Global};
 
 /// Tuples in order.

@@ -8,7 +8,7 @@ use Rattle.std.specs.List.Sorted.{IsSortedByKey, IsStableByKey}
 use Rattle.std.specs.Ordering.{nat_cmp}
 use denote.Param.Members.{Mut}
 use denote.Ref.{Bor}
-use Rattle.dpc_model.specs.Lists.{nth, sort_by}
+use Rattle.dpc_lists.specs.Lists.{nth, sort_by}
 use Rattle.dpc_model.specs.Fragments.{tag, tagged_from, read_wire}
 use Rattle.dpc_model.specs.declared.tuples.Tuple.{Tuple}
 use Rattle.dpc_model.specs.declared.tuples.Tagged.{Tagged}

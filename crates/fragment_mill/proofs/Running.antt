@@ -6,7 +6,7 @@ use Rattle.std.proofs.lemmas.List.Elements.{All-set, recursion_from_All}
 use Rattle.std.proofs.Math.ListN.{get_or-map}
 use Rattle.std.proofs.Math.Seq.{map-set_same}
 use Rattle.std.specs.List.{AllByRecursion, last_or}
-use Rattle.dpc_model.specs.Lists.{push}
+use Rattle.dpc_lists.specs.Lists.{push}
 use Rattle.dpc_model.specs.Engines.{FitsBucket, Accepts, from_time, engine_value, added_output}
 use Rattle.dpc_model.specs.Operators.{output_of}
 use Rattle.dpc_model.specs.Fragments.{read_wire, outputs_after, AreSoundOps}

@@ -1,6 +1,6 @@
 //! The mill of a fragment.
 ghost use Rattle.std.specs.Prelude.{◌≡◌, ◌<◌, ◌↔◌, ℕ, [], map, length, slice_get, unwrap_or, false, Some, None, IfOk, IsTrue, All};
-ghost use Rattle.dpc_model.specs.Lists.{last_or};
+ghost use Rattle.dpc_lists.specs.Lists.{last_or};
 ghost use Rattle.dpc_model.specs.Engines.{nameless};
 ghost use Rattle.dpc_model.specs.Fragments.{AreSoundFrags, AreSoundOps};
 ghost use Rattle.dpc_model.specs.declared.plans.FragSpec.{FragSpec};
@@ -8,10 +8,11 @@ ghost use Rattle.fragment_mill.specs.Mills.{OperatorAfter, MillAfter, specs_of, 
 ghost use Rattle.fragment_mill.specs.Milling.{IsFit};
 
 use crate::operator::Operator;
+use dpc_lists::exact::Exact;
+use dpc_lists::faults::NoMemory;
+use dpc_lists::lists::Listed;
 use dpc_model::engines::Engine;
-use dpc_model::exact::Exact;
-use dpc_model::faults::{NoMemory, StepFault};
-use dpc_model::lists::Listed;
+use dpc_model::faults::StepFault;
 use dpc_model::operators::{OpSpec, Wire};
 use dpc_model::plans::Plan;
 use dpc_model::tuples::{Tagged, Tuples};

@@ -3,9 +3,10 @@ ghost use Rattle.std.specs.Prelude.{◌≡◌, IfOk};
 ghost use Rattle.dpc_model.specs.Fragments.{IsSoundKind};
 ghost use Rattle.fragment_mill.specs.Mills.{new_operator, operators_of, width_of, next_of, spent_of, OperatorAfter};
 
+use dpc_lists::exact::Exact;
+use dpc_lists::faults::NoMemory;
 use dpc_model::engines::Engine;
-use dpc_model::exact::Exact;
-use dpc_model::faults::{NoMemory, StepFault};
+use dpc_model::faults::StepFault;
 use dpc_model::operators::OpKind;
 use dpc_model::tuples::{Tagged, Tuples};
 use ops_join::join::Join;

@@ -1,6 +1,6 @@
 //! A stage of a mill: an operator with what it reads.
 ghost use Rattle.std.specs.Prelude.{◌≡◌, ◌+◌, ◌^◌, ◌<◌, ◌++◌, ◌↔◌, ℕ, List, [], map, IfOk, OnOk, IsTrue};
-ghost use Rattle.dpc_model.specs.Lists.{push};
+ghost use Rattle.dpc_lists.specs.Lists.{push};
 ghost use Rattle.dpc_model.specs.Engines.{Accepts};
 ghost use Rattle.dpc_model.specs.Fragments.{serial, tag, read_wire, at_port, IsSoundKind};
 ghost use Rattle.dpc_model.specs.declared.tuples.Tagged.{Tagged};
@@ -9,9 +9,10 @@ ghost use Rattle.fragment_mill.specs.Milling.{IsFit, added_of};
 
 use crate::mill::Stage;
 use crate::operator::Operator;
+use dpc_lists::exact::Exact;
+use dpc_lists::faults::NoMemory;
 use dpc_model::engines::Engine;
-use dpc_model::exact::Exact;
-use dpc_model::faults::{NoMemory, StepFault};
+use dpc_model::faults::StepFault;
 use dpc_model::operators::{OpSpec, Wire};
 use dpc_model::tuples::{Tagged, Tuple, Tuples};
 use std::alloc::{AllocError, Global};

@@ -6,11 +6,11 @@ ghost use Rattle.dpc_model.specs.Fragments.{AreSoundFrags, AreSoundOps};
 ghost use Rattle.dpc_model.specs.declared.plans.FragSpec.{FragSpec};
 
 use crate::mill::FragMill;
+use dpc_lists::exact::Exact;
+use dpc_lists::faults::NoMemory;
+use dpc_lists::lists::Listed;
 use dpc_model::engines::Engine;
-use dpc_model::exact::Exact;
 use dpc_model::expressions::{Expr, ExprNode};
-use dpc_model::faults::NoMemory;
-use dpc_model::lists::Listed;
 use dpc_model::operators::{OpKind, OpSpec, Wire};
 use dpc_model::plans::{FragSpec, Plan};
 use dpc_model::tuples::{Tagged, Tuple, Tuples, Vals};

@@ -5,7 +5,7 @@ use Rattle.std.proofs.lemmas.Option.{slice_get-map, slice_get_read}
 use Rattle.std.proofs.lemmas.List.{take_more}
 use Rattle.std.proofs.lemmas.List.Elements.{recursion_from_All}
 use Rattle.std.specs.List.{AllByRecursion, slice_get}
-use Rattle.dpc_model.specs.Lists.{nth, push}
+use Rattle.dpc_lists.specs.Lists.{nth, push}
 use Rattle.dpc_model.specs.Streams.{cut, cut_each}
 use Rattle.dpc_model.specs.Fragments.{serial, fragment_value, log_of, stream_upto, fragments_upto, ideal_upto, ideal, AreSoundOps, AreSoundFrags, ReadsBelow, ReadBefore}
 use Rattle.dpc_model.specs.declared.tuples.Tuple.{Tuple}

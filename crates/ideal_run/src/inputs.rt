@@ -1,11 +1,11 @@
 //! What a fragment reads, as one list.
 ghost use Rattle.std.specs.Prelude.{◌≡◌, ◌++◌, [], map, IfOk, OnOk};
-ghost use Rattle.dpc_model.specs.Lists.{nth};
+ghost use Rattle.dpc_lists.specs.Lists.{nth};
 ghost use Rattle.dpc_model.specs.Fragments.{tag, serial, log_of, stream_upto};
 ghost use Rattle.ideal_run.specs.IdealPlans.{IsIdealPlan};
 
-use dpc_model::exact::Exact;
-use dpc_model::faults::NoMemory;
+use dpc_lists::exact::Exact;
+use dpc_lists::faults::NoMemory;
 use dpc_model::plans::{Plan, StreamRef};
 use dpc_model::tuples::{Tagged, Tuple, Tuples};
 use std::alloc::Global;

@@ -10,7 +10,7 @@ mod milling;
 
 use crate::inputs::stream_of;
 use crate::milling::frag_stream;
-use dpc_model::faults::NoMemory;
+use dpc_lists::faults::NoMemory;
 use dpc_model::plans::Plan;
 use dpc_model::tuples::Tuples;
 use report::text::put_stream;

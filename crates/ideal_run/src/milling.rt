@@ -9,9 +9,9 @@ ghost use Rattle.fragment_mill.specs.Mills.{MillAfter, specs_of};
 ghost use Rattle.ideal_run.specs.IdealPlans.{IsIdealPlan, frag_streams};
 
 use crate::inputs::serial_inputs;
+use dpc_lists::faults::NoMemory;
+use dpc_lists::lists::Listed;
 use dpc_model::engines::Engine;
-use dpc_model::faults::NoMemory;
-use dpc_model::lists::Listed;
 use dpc_model::plans::Plan;
 use dpc_model::tuples::{Tagged, Tuple, Tuples};
 use fragment_mill::mill::FragMill;

@@ -1,7 +1,7 @@
 -- A batch at an inlet that forgot its first stable tuples, and at the plain one.
 use Rattle.std.proofs.Common.{Vec, Global, ◌≡◌, ℕ, Bool, true, false, not, ◌||◌, nat_lt, if◌then◌else◌, List, [], ◌∷◌, ◌++◌, map, length, Option, Some, None, refl, sym, ap, subst, ◌∙◌, arith, append_assoc, append-nil, length-append}
 use Rattle.std.specs.Borrow.{Bor}
-use Rattle.dpc_model.specs.Lists.{is_nil}
+use Rattle.dpc_lists.specs.Lists.{is_nil}
 use Rattle.dpc_model.specs.Reading.{Reader, Folded, fold_items}
 use Rattle.dpc_model.specs.Inlets.{InletState, AfterBatch, is_old, take_batch, after_next_batch}
 use Rattle.dpc_model.specs.PartStands.{InletValue, with_stable}

@@ -1,6 +1,6 @@
 -- Items being read, before anything of the inlet changes.
 use Rattle.std.specs.Prelude.{◌≡◌, ◌+◌, ◌≤◌, true, false, not, ◌||◌, ◌==◌, if◌then◌else◌, List, [], ◌++◌, length, Option, Some, None}
-use Rattle.dpc_model.specs.Lists.{is_nil}
+use Rattle.dpc_lists.specs.Lists.{is_nil}
 use Rattle.dpc_model.specs.Reading.{Reader, Reading, NoReading, Skipped, Taken, reading, Folded, fold_items}
 use Rattle.dpc_model.specs.declared.tuples.Item.{Item}
 use Rattle.dpc_model.specs.PartStands.{InletValue}

@@ -6,8 +6,8 @@ ghost use Rattle.dpc_model.specs.Reading.{Reader, is_sure};
 ghost use Rattle.dpc_model.specs.declared.tuples.Item.TheVariants as item_of;
 ghost use Rattle.inlet.specs.Drafts.{Began, drafted, Reads, IsFold};
 
-use dpc_model::exact::Exact;
-use dpc_model::faults::NoMemory;
+use dpc_lists::exact::Exact;
+use dpc_lists::faults::NoMemory;
 use dpc_model::tuples::{Item, Tuple};
 use std::alloc::Global;
 

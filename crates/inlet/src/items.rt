@@ -6,10 +6,10 @@ ghost use Rattle.dpc_model.specs.declared.tuples.Tuple.{Tuple};
 ghost use Rattle.dpc_model.specs.declared.tuples.Item.{Item};
 ghost use Rattle.inlet.specs.Forgotten.{from_first};
 
-use dpc_model::exact::Exact;
-use dpc_model::faults::NoMemory;
-use dpc_model::lists::Listed;
-use dpc_model::shared::Shared;
+use dpc_lists::exact::Exact;
+use dpc_lists::faults::NoMemory;
+use dpc_lists::lists::Listed;
+use dpc_lists::shared::Shared;
 use dpc_model::tuples::{Item, Tuple};
 use std::alloc::{AllocError, Global};
 use std::collections::VecDeque;

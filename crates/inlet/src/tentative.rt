@@ -4,7 +4,7 @@ ghost use Rattle.dpc_model.specs.Streams.{InOrder};
 ghost use Rattle.dpc_model.specs.declared.tuples.Tuple.{Tuple};
 ghost use Rattle.inlet.specs.Ordered.{IsUptoIf};
 
-use dpc_model::faults::NoMemory;
+use dpc_lists::faults::NoMemory;
 use dpc_model::tuples::Tuple;
 use std::alloc::Global;
 use std::marker::Model;

@@ -1,9 +1,9 @@
 //! What no clause says: that calls succeed where there is memory. Values are counted by a person.
 use crate::inlet::{Absorbed, Inlet};
+use dpc_lists::exact::Exact;
+use dpc_lists::shared::Shared;
 use dpc_model::batches::Taken;
-use dpc_model::exact::Exact;
 use dpc_model::messages::{Sess, Subscribe};
-use dpc_model::shared::Shared;
 use dpc_model::tuples::{Item, Tuple, Vals};
 use std::alloc::{AllocError, Global};
 use std::test::Fail;

@@ -3,8 +3,8 @@ use Rattle.std.proofs.Common.{◌≡◌, ℕ, ◌<◌, List, length, ◌∙◌, 
 use Rattle.std.proofs.lemmas.Grind.{common_steps}
 use Rattle.std.proofs.lemmas.List.{length-set}
 use Rattle.std.specs.List.{refill}
-use Rattle.dpc_model.specs.Lists.{changed}
-use Rattle.dpc_model.proofs.Elements.{set-changed}
+use Rattle.dpc_lists.specs.Lists.{changed}
+use Rattle.dpc_lists.proofs.Elements.{set-changed}
 
 refill-same : {X : Type 0} (xs ws : List X) → length ws ≡ length xs → refill (length xs) xs ws ≡ ws
 refill-same xs ws e = grind (arith, common_steps)

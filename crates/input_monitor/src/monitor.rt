@@ -1,6 +1,6 @@
 //! What is known of each replica of a stream.
 ghost use Rattle.std.specs.Prelude.{◌≡◌, ◌<◌, ◌≤◌, map, replicate, length};
-ghost use Rattle.dpc_model.specs.Lists.{nth, changed};
+ghost use Rattle.dpc_lists.specs.Lists.{nth, changed};
 ghost use Rattle.dpc_model.specs.Ports.{no_port, all_truncated};
 ghost use Rattle.dpc_model.specs.Replicas.{new_watch, after_beat, after_tick, with_mark, after_count, is_silent, rank_of, says_recovering};
 

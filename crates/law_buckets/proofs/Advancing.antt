@@ -1,7 +1,7 @@
 -- Ready buckets are processed stably, and a stream with no bucket closed has its stable output alone.
 use Rattle.std.proofs.Common.{◌≡◌, ℕ, ◌+◌, ◌*◌, ◌<◌, Bool, true, false, not, ◌&&◌, cond, List, [], ◌++◌, length, drop, refl, sym, ◌∙◌, ap, arith, Some, None, append-nil}
 use Rattle.std.proofs.Math.Seq.{drop-length}
-use Rattle.dpc_model.specs.Lists.{is_nil}
+use Rattle.dpc_lists.specs.Lists.{is_nil}
 use Rattle.dpc_model.specs.Operators.{all_of}
 use Rattle.dpc_model.specs.Engines.{engine_value}
 use Rattle.dpc_model.specs.Fragments.{AreSoundOps, fragment_value}

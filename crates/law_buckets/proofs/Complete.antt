@@ -5,7 +5,7 @@ use Rattle.std.proofs.lemmas.List.Elements.{filter-append, recursion_from_All}
 use Rattle.std.proofs.lemmas.Simd.{map-map}
 use Rattle.std.proofs.Math.Nat.{le-div_iff_mul-le}
 use Rattle.std.specs.List.{filter, AllByRecursion}
-use Rattle.dpc_model.specs.Lists.{least}
+use Rattle.dpc_lists.specs.Lists.{least}
 use Rattle.dpc_model.specs.Streams.{IsOrdered, is_below, cut}
 use Rattle.dpc_model.specs.Operators.{all_of}
 use Rattle.dpc_model.specs.Engines.{lies_in}

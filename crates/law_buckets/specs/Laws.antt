@@ -1,6 +1,6 @@
 -- What processing buckets makes of the inputs that were processed, and of the output.
 use Rattle.std.specs.Prelude.{◌≡◌, ℕ, ◌+◌, ◌*◌, ◌<◌, Bool, not, ◌&&◌, List, [], ◌++◌, Some, None, if◌then◌else◌, All}
-use Rattle.dpc_model.specs.Lists.{is_nil}
+use Rattle.dpc_lists.specs.Lists.{is_nil}
 use Rattle.dpc_model.specs.Streams.{IsOrdered}
 use Rattle.dpc_model.specs.Operators.{all_of}
 use Rattle.dpc_model.specs.Engines.{LiesBelow, engine_value}

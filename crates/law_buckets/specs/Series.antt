@@ -1,6 +1,6 @@
 -- Buckets one after another, as the ports of a node hold them.
 use Rattle.std.specs.Prelude.{◌≡◌, ℕ, ◌+◌, ◌*◌, ◌^◌, ◌<◌, ◌≤◌, List, [], ◌++◌, map, Some, All}
-use Rattle.dpc_model.specs.Lists.{range_with_len}
+use Rattle.dpc_lists.specs.Lists.{range_with_len}
 use Rattle.dpc_model.specs.Inlets.{InletState}
 use Rattle.dpc_model.specs.Parts.{Inputs, view_of}
 use Rattle.dpc_model.specs.declared.tuples.Tuple.{Tuple}

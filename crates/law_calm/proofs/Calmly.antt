@@ -1,7 +1,7 @@
 -- Each event that crashes nobody leaves a calm world: every node is up and does not recover, and no present session of a node is truncated.
 use Rattle.std.proofs.Common.{◌≡◌, ℕ, zero, suc, ◌<◌, true, false, List, [], ◌∷◌, refl, sym, ap, subst, ◌∙◌, arith, Option, Some, slice_get, unwrap_or, ◌⊎◌, inl, inr}
 use Rattle.std.proofs.lemmas.Grind.{common_steps}
-use Rattle.dpc_model.specs.Lists.{nth, range_with_len}
+use Rattle.dpc_lists.specs.Lists.{nth, range_with_len}
 use Rattle.dpc_model.specs.Inlets.{same_sess}
 use Rattle.dpc_model.specs.Actors.{role_of, inputs_of, same_stream, sends_stream}
 use Rattle.dpc_model.specs.Ports.{Port, no_port}

@@ -1,7 +1,7 @@
 -- What a fragment's replicas forget the node that reads the fragment at one port holds, and its present session there is never truncated.
 use Rattle.std.proofs.Common.{◌≡◌, ℕ, zero, suc, ◌+◌, ◌*◌, ◌≤◌, true, false, cond, ◌==◌, nat_lt, List, [], ◌∷◌, length, refl, sym, ap, subst, ◌∙◌, arith, Option, Some, None, slice_get, ◌⊎◌, inl, inr}
 use Rattle.std.proofs.lemmas.Grind.{common_steps}
-use Rattle.dpc_model.specs.Lists.{nth}
+use Rattle.dpc_lists.specs.Lists.{nth}
 use Rattle.dpc_model.specs.Streams.{count_below}
 use Rattle.dpc_model.specs.Inlets.{InletState, same_sess, is_newer, with_next_session, asked_by}
 use Rattle.dpc_model.specs.Actors.{role_of, inputs_of, sends_stream, senders_of}
@@ -16,7 +16,7 @@ use Rattle.dpc_model.specs.declared.messages.Message.TheVariants as message
 use Rattle.dpc_model.specs.declared.plans.Plan.{Plan}
 use Rattle.dpc_model.specs.declared.plans.StreamRef.{StreamRef}
 use Rattle.dpc_model.specs.declared.plans.StreamRef.TheVariants.{Frag}
-use Rattle.dpc_model.proofs.Elements.{get-first}
+use Rattle.dpc_lists.proofs.Elements.{get-first}
 use Rattle.dpc_model.proofs.Prefixes.{length-filter_le}
 use Rattle.node_model.specs.Mails.{Packet, Plain}
 use Rattle.node_model.specs.Nodes.{Home, PlainNode, streams_of}

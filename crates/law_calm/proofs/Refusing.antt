@@ -1,6 +1,6 @@
 -- Which truncations the steps of a node send: only in answer to a subscription that is newer than the session kept, and that lies below the base.
 use Rattle.std.proofs.Common.{◌≡◌, ℕ, ◌<◌, true, false, cond, not, ◌==◌, nat_lt, List, [], ◌∷◌, length, refl, sym, ap, ◌∙◌, Option, Some, None}
-use Rattle.dpc_model.specs.Lists.{nth}
+use Rattle.dpc_lists.specs.Lists.{nth}
 use Rattle.dpc_model.specs.Ports.{Port}
 use Rattle.dpc_model.specs.Sessions.{no_session, Answered, Acked, first_batch, is_newer_than_kept}
 use Rattle.dpc_model.specs.declared.sessions.Sub.{Sub}
@@ -10,7 +10,7 @@ use Rattle.dpc_model.specs.declared.messages.Message.TheVariants as message
 use Rattle.node_model.specs.Mails.{Packet, Plain, SnapFor, Mail, mail, Stepped}
 use Rattle.node_model.specs.Nodes.{Home, PlainNode, streams_of, own_readers, shown}
 use Rattle.node_model.specs.NodeSteps.{silent_step, reader_place, on_subscribe, with_marks_ended, packet_step, mill_step, tick_step}
-use Rattle.dpc_model.proofs.Places.{place-within}
+use Rattle.dpc_lists.proofs.Places.{place-within}
 use Rattle.law_safety.proofs.Tests.{lt-of}
 use Rattle.law_safety.proofs.Histories.{AreDistinct}
 use Rattle.law_safety.proofs.Delivered.{place-nth}

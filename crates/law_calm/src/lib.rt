@@ -2,7 +2,7 @@
 #![tactic(auto)]
 
 ghost use Rattle.std.specs.Prelude.{◌≡◌, true, IsTrue, List};
-ghost use Rattle.dpc_model.specs.Lists.{list_all};
+ghost use Rattle.dpc_lists.specs.Lists.{list_all};
 ghost use Rattle.dpc_model.specs.declared.messages.Event.{Event};
 ghost use Rattle.dpc_model.specs.declared.plans.Plan.{Plan};
 ghost use Rattle.dpc_model.specs.declared.scripts.Script.{Script};

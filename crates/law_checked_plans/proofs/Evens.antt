@@ -3,7 +3,7 @@ use Rattle.std.proofs.Common.{◌≡◌, ℕ, ◌+◌, ◌<◌, true, List, [], 
 use Rattle.std.specs.Prelude.{not, ◌&&◌, nat_le}
 use Rattle.std.proofs.lemmas.Bool.{and_parts}
 use Rattle.std.proofs.lemmas.List.{length-append}
-use Rattle.dpc_model.specs.Lists.{push, list_all, is_nil}
+use Rattle.dpc_lists.specs.Lists.{push, list_all, is_nil}
 use Rattle.dpc_model.specs.Fragments.{ReadsBelow, ReadBefore}
 use Rattle.dpc_model.specs.Columns.{kind_columns, wire_columns, fragment_columns, columns_by, frags_columns, stream_columns}
 use Rattle.dpc_model.specs.declared.operators.OpKind.{OpKind}

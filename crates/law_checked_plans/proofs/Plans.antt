@@ -3,7 +3,7 @@ use Rattle.std.proofs.Common.{◌≡◌, ℕ, zero, suc, ◌*◌, ◌/◌, ◌%�
 use Rattle.std.specs.Prelude.{◌&&◌, ◌==◌, nat_lt, nat_le}
 use Rattle.std.proofs.lemmas.Bool.{and_parts, leb-true}
 use Rattle.std.proofs.Math.Nat.{mod-eq-sub-div-mul, div-mul-le_self}
-use Rattle.dpc_model.specs.Lists.{nth, list_all}
+use Rattle.dpc_lists.specs.Lists.{nth, list_all}
 use Rattle.dpc_model.specs.declared.tuples.Tuple.{Tuple}
 use Rattle.dpc_model.specs.declared.plans.SourceSpec.{SourceSpec}
 use Rattle.dpc_model.specs.declared.plans.FragSpec.{FragSpec}

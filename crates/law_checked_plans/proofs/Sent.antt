@@ -5,7 +5,7 @@ use Rattle.std.specs.List.{filter, enumerate_from}
 use Rattle.std.proofs.lemmas.Bool.{and_parts, ltb-true, lt-ltb, leb-true}
 use Rattle.std.proofs.lemmas.List.{map-append}
 use Rattle.std.proofs.lemmas.List.Folds.{list_any-append}
-use Rattle.dpc_model.specs.Lists.{list_any, list_all, range_with_len}
+use Rattle.dpc_lists.specs.Lists.{list_any, list_all, range_with_len}
 use Rattle.dpc_model.specs.Actors.{roles_of, nodes_from, nodes_of, sends_stream, senders_of}
 use Rattle.dpc_model.specs.declared.actors.Role.{Role}
 use Rattle.dpc_model.specs.declared.actors.Role.TheVariants.{Source as IsSource, Node as IsNode, Client as IsClient}

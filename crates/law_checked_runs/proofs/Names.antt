@@ -5,7 +5,7 @@ use Rattle.std.proofs.lemmas.Bool.{and_parts, or_parts, not-false}
 use Rattle.std.proofs.lemmas.Bool.Decides.{nat_tests}
 use Rattle.std.proofs.lemmas.List.Folds.{list_all-append}
 use Rattle.std.proofs.lemmas.List.Sums.{AllPass-from_list_all, list_all-from_AllPass}
-use Rattle.dpc_model.specs.Lists.{list_all, list_any, nth}
+use Rattle.dpc_lists.specs.Lists.{list_all, list_any, nth}
 use Rattle.dpc_model.specs.Words.{Word}
 use Rattle.dpc_model.specs.declared.plans.ClientSpec.{ClientSpec}
 use Rattle.dpc_model.specs.declared.scripts.Script.{Script}

@@ -2,7 +2,7 @@
 use Rattle.std.proofs.Common.{◌≡◌, ◌≤◌, ◌<◌, ℕ, zero, suc, true, List, [], ◌∷◌, length, arith}
 use Rattle.std.specs.Prelude.{nat_le, slice_index_or}
 use Rattle.std.proofs.lemmas.Bool.{and_parts, leb-true}
-use Rattle.dpc_model.specs.Lists.{list_all}
+use Rattle.dpc_lists.specs.Lists.{list_all}
 use Rattle.dpc_model.specs.declared.plans.FragSpec.{FragSpec}
 use Rattle.dpc_model.specs.declared.plans.TheConstants.{MOST_REPLICAS}
 use Rattle.dpc_model.specs.declared.scripts.Script.{Script}

@@ -2,7 +2,7 @@
 use Rattle.std.proofs.Common.{◌≡◌, ℕ, ◌+◌, ◌*◌, ◌<◌, Bool, true, false, cond, ◌==◌, List, map, length, refl, sym, ap, ◌∙◌, Option, Some, None, All}
 use Rattle.std.proofs.lemmas.List.{length-map}
 use Rattle.std.proofs.lemmas.List.Elements.{All-map}
-use Rattle.dpc_model.specs.Lists.{nth}
+use Rattle.dpc_lists.specs.Lists.{nth}
 use Rattle.dpc_model.specs.Streams.{InOrder, is_below}
 use Rattle.dpc_model.specs.Fragments.{ideal_upto}
 use Rattle.dpc_model.specs.Inlets.{AfterBatch, take_batch}

@@ -2,7 +2,7 @@
 use Rattle.std.proofs.Common.{◌≡◌, ℕ, ◌*◌, ◌≤◌, Bool, true, nat_le, List, [], ◌∷◌, ◌++◌, map, arith, All, inl, inr}
 use Rattle.std.proofs.lemmas.List.Elements.{All-from_recursion}
 use Rattle.std.specs.List.{AllByRecursion}
-use Rattle.dpc_model.specs.Lists.{list_all}
+use Rattle.dpc_lists.specs.Lists.{list_all}
 use Rattle.dpc_model.specs.Streams.{NoneBelow, time_of, InOrder}
 use Rattle.dpc_model.specs.Fragments.{IsSound}
 use Rattle.dpc_model.specs.Inlets.{InletState}

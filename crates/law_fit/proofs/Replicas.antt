@@ -1,7 +1,7 @@
 -- Each replica of a checked plan can be made.
 use Rattle.std.proofs.Common.{◌≡◌, ℕ, zero, suc, ◌+◌, ◌<◌, ◌≤◌, true, List, [], ◌∷◌, ◌++◌, map, length, sym, ap, ◌∙◌, arith, Some, slice_get, All, ◌⊎◌, inl, inr}
 use Rattle.std.proofs.lemmas.List.FromFn.{length-range_with_len}
-use Rattle.dpc_model.specs.Lists.{nth, range_with_len}
+use Rattle.dpc_lists.specs.Lists.{nth, range_with_len}
 use Rattle.dpc_model.specs.Actors.{role_of, senders_of, sends_stream, replicas_of, nodes_from}
 use Rattle.dpc_model.specs.declared.actors.Role.{Role}
 use Rattle.dpc_model.specs.declared.actors.Role.TheVariants.{Source as IsSource, Node as IsNode, Client as IsClient, Nobody}

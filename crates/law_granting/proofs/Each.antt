@@ -1,7 +1,7 @@
 -- A fact of each mail of a step.
 use Rattle.std.proofs.Common.{ℕ, ◌+◌, true, false, cond, nat_lt, List, [], ◌∷◌, ◌++◌, map, Option, Some, None}
 use Rattle.std.specs.Prelude.{zip}
-use Rattle.dpc_model.specs.Lists.{nth, insert_by}
+use Rattle.dpc_lists.specs.Lists.{nth, insert_by}
 use Rattle.dpc_model.specs.Inlets.{with_next_session, asked_by}
 use Rattle.dpc_model.specs.Actors.{senders_of}
 use Rattle.dpc_model.specs.Ports.{Port, choice_at, must_reopen, subscriptions}

@@ -3,7 +3,7 @@ use Rattle.std.proofs.Common.{◌≡◌, ℕ, zero, suc, ◌+◌, ◌<◌, Bool,
 use Rattle.std.proofs.lemmas.List.{length-map}
 use Rattle.std.proofs.lemmas.List.FromFn.{length-range_with_len}
 use Rattle.std.proofs.lemmas.Bool.{or_left, or_right}
-use Rattle.dpc_model.specs.Lists.{nth, range_with_len, list_any, IsPrefixOf}
+use Rattle.dpc_lists.specs.Lists.{nth, range_with_len, list_any, IsPrefixOf}
 use Rattle.dpc_model.specs.Inlets.{same_sess, sess_of}
 use Rattle.dpc_model.specs.Actors.{role_of, nodes_of, inputs_of, reads_from, sends_stream, same_stream}
 use Rattle.dpc_model.specs.declared.actors.Role.{Role}

@@ -1,7 +1,7 @@
 -- Keys of asks, and what one step does to a replica's asks and promises.
 use Rattle.std.proofs.Common.{◌≡◌, ℕ, zero, suc, ◌+◌, ◌<◌, ◌≤◌, Bool, true, false, cond, not, ◌&&◌, ◌==◌, List, [], ◌∷◌, refl, sym, ap, subst, ◌∙◌, arith, Option, Some, None, ◌⊎◌, inl, inr}
 use Rattle.std.proofs.lemmas.Grind.{common_steps}
-use Rattle.dpc_model.specs.Lists.{nth, changed}
+use Rattle.dpc_lists.specs.Lists.{nth, changed}
 use Rattle.dpc_model.specs.Granting.{Key, key_le, greater_key, Grants, with_promise, promise_to, after_peer_beat, later_key, promise_after, after_silence, promise_kept, with_ask, with_ask_over, promised_other}
 use Rattle.law_safety.proofs.Tests.{both, eq-of}
 

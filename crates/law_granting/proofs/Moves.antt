@@ -2,7 +2,7 @@
 use Rattle.std.proofs.Common.{◌≡◌, ℕ, zero, suc, ◌+◌, ◌*◌, Bool, true, false, cond, not, ◌&&◌, ◌||◌, ◌==◌, nat_lt, nat_le, List, [], ◌∷◌, map, refl, sym, ap, subst, ◌∙◌, arith, Option, Some, None, slice_get, ◌⊎◌, inl, inr}
 use Rattle.std.specs.Prelude.{is_none}
 use Rattle.std.proofs.lemmas.Grind.{common_steps}
-use Rattle.dpc_model.specs.Lists.{nth, changed, list_all}
+use Rattle.dpc_lists.specs.Lists.{nth, changed, list_all}
 use Rattle.dpc_model.specs.Reading.{Folded, fold_items}
 use Rattle.dpc_model.specs.Inlets.{InletState, AfterBatch, with_next_session, take_batch, same_sess, sess_of, after_missing_batch, after_next_batch, after_link, shows_loss}
 use Rattle.dpc_model.specs.Replicas.{is_silent}

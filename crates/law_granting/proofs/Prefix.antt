@@ -1,7 +1,7 @@
 -- The batches taken are the first ones sent.
 use Rattle.std.proofs.Common.{◌≡◌, ℕ, zero, suc, ◌+◌, ◌<◌, Bool, true, false, cond, ◌==◌, List, [], ◌∷◌, map, length, refl, sym, ap, subst, ◌∙◌, arith, Option, Some, None, slice_get, unwrap_or, ◌⊎◌, inl, inr}
 use Rattle.std.specs.List.{filter, enumerate_from}
-use Rattle.dpc_model.specs.Lists.{nth, range_with_len, list_any, IsPrefixOf}
+use Rattle.dpc_lists.specs.Lists.{nth, range_with_len, list_any, IsPrefixOf}
 use Rattle.dpc_model.specs.Inlets.{same_sess, sess_of}
 use Rattle.dpc_model.specs.Actors.{role_of, roles_of, inputs_of, readers_of, same_stream}
 use Rattle.dpc_model.specs.declared.actors.Role.{Role}

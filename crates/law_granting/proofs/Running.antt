@@ -1,6 +1,6 @@
 -- Asking and granting are in order in every run.
 use Rattle.std.proofs.Common.{◌≡◌, ℕ, ◌+◌, ◌-◌, ◌*◌, ◌≤◌, Bool, true, false, not, ◌||◌, nat_le, List, [], ◌∷◌, length, refl, sym, ap, subst, ◌∙◌, arith, Option, Some, None, unwrap_or}
-use Rattle.dpc_model.specs.Lists.{is_nil}
+use Rattle.dpc_lists.specs.Lists.{is_nil}
 use Rattle.dpc_model.specs.Reading.{Reader}
 use Rattle.dpc_model.specs.Due.{is_complete}
 use Rattle.dpc_model.specs.Actors.{role_of, nodes_of}
@@ -26,7 +26,7 @@ use Rattle.law_safety.proofs.Law.{new_world-fine, run-fine}
 use Rattle.law_granting.specs.Asking.{reconciles, AsksInOrder, AreAsksInOrder}
 use Rattle.law_granting.proofs.AtWork.{IsAtWork, IsAsking, idle, unstable-failed}
 use Rattle.law_granting.proofs.Asked.{IsInOrder, IsAskingWorld, heard-none, event-asking}
-use Rattle.dpc_model.proofs.Elements.{get-map}
+use Rattle.dpc_lists.proofs.Elements.{get-map}
 
 -- ---- one node
 

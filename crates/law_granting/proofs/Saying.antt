@@ -1,7 +1,7 @@
 -- What each step of a node does to its asks and promises, and what its mails say of them.
 use Rattle.std.proofs.Common.{◌≡◌, ℕ, ◌+◌, ◌-◌, Bool, true, false, cond, not, ◌&&◌, ◌||◌, ◌==◌, nat_lt, min, List, [], ◌∷◌, ◌++◌, map, length, refl, sym, subst, Option, Some, None}
 use Rattle.std.specs.Prelude.{is_none}
-use Rattle.dpc_model.specs.Lists.{nth, list_all}
+use Rattle.dpc_lists.specs.Lists.{nth, list_all}
 use Rattle.dpc_model.specs.Inlets.{AfterBatch, take_batch, same_sess}
 use Rattle.dpc_model.specs.Replicas.{is_silent}
 use Rattle.dpc_model.specs.Granting.{Key, key_le, Grants, own_key, grants, with_promise, promise_to, promised_other, known_over, may_enter_by, with_ask}

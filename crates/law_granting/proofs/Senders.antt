@@ -2,7 +2,7 @@
 use Rattle.std.proofs.Common.{◌≡◌, ℕ, zero, suc, ◌+◌, ◌-◌, min, ◌<◌, Bool, true, false, cond, not, ◌&&◌, ◌==◌, nat_lt, List, [], ◌∷◌, ◌++◌, map, length, refl, sym, ap, subst, ◌∙◌, arith, Option, Some, None, inl, inr}
 use Rattle.std.specs.Prelude.{is_none}
 use Rattle.std.proofs.lemmas.List.{length-map}
-use Rattle.dpc_model.specs.Lists.{nth, changed, list_all}
+use Rattle.dpc_lists.specs.Lists.{nth, changed, list_all}
 use Rattle.dpc_model.specs.Inlets.{same_sess, take_batch, AfterBatch}
 use Rattle.dpc_model.specs.Replicas.{is_silent}
 use Rattle.dpc_model.specs.Granting.{grants, with_promise, own_key, with_ask, may_enter_by}
@@ -28,7 +28,7 @@ use Rattle.world_model.specs.Worlds.{Envelope, from}
 use Rattle.world_model.specs.SessionLaw.{Channel}
 use Rattle.law_safety.proofs.Tests.{both-of, eq-of, eq-test}
 use Rattle.law_safety.proofs.Histories.{AreDistinct}
-use Rattle.dpc_model.proofs.Elements.{length-changed}
+use Rattle.dpc_lists.proofs.Elements.{length-changed}
 use Rattle.law_safety.proofs.Giving.{place-below}
 use Rattle.law_safety.proofs.Delivered.{place-nth}
 use Rattle.law_granting.specs.Taken.{subscribes_packet}

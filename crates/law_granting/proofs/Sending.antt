@@ -2,7 +2,7 @@
 use Rattle.std.proofs.Common.{◌≡◌, ℕ, zero, suc, ◌+◌, ◌<◌, ◌≤◌, Bool, true, false, cond, not, ◌&&◌, ◌||◌, ◌==◌, nat_lt, List, [], ◌∷◌, ◌++◌, map, length, refl, sym, ap, subst, ◌∙◌, arith, Option, Some, None, slice_get, length-append, ◌⊎◌, inl, inr}
 use Rattle.std.proofs.lemmas.Grind.{common_steps}
 use Rattle.std.proofs.lemmas.Option.{slice_get_within}
-use Rattle.dpc_model.specs.Lists.{nth, range_with_len, list_any}
+use Rattle.dpc_lists.specs.Lists.{nth, range_with_len, list_any}
 use Rattle.dpc_model.specs.Inlets.{same_sess, is_newer}
 use Rattle.dpc_model.specs.Sessions.{no_session, Shown, Answered, answer_to, is_newer_than_kept, link_of, with_session_shut, with_batch, with_batches, batches_from, batches_of, first_batch}
 use Rattle.dpc_model.specs.declared.sessions.Sub.{Sub}

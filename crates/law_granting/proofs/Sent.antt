@@ -1,7 +1,7 @@
 -- The batches that a node sent in a session that was answered in one of its incarnations are numbered from 0 on.
 use Rattle.std.proofs.Common.{◌≡◌, ℕ, zero, suc, ◌+◌, ◌<◌, Bool, true, false, cond, ◌&&◌, ◌==◌, nat_lt, List, [], ◌∷◌, ◌++◌, map, length, refl, sym, ap, subst, ◌∙◌, arith, Option, Some, None, slice_get, inl, inr}
 use Rattle.std.proofs.lemmas.List.{append-nil}
-use Rattle.dpc_model.specs.Lists.{nth, changed, range_with_len}
+use Rattle.dpc_lists.specs.Lists.{nth, changed, range_with_len}
 use Rattle.dpc_model.specs.Actors.{role_of}
 use Rattle.dpc_model.specs.declared.actors.Role.TheVariants.{Source as IsSource, Node as IsNode, Client as IsClient}
 use Rattle.dpc_model.specs.Sessions.{no_session}

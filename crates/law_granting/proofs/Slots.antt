@@ -1,7 +1,7 @@
 -- The slots of nodes after an event, and what a slot tells of its asks.
 use Rattle.std.proofs.Common.{◌≡◌, ℕ, zero, suc, ◌+◌, ◌<◌, ◌≤◌, true, false, cond, nat_lt, List, [], ◌∷◌, ◌++◌, map, refl, sym, ap, subst, ◌∙◌, arith, Option, Some, None, slice_get, ◌⊎◌, inl, inr}
 use Rattle.std.specs.Prelude.{IfSome}
-use Rattle.dpc_model.specs.Lists.{nth, changed}
+use Rattle.dpc_lists.specs.Lists.{nth, changed}
 use Rattle.dpc_model.specs.Granting.{Key}
 use Rattle.dpc_model.specs.Actors.{role_of, nodes_of, replicas_of}
 use Rattle.dpc_model.specs.declared.actors.Role.TheVariants.{Node as IsNode}

@@ -2,7 +2,7 @@
 use Rattle.std.proofs.Common.{◌≡◌, ℕ, zero, suc, ◌+◌, ◌<◌, Bool, true, false, cond, ◌&&◌, ◌==◌, nat_lt, List, [], ◌∷◌, ◌++◌, map, length, refl, sym, ap, subst, ◌∙◌, arith, Option, Some, None, slice_get, inl, inr}
 use Rattle.std.specs.Prelude.{zip, max}
 use Rattle.std.proofs.lemmas.List.{append-nil, length-map}
-use Rattle.dpc_model.specs.Lists.{nth, changed, range_with_len, place_of}
+use Rattle.dpc_lists.specs.Lists.{nth, changed, range_with_len, place_of}
 use Rattle.dpc_model.specs.Inlets.{same_sess}
 use Rattle.dpc_model.specs.Actors.{role_of}
 use Rattle.dpc_model.specs.declared.actors.Role.TheVariants.{Source as IsSource, Node as IsNode, Client as IsClient}
@@ -22,7 +22,7 @@ use Rattle.world_model.specs.Worlds.{World, Envelope, source_at, no_source, from
 use Rattle.world_model.specs.Safe.{EachStep}
 use Rattle.world_model.specs.SessionLaw.{Channel}
 use Rattle.law_safety.proofs.Tests.{both-of, eq-test}
-use Rattle.dpc_model.proofs.Elements.{length-changed}
+use Rattle.dpc_lists.proofs.Elements.{length-changed}
 use Rattle.law_safety.proofs.Giving.{place-below}
 use Rattle.law_safety.proofs.Delivered.{place-nth}
 use Rattle.law_safety.proofs.Numbering.{source-at as source-number}

@@ -1,7 +1,7 @@
 -- The batches that a port took in its session are numbered from 0 on, and are of the replica that it reads.
 use Rattle.std.proofs.Common.{◌≡◌, ℕ, zero, suc, ◌+◌, Bool, true, false, cond, ◌==◌, nat_lt, List, [], ◌∷◌, ◌++◌, map, length, refl, sym, ap, subst, ◌∙◌, arith, Option, Some, None, slice_get, unwrap_or, ◌⊎◌, inl, inr, length-append}
 use Rattle.std.proofs.lemmas.Grind.{common_steps}
-use Rattle.dpc_model.specs.Lists.{nth, changed, range_with_len}
+use Rattle.dpc_lists.specs.Lists.{nth, changed, range_with_len}
 use Rattle.dpc_model.specs.Inlets.{take_batch, same_sess, restarted_inlet, new_inlet, sess_of}
 use Rattle.dpc_model.specs.Actors.{role_of, nodes_of, inputs_of, senders_of}
 use Rattle.dpc_model.specs.declared.actors.Role.{Role}
@@ -39,7 +39,7 @@ use Rattle.law_granting.proofs.Slots.{slot-there}
 use Rattle.law_granting.proofs.Asked.{same-or}
 use Rattle.law_granting.proofs.Running.{new-slot}
 use Rattle.law_granting.proofs.Moves.{Moves, stays-same, stays-then, took-moves, beat-moves, truncated-moves, chosen-moves, PortsMove, DeliversNext, NoneTaken, get-mapped, delivered-ports, milled-ports, ticked-ports}
-use Rattle.dpc_model.proofs.Elements.{get-first}
+use Rattle.dpc_lists.proofs.Elements.{get-first}
 use Rattle.law_safety.proofs.Growing.{event-grows}
 use Rattle.law_safety.proofs.Histories.{same-self}
 

@@ -1,6 +1,6 @@
 -- While a replica that was granted its ask reconciles, the one that granted it serves.
 use Rattle.std.specs.Prelude.{◌≡◌, ℕ, ◌<◌, ◌≤◌, Bool, false, ◌&&◌, ◌==◌, List, ◌∷◌, ◌++◌, map, length, Option, Some, None, slice_get}
-use Rattle.dpc_model.specs.Lists.{nth}
+use Rattle.dpc_lists.specs.Lists.{nth}
 use Rattle.dpc_model.specs.Granting.{Key}
 use Rattle.dpc_model.specs.Replicas.{is_silent}
 use Rattle.dpc_model.specs.Actors.{role_of}

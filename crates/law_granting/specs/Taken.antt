@@ -1,6 +1,6 @@
 -- Which batches a reader took in its present session, and which its sender sent in it.
 use Rattle.std.specs.Prelude.{◌≡◌, ℕ, ◌+◌, Bool, true, false, ◌&&◌, ◌==◌, if◌then◌else◌, List, [], ◌∷◌, ◌++◌, Option, Some, None, slice_get}
-use Rattle.dpc_model.specs.Lists.{nth, IsPrefixOf}
+use Rattle.dpc_lists.specs.Lists.{nth, IsPrefixOf}
 use Rattle.dpc_model.specs.Inlets.{same_sess, sess_of}
 use Rattle.dpc_model.specs.Actors.{role_of, inputs_of, senders_of}
 use Rattle.dpc_model.specs.declared.actors.Role.{Role}

@@ -1,7 +1,7 @@
 -- What a world is behind the directives that were done, and what the next one and all that is no directive make of it.
 use Rattle.std.proofs.Common.{◌≡◌, ℕ, true, false, List, [], ◌∷◌, ◌++◌, map, length, zero, suc, ◌+◌, ◌<◌, refl, sym, ap, subst, ◌∙◌, arith, is_some, Some}
 use Rattle.std.proofs.lemmas.List.{length-map}
-use Rattle.dpc_model.specs.Lists.{nth, range_with_len, list_all}
+use Rattle.dpc_lists.specs.Lists.{nth, range_with_len, list_all}
 use Rattle.dpc_model.specs.Actors.{role_of, nodes_of}
 use Rattle.dpc_model.specs.declared.messages.Event.{Event}
 use Rattle.dpc_model.specs.declared.messages.Event.TheVariants.{Phase, Emit, Release, Cut, Heal, Crash, Restart, Deliver, Tick, Mill}

@@ -6,7 +6,7 @@ use Rattle.std.specs.List.{filter}
 use Rattle.std.proofs.lemmas.Bool.{true_from_ne_false}
 use Rattle.std.proofs.lemmas.List.Elements.{All-from_get_or}
 use Rattle.std.proofs.lemmas.Option.{unwrap_or-slice_get}
-use Rattle.dpc_model.specs.Lists.{list_all, list_any, range_with_len}
+use Rattle.dpc_lists.specs.Lists.{list_all, list_any, range_with_len}
 use Rattle.dpc_model.specs.declared.messages.Event.{Event}
 use Rattle.dpc_model.specs.declared.messages.Event.TheVariants.{Phase}
 use Rattle.dpc_model.specs.declared.plans.Plan.{Plan}

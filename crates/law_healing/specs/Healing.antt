@@ -1,6 +1,6 @@
 -- Scripts behind whose directives all has healed.
 use Rattle.std.specs.Prelude.{ℕ, Bool, true, false, not, ◌&&◌, ◌||◌, ◌==◌, List, fold, flat_map, length}
-use Rattle.dpc_model.specs.Lists.{list_all, list_any, range_with_len}
+use Rattle.dpc_lists.specs.Lists.{list_all, list_any, range_with_len}
 use Rattle.dpc_model.specs.declared.plans.Plan.{Plan}
 use Rattle.dpc_model.specs.declared.scripts.Directive.{Directive}
 use Rattle.dpc_model.specs.declared.scripts.Directive.TheVariants.{Release, Cut, Heal, Crash, Restart}

@@ -1,7 +1,7 @@
 -- A reader of a fragment and one of its replicas: the replica's tick sends a beat, and when it comes the reader counts no tick since.
 use Rattle.std.proofs.Common.{◌≡◌, ℕ, ◌+◌, ◌<◌, ◌≤◌, Bool, true, false, cond, nat_lt, length, refl, sym, ap, subst, ◌∙◌, arith, Option, Some, slice_get}
 use Rattle.std.proofs.lemmas.Option.{slice_get_within}
-use Rattle.dpc_model.specs.Lists.{nth, changed}
+use Rattle.dpc_lists.specs.Lists.{nth, changed}
 use Rattle.dpc_model.specs.Actors.{role_of, inputs_of}
 use Rattle.dpc_model.specs.Ports.{Port, sender_at, without_ended_marks}
 use Rattle.dpc_model.specs.Replicas.{Watch, after_beat, after_count}

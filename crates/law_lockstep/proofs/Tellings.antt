@@ -1,7 +1,7 @@
 -- A tick of a node, of a recovering one too, tells each reader its incarnation by a beat.
 use Rattle.std.proofs.Common.{◌≡◌, ℕ, ◌<◌, true, false, cond, not, ◌++◌, map, length, subst, None}
 use Rattle.std.specs.Prelude.{zip}
-use Rattle.dpc_model.specs.Lists.{nth}
+use Rattle.dpc_lists.specs.Lists.{nth}
 use Rattle.dpc_model.specs.Sessions.{link_of, no_session}
 use Rattle.dpc_model.specs.declared.sessions.Sub.{Sub}
 use Rattle.node_model.specs.Mails.{mail, in_actor_order, to_each, Stepped}

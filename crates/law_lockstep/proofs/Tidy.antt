@@ -4,7 +4,7 @@ use Rattle.std.specs.Prelude.{reverse, fold, replicate, flat_map}
 use Rattle.std.specs.List.{filter}
 use Rattle.std.proofs.lemmas.Grind.{reverse_onto}
 use Rattle.std.proofs.Math.Bool.{or-true}
-use Rattle.dpc_model.specs.Lists.{list_all, range_with_len}
+use Rattle.dpc_lists.specs.Lists.{list_all, range_with_len}
 use Rattle.dpc_model.specs.Limits.{most_milled}
 use Rattle.dpc_model.specs.declared.messages.Event.{Event}
 use Rattle.dpc_model.specs.declared.messages.Event.TheVariants.{Phase, Emit, Release, Cut, Heal, Crash, Restart, Deliver, Tick, Mill}

@@ -2,7 +2,7 @@
 use Rattle.std.proofs.Common.{◌≡◌, ℕ, zero, suc, ◌+◌, ◌-◌, ◌≤◌, Bool, true, false, ◌==◌, min, List, [], ◌++◌, map, length, drop, refl, sym, ap, ◌∙◌, arith, Some, None}
 use Rattle.std.proofs.lemmas.Grind.{common_steps}
 use Rattle.std.specs.Prelude.{if◌then◌else◌}
-use Rattle.dpc_model.specs.Lists.{is_nil, range_with_len}
+use Rattle.dpc_lists.specs.Lists.{is_nil, range_with_len}
 use Rattle.dpc_model.specs.Reading.{Reader}
 use Rattle.dpc_model.specs.Fragments.{fragment_value}
 use Rattle.dpc_model.specs.Due.{first_incomplete}

@@ -4,7 +4,7 @@ use Rattle.std.proofs.lemmas.List.{length-map}
 use Rattle.std.proofs.lemmas.List.Elements.{All-from_recursion, recursion_from_All}
 use Rattle.std.specs.List.{AllByRecursion}
 use Rattle.std.specs.Prelude.{if◌then◌else◌}
-use Rattle.dpc_model.specs.Lists.{changed, list_all}
+use Rattle.dpc_lists.specs.Lists.{changed, list_all}
 use Rattle.dpc_model.specs.Streams.{InOrder}
 use Rattle.dpc_model.specs.Reading.{Reader}
 use Rattle.dpc_model.specs.Inlets.{InletState, with_next_session}

@@ -7,7 +7,7 @@ use Rattle.std.proofs.lemmas.Nat.{le-div}
 use Rattle.std.proofs.lemmas.List.{length-append}
 use Rattle.std.specs.List.{AllByRecursion}
 use Rattle.std.specs.Prelude.{if◌then◌else◌}
-use Rattle.dpc_model.specs.Lists.{is_nil, least, last_below, list_all}
+use Rattle.dpc_lists.specs.Lists.{is_nil, least, last_below, list_all}
 use Rattle.dpc_model.specs.Reading.{Reader}
 use Rattle.dpc_model.specs.Due.{DueView, reach, stamp_of, waited_long, is_complete, is_overdue, is_passed, last_due}
 use Rattle.dpc_model.specs.Inlets.{InletState}

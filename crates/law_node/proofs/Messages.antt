@@ -1,7 +1,7 @@
 -- What messages make of the parts of the plain node.
 use Rattle.std.proofs.Common.{◌≡◌, ℕ, zero, suc, Bool, true, false, ◌==◌, List, [], ◌∷◌, map, refl, ap, ◌∙◌, Some}
 use Rattle.std.specs.Prelude.{if◌then◌else◌}
-use Rattle.dpc_model.specs.Lists.{nth, changed}
+use Rattle.dpc_lists.specs.Lists.{nth, changed}
 use Rattle.dpc_model.specs.Inlets.{InletState, AfterBatch, after_link, with_next_session}
 use Rattle.dpc_model.specs.Ports.{Port, no_port, on_beat, on_truncated, without_ended_marks, must_reopen, port_after_choice}
 use Rattle.dpc_model.specs.Parts.{Upstream}

@@ -1,7 +1,7 @@
 -- One step of a node keeps its base at most what a client holds; and what a client holds never shrinks.
 use Rattle.std.proofs.Common.{◌≡◌, ℕ, zero, suc, ◌<◌, ◌≤◌, max, true, false, cond, ◌&&◌, ◌||◌, ◌==◌, nat_lt, nat_le, List, [], ◌∷◌, map, length, refl, sym, ap, subst, ◌∙◌, arith, Option, Some, None, inl, inr}
 use Rattle.std.proofs.lemmas.List.{length-map}
-use Rattle.dpc_model.specs.Lists.{nth, least, push}
+use Rattle.dpc_lists.specs.Lists.{nth, least, push}
 use Rattle.dpc_model.specs.Reading.{Reader, Reading, NoReading, Skipped, Taken as TakenItem, reading, is_sure, Folded, taken_first, fold_items}
 use Rattle.dpc_model.specs.Inlets.{InletState, AfterBatch, is_old, after_missing_batch, after_next_batch, take_batch}
 use Rattle.dpc_model.specs.Ports.{Port}
@@ -14,7 +14,7 @@ use Rattle.dpc_model.specs.declared.tuples.Item.TheVariants as item
 use Rattle.dpc_model.specs.declared.messages.Sess.{Sess}
 use Rattle.dpc_model.specs.declared.messages.Message.{Message}
 use Rattle.dpc_model.specs.declared.messages.Message.TheVariants as message
-use Rattle.dpc_model.proofs.Elements.{length-changed}
+use Rattle.dpc_lists.proofs.Elements.{length-changed}
 use Rattle.node_model.specs.Mails.{Snap, Packet, Plain, SnapFor, Mail, mail}
 use Rattle.node_model.specs.Nodes.{Home, PlainNode, streams_of, own_readers, shown}
 use Rattle.node_model.specs.NodeSteps.{packet_step, mill_step, tick_step}

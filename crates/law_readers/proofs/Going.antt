@@ -1,6 +1,6 @@
 -- What one step of a reader does to what a port holds, where no batch is missing after it.
 use Rattle.std.proofs.Common.{◌≡◌, ℕ, ◌+◌, Bool, true, false, cond, not, ◌&&◌, ◌||◌, ◌==◌, nat_lt, nat_le, List, [], ◌∷◌, ◌++◌, map, length, refl, sym, ap, subst, ◌∙◌, arith, Option, Some, None, slice_get, unwrap_or, ◌⊎◌, inl, inr}
-use Rattle.dpc_model.specs.Lists.{nth, changed}
+use Rattle.dpc_lists.specs.Lists.{nth, changed}
 use Rattle.dpc_model.specs.Reading.{Folded, fold_items}
 use Rattle.dpc_model.specs.Inlets.{InletState, same_sess, AfterBatch, after_missing_batch, after_next_batch, take_batch, with_next_session, asked_by}
 use Rattle.dpc_model.specs.Actors.{senders_of}

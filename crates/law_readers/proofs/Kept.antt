@@ -1,7 +1,7 @@
 -- Every event keeps the bases of a fragment's replicas at most what each client of its output holds.
 use Rattle.std.proofs.Common.{◌≡◌, ℕ, ◌+◌, ◌≤◌, true, false, cond, not, ◌||◌, ◌&&◌, ◌==◌, nat_lt, List, [], ◌∷◌, ◌++◌, map, length, refl, sym, ap, subst, ◌∙◌, arith, Option, Some, None, slice_get, ◌⊎◌, inl, inr}
 use Rattle.std.proofs.lemmas.List.{length-map}
-use Rattle.dpc_model.specs.Lists.{nth, changed, list_any}
+use Rattle.dpc_lists.specs.Lists.{nth, changed, list_any}
 use Rattle.dpc_model.specs.Inlets.{InletState, take_batch, with_next_session}
 use Rattle.dpc_model.specs.Actors.{role_of, inputs_of, same_stream, are_peers, senders_of}
 use Rattle.dpc_model.specs.declared.actors.Role.{Role}

@@ -1,7 +1,7 @@
 -- What one step of a node keeps of its ports, sessions, acknowledgements and base, and a fact of each of its mails.
 use Rattle.std.proofs.Common.{◌≡◌, ℕ, zero, suc, ◌+◌, ◌-◌, ◌*◌, min, Bool, true, false, cond, not, ◌&&◌, ◌||◌, ◌==◌, nat_lt, List, [], ◌∷◌, map, length, refl, sym, ap, subst, ◌∙◌, arith, Option, Some, None, slice_get, unwrap_or, inl, inr}
 use Rattle.std.specs.Prelude.{is_none}
-use Rattle.dpc_model.specs.Lists.{nth, changed, list_all}
+use Rattle.dpc_lists.specs.Lists.{nth, changed, list_all}
 use Rattle.dpc_model.specs.Reading.{Folded, fold_items}
 use Rattle.dpc_model.specs.Inlets.{InletState, same_sess, AfterBatch, is_old, after_missing_batch, after_next_batch, take_batch, after_link, shows_loss}
 use Rattle.dpc_model.specs.Replicas.{is_silent}

@@ -3,7 +3,7 @@ use Rattle.std.proofs.Common.{◌≡◌, ℕ, zero, suc, ◌+◌, true, false, c
 use Rattle.std.specs.Prelude.{IfSome}
 use Rattle.std.proofs.lemmas.Grind.{common_steps}
 use Rattle.std.proofs.lemmas.List.{append-nil, append_assoc, length-append}
-use Rattle.dpc_model.specs.Lists.{nth}
+use Rattle.dpc_lists.specs.Lists.{nth}
 use Rattle.dpc_model.specs.Reading.{Reader, is_sure, fold_items}
 use Rattle.dpc_model.specs.Inlets.{InletState, same_sess, is_newer, sess_of, with_next_session, asked_by}
 use Rattle.dpc_model.specs.Actors.{role_of, sends_stream, senders_of}
@@ -16,7 +16,7 @@ use Rattle.dpc_model.specs.declared.messages.Subscribe.{Subscribe}
 use Rattle.dpc_model.specs.declared.messages.Message.TheVariants as message
 use Rattle.dpc_model.specs.declared.plans.Plan.{Plan}
 use Rattle.dpc_model.specs.declared.plans.StreamRef.{StreamRef}
-use Rattle.dpc_model.proofs.Elements.{get-first}
+use Rattle.dpc_lists.proofs.Elements.{get-first}
 use Rattle.node_model.specs.Mails.{Packet, Plain}
 use Rattle.node_model.specs.Nodes.{PlainNode}
 use Rattle.world_model.specs.Worlds.{World, Envelope, slot_of, client_at}

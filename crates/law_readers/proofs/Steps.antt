@@ -2,7 +2,7 @@
 use Rattle.std.proofs.Common.{◌≡◌, ℕ, zero, suc, ◌+◌, ◌<◌, ◌≤◌, Bool, true, false, cond, ◌==◌, nat_lt, List, [], ◌∷◌, ◌++◌, map, length, refl, sym, ap, subst, ◌∙◌, arith, Option, Some, None, slice_get, unwrap_or, ◌⊎◌, inl, inr}
 use Rattle.std.proofs.lemmas.Option.{slice_get_within}
 use Rattle.dpc_model.specs.declared.plans.ClientSpec.{ClientSpec}
-use Rattle.dpc_model.specs.Lists.{nth, changed, range_with_len}
+use Rattle.dpc_lists.specs.Lists.{nth, changed, range_with_len}
 use Rattle.dpc_model.specs.Reading.{empty_reader, stable_reader}
 use Rattle.dpc_model.specs.Inlets.{InletState, sess_of, new_inlet, restarted_inlet, with_next_session, asked_by}
 use Rattle.dpc_model.specs.Actors.{role_of, inputs_of, sends_stream, senders_of}

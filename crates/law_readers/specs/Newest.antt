@@ -1,6 +1,6 @@
 -- Which sessions of a port are known of: none that is newer than the port's own.
 use Rattle.std.specs.Prelude.{◌≡◌, ⊤, ℕ, ◌≤◌, true, false, List, [], Option, Some, None, IfSome, slice_get}
-use Rattle.dpc_model.specs.Lists.{nth}
+use Rattle.dpc_lists.specs.Lists.{nth}
 use Rattle.dpc_model.specs.Inlets.{is_newer}
 use Rattle.dpc_model.specs.Ports.{Port}
 use Rattle.dpc_model.specs.Actors.{role_of, inputs_of, sends_stream, readers_of}

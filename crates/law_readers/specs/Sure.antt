@@ -1,6 +1,6 @@
 -- What a source sends: nothing that may be corrected.
 use Rattle.std.specs.Prelude.{◌≡◌, ⊤, ℕ, ◌⊎◌, Bool, true, false, List, [], ◌∷◌, ◌++◌, Some, slice_get}
-use Rattle.dpc_model.specs.Lists.{list_all}
+use Rattle.dpc_lists.specs.Lists.{list_all}
 use Rattle.dpc_model.specs.Actors.{role_of}
 use Rattle.dpc_model.specs.declared.actors.Role.TheVariants.{Source as IsSource}
 use Rattle.dpc_model.specs.declared.tuples.Item.{Item}

@@ -1,6 +1,6 @@
 -- A node takes a batch.
 use Rattle.std.proofs.Common.{◌≡◌, ℕ, ◌*◌, ◌≤◌, true, false, cond, ◌&&◌, ◌||◌, nat_lt, nat_le, nat_eq as eqb, List, [], ◌∷◌, length, refl, sym, ◌∙◌, arith, Option, Some, None, slice_get, ◌⊎◌, inl, inr}
-use Rattle.dpc_model.specs.Lists.{list_all, push}
+use Rattle.dpc_lists.specs.Lists.{list_all, push}
 use Rattle.dpc_model.specs.Reading.{Reader, NoReading, Skipped, Taken, reading, is_sure, Folded, fold_items, taken_first, tuples_in}
 use Rattle.dpc_model.specs.Inlets.{InletState, AfterBatch, take_batch, is_old, after_missing_batch, after_next_batch}
 use Rattle.dpc_model.specs.declared.batches.Taken.{Taken as Answer}

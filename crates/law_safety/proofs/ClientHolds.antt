@@ -1,6 +1,6 @@
 -- A client that takes a true packet goes on to hold of its stream.
 use Rattle.std.proofs.Common.{◌≡◌, ℕ, true, false, cond, ◌==◌, refl, Some, None}
-use Rattle.dpc_model.specs.Lists.{place_of}
+use Rattle.dpc_lists.specs.Lists.{place_of}
 use Rattle.dpc_model.specs.Ports.{Port, held_at, on_beat}
 use Rattle.dpc_model.specs.declared.messages.Beat.{Beat}
 use Rattle.dpc_model.specs.Actors.{role_of, senders_of}

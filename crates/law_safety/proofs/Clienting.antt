@@ -1,7 +1,7 @@
 -- Steps of a client.
 use Rattle.std.proofs.Common.{◌≡◌, ℕ, zero, suc, ◌+◌, ◌≤◌, true, false, cond, ◌||◌, ◌==◌, nat_lt, List, [], ◌∷◌, ◌++◌, length, take, refl, subst, ◌∙◌, Option, Some, None, slice_get}
 use Rattle.std.specs.Prelude.{IsTrue}
-use Rattle.dpc_model.specs.Lists.{list_all, place_of}
+use Rattle.dpc_lists.specs.Lists.{list_all, place_of}
 use Rattle.dpc_model.specs.Reading.{Reader, empty_reader, NoReading, Skipped, Taken, reading, is_sure, Folded, fold_items, taken_first}
 use Rattle.dpc_model.specs.Inlets.{InletState, AfterBatch, take_batch, is_old, after_missing_batch, after_next_batch, new_inlet}
 use Rattle.dpc_model.specs.Actors.{role_of, senders_of, inputs_of, reads_from}

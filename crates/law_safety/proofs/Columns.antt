@@ -2,7 +2,7 @@
 use Rattle.std.proofs.Common.{◌≡◌, ℕ, int_eq, zero, suc, ◌+◌, ◌-◌, ◌*◌, ◌≤◌, Bool, true, false, cond, ◌&&◌, ◌==◌, nat_lt, List, [], ◌∷◌, ◌++◌, map, length, refl, ◌∙◌, arith, Option, Some, None, length-append, unwrap_or}
 use Rattle.std.proofs.lemmas.List.{length-map}
 use Rattle.std.specs.List.{filter, flat_map}
-use Rattle.dpc_model.specs.Lists.{nth, push, list_all, last_or, range_with_len}
+use Rattle.dpc_lists.specs.Lists.{nth, push, list_all, last_or, range_with_len}
 use Rattle.dpc_model.specs.Streams.{is_below}
 use Rattle.dpc_model.specs.Operators.{output_of, mapped_tuple, all_of, paired, pairs_with, are_partners, window_rows, group_rows, total_of, between, window_count, distinct_values}
 use Rattle.dpc_model.specs.Values.{value_of, is_true, column}

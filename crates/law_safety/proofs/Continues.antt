@@ -4,7 +4,7 @@ use Rattle.std.proofs.lemmas.Grind.{common_steps}
 use Rattle.std.proofs.lemmas.List.{append-nil}
 use Rattle.std.proofs.lemmas.List.Elements.{filter-append}
 use Rattle.std.specs.List.{enumerate_from, AllByRecursion}
-use Rattle.dpc_model.specs.Lists.{list_all, IsPrefixOf}
+use Rattle.dpc_lists.specs.Lists.{list_all, IsPrefixOf}
 use Rattle.dpc_model.specs.Streams.{NoneBelow, IsOrdered, InOrder, cut}
 use Rattle.dpc_model.specs.Operators.{all_of}
 use Rattle.dpc_model.specs.Engines.{lies_in, is_serial}

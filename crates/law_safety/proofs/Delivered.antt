@@ -1,7 +1,7 @@
 -- A node takes any packet that is true and fits.
 use Rattle.std.proofs.Common.{◌≡◌, ℕ, zero, suc, ◌+◌, Bool, true, false, cond, not, ◌&&◌, ◌==◌, List, [], ◌∷◌, map, length, refl, sym, ap, ◌∙◌, arith, Option, Some, None, slice_get, ◌⊎◌, inl, inr}
 use Rattle.std.proofs.lemmas.Grind.{common_steps}
-use Rattle.dpc_model.specs.Lists.{nth, changed, list_all, place_of}
+use Rattle.dpc_lists.specs.Lists.{nth, changed, list_all, place_of}
 use Rattle.dpc_model.specs.Reading.{Reader}
 use Rattle.dpc_model.specs.Inlets.{same_sess, after_link, take_batch}
 use Rattle.dpc_model.specs.Replicas.{with_mark, after_beat}
@@ -36,7 +36,7 @@ use Rattle.law_safety.proofs.Processing.{base-follows}
 use Rattle.law_safety.proofs.Frames.{IsGood, IsSafeNode-held, out_stable-held, is_empty_port, marks-good}
 use Rattle.law_safety.proofs.Emptied.{shape-of, shape-test, emptied-of, emptied-test, later-good, recovering_again-good}
 use Rattle.law_safety.proofs.Starting.{adopted-good, snapshot-true}
-use Rattle.dpc_model.proofs.Elements.{length-changed}
+use Rattle.dpc_lists.proofs.Elements.{length-changed}
 use Rattle.law_safety.proofs.Pointwise.{changed-same, port-at, ports-changed, IsSenderOf, sender-of}
 use Rattle.law_safety.proofs.Batches.{took-good, take_batch-broken}
 use Rattle.law_safety.proofs.Numbering.{all-at}

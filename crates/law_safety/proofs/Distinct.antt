@@ -1,7 +1,7 @@
 -- The readers of a stream are different actors.
 use Rattle.std.proofs.Common.{ℕ, zero, suc, ◌+◌, ◌<◌, ◌≤◌, Bool, true, false, cond, List, [], ◌∷◌, map, length, refl, arith}
 use Rattle.std.specs.List.{filter, enumerate_from}
-use Rattle.dpc_model.specs.Lists.{nth, list_any}
+use Rattle.dpc_lists.specs.Lists.{nth, list_any}
 use Rattle.dpc_model.specs.Actors.{roles_of, inputs_of, same_stream, readers_of}
 use Rattle.dpc_model.specs.declared.actors.Role.{Role}
 use Rattle.dpc_model.specs.declared.plans.Plan.{Plan}

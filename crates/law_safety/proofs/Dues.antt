@@ -4,7 +4,7 @@ use Rattle.std.proofs.lemmas.Grind.{common_steps}
 use Rattle.std.proofs.lemmas.List.{length-map}
 use Rattle.std.proofs.lemmas.List.FromFn.{length-range_with_len}
 use Rattle.std.specs.List.{filter}
-use Rattle.dpc_model.specs.Lists.{list_all, last_below, is_nil, range_with_len}
+use Rattle.dpc_lists.specs.Lists.{list_all, last_below, is_nil, range_with_len}
 use Rattle.dpc_model.specs.Reading.{Reader}
 use Rattle.dpc_model.specs.Due.{Stamps, stamp_of, DueView, is_overdue, is_passed, is_complete, reach, waited_long}
 use Rattle.dpc_model.specs.declared.tuples.Tagged.{Tagged}

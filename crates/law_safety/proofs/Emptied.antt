@@ -1,7 +1,7 @@
 -- Nodes that hold nothing: begun to recover, restarted, new, started afresh, or with a snapshot.
 use Rattle.std.proofs.Common.{◌≡◌, ℕ, ◌+◌, ◌≤◌, Bool, true, false, cond, not, ◌&&◌, ◌||◌, ◌==◌, nat_le, List, [], ◌∷◌, map, length, refl, ◌∙◌, arith}
 use Rattle.std.proofs.lemmas.List.{length-map}
-use Rattle.dpc_model.specs.Lists.{list_all, is_nil}
+use Rattle.dpc_lists.specs.Lists.{list_all, is_nil}
 use Rattle.dpc_model.specs.Streams.{is_below}
 use Rattle.dpc_model.specs.Fragments.{ideal, ideal_upto}
 use Rattle.dpc_model.specs.Granting.{Grants, with_ask_over}

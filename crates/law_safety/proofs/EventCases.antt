@@ -1,12 +1,12 @@
 -- What an event makes of a world, by cases: it is void, or it cuts or heals a link, or an actor does its step.
 use Rattle.std.proofs.Common.{◌≡◌, ℕ, true, false, cond, List, refl, Option, Some, None, slice_get}
-use Rattle.dpc_model.specs.Lists.{changed}
+use Rattle.dpc_lists.specs.Lists.{changed}
 use Rattle.dpc_model.specs.Actors.{role_of}
 use Rattle.dpc_model.specs.declared.actors.Role.{Role}
 use Rattle.dpc_model.specs.declared.actors.Role.TheVariants.{Source as IsSource, Node as IsNode, Client as IsClient, Nobody}
 use Rattle.dpc_model.specs.declared.messages.Event.{Event}
 use Rattle.dpc_model.specs.declared.messages.Event.TheVariants.{Phase, Emit, Release, Cut, Heal, Crash, Restart, Deliver, Tick, Mill}
-use Rattle.dpc_model.specs.Lists.{push}
+use Rattle.dpc_lists.specs.Lists.{push}
 use Rattle.node_model.specs.Nodes.{PlainNode}
 use Rattle.node_model.specs.NodeSteps.{packet_step, mill_step, tick_step}
 use Rattle.node_model.specs.Sources.{source_emits, source_releases, source_packet_step, source_tick_step}

@@ -3,7 +3,7 @@ use Rattle.std.proofs.Common.{◌≡◌, ℕ, suc, ◌+◌, ◌-◌, ◌*◌, �
 use Rattle.std.specs.Prelude.{IsTrue}
 use Rattle.std.proofs.lemmas.List.{append-nil}
 use Rattle.std.proofs.Math.Nat.{le-div_iff_mul-le}
-use Rattle.dpc_model.specs.Lists.{nth, changed, list_all, is_nil, place_of}
+use Rattle.dpc_lists.specs.Lists.{nth, changed, list_all, is_nil, place_of}
 use Rattle.dpc_model.specs.Operators.{all_of}
 use Rattle.dpc_model.specs.Fragments.{serial, fragment_value}
 use Rattle.dpc_model.specs.Granting.{with_ask}
@@ -36,7 +36,7 @@ use Rattle.law_safety.proofs.Processing.{stably-open, stably-complete, cursor-co
 use Rattle.law_safety.proofs.SoundPorts.{node-columns}
 use Rattle.law_safety.proofs.Frames.{IsGood}
 use Rattle.law_safety.proofs.Emptied.{shape-of, shape-test, later-good, finished-over}
-use Rattle.dpc_model.proofs.Elements.{length-changed}
+use Rattle.dpc_lists.proofs.Elements.{length-changed}
 use Rattle.law_safety.proofs.Numbering.{all-nth}
 use Rattle.law_safety.proofs.Dues.{due-range}
 use Rattle.law_safety.proofs.OutFits.{out_stable-fits, out_tentative-fits, drop-fits, cursor-within, view-within}

@@ -3,7 +3,7 @@ use Rattle.std.proofs.Common.{◌≡◌, ℕ, zero, suc, ◌+◌, ◌<◌, ◌�
 use Rattle.std.proofs.lemmas.Grind.{common_steps}
 use Rattle.std.proofs.lemmas.List.{append-nil}
 use Rattle.std.proofs.lemmas.Option.{slice_get_within}
-use Rattle.dpc_model.specs.Lists.{nth}
+use Rattle.dpc_lists.specs.Lists.{nth}
 use Rattle.dpc_model.specs.Inlets.{same_sess, is_newer}
 use Rattle.dpc_model.specs.Sessions.{Shown, link_of, is_newer_than_kept, with_batch, batches_from}
 use Rattle.dpc_model.specs.declared.sessions.Sub.{Sub}

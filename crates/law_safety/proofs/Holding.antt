@@ -1,7 +1,7 @@
 -- A reader that takes true items goes on to hold of its stream.
 use Rattle.std.proofs.Common.{◌≡◌, ℕ, ◌≤◌, true, false, cond, ◌&&◌, ◌||◌, nat_lt, nat_le, nat_eq as eqb, List, [], ◌∷◌, ◌++◌, length, Some, None, refl, ap, arith, slice_get, length-append}
 use Rattle.std.proofs.lemmas.Grind.{common_steps}
-use Rattle.dpc_model.specs.Lists.{IsPrefixOf, push}
+use Rattle.dpc_lists.specs.Lists.{IsPrefixOf, push}
 use Rattle.dpc_model.specs.Fragments.{ideal}
 use Rattle.dpc_model.specs.Reading.{Reader, NoReading, Skipped, Taken, reading, is_sure, Folded, fold_items, taken_first}
 use Rattle.dpc_model.specs.declared.tuples.Item.{Item}

@@ -1,7 +1,7 @@
 -- Every run of a checked plan is safe and orderly.
 use Rattle.std.proofs.Common.{◌≡◌, ℕ, zero, suc, ◌+◌, ◌≤◌, true, List, [], ◌∷◌, map, length, refl, subst, ◌∙◌, arith, Some, slice_get}
 use Rattle.std.proofs.lemmas.List.{length-map}
-use Rattle.dpc_model.specs.Lists.{range_with_len}
+use Rattle.dpc_lists.specs.Lists.{range_with_len}
 use Rattle.dpc_model.specs.Fragments.{log_of}
 use Rattle.dpc_model.specs.Actors.{nodes_of}
 use Rattle.dpc_model.specs.Sessions.{opening_session}

@@ -1,7 +1,7 @@
 -- What is to hold of each mail of an actor: it is true, goes the right way and fits, and carries RecDone only where the actor is done.
 use Rattle.std.proofs.Common.{◌≡◌, ℕ, ◌+◌, ◌≤◌, Bool, true, false, cond, nat_lt, nat_le, List, [], ◌∷◌, ◌++◌, map, length, refl, ◌∙◌, arith, Option, Some, None, ◌&&◌}
 use Rattle.std.specs.Prelude.{IsTrue}
-use Rattle.dpc_model.specs.Lists.{nth, list_all, insert_by}
+use Rattle.dpc_lists.specs.Lists.{nth, list_all, insert_by}
 use Rattle.dpc_model.specs.Actors.{role_of, reads_from, are_peers, readers_of}
 use Rattle.dpc_model.specs.declared.actors.Role.TheVariants.{Source as IsSource, Node as IsNode}
 use Rattle.dpc_model.specs.Sessions.{link_of, batches_from, batches_of, Given, given_items, stable_items, boundary_item, tentative_items, passed_item, item_if}

@@ -1,7 +1,7 @@
 -- Milling ready buckets keeps a node safe, and sends true items.
 use Rattle.std.proofs.Common.{◌≡◌, ℕ, ◌+◌, ◌*◌, ◌/◌, ◌<◌, ◌≤◌, false, List, [], ◌∷◌, map, length, drop, sym, ◌∙◌, arith, slice_get, Some}
 use Rattle.std.proofs.Math.Nat.{le-div_iff_mul-le}
-use Rattle.dpc_model.specs.Lists.{least}
+use Rattle.dpc_lists.specs.Lists.{least}
 use Rattle.dpc_model.specs.Streams.{is_below}
 use Rattle.dpc_model.specs.Fragments.{ideal, ideal_upto, IsSound}
 use Rattle.dpc_model.specs.Reading.{Reader}
@@ -16,7 +16,7 @@ use Rattle.node_model.specs.Nodes.{Home, PlainNode, held_by, out_stable, complet
 use Rattle.node_model.specs.NodeSteps.{past_buckets, after_stable_buckets}
 use Rattle.world_model.specs.Safe.{AreTrueItems, EachHolds, EachReaches, IsSafeNode}
 use Rattle.law_safety.proofs.Outputs.{ideal-InOrder, out_stable-ideal}
-use Rattle.dpc_model.proofs.Elements.{get-drop}
+use Rattle.dpc_lists.proofs.Elements.{get-drop}
 use Rattle.law_safety.proofs.Truth.{stable_items-true}
 
 -- ---- items of the failure-free output

@@ -3,7 +3,7 @@ use Rattle.std.proofs.Common.{◌≡◌, ℕ, zero, suc, ◌+◌, ◌-◌, ◌<�
 use Rattle.std.proofs.lemmas.Grind.{common_steps}
 use Rattle.std.proofs.lemmas.List.FromFn.{length-range_with_len}
 use Rattle.std.specs.List.{filter, enumerate_from}
-use Rattle.dpc_model.specs.Lists.{nth, list_all, list_any, range_with_len, place_of}
+use Rattle.dpc_lists.specs.Lists.{nth, list_all, list_any, range_with_len, place_of}
 use Rattle.dpc_model.specs.Actors.{role_of, roles_of, nodes_from, nodes_of, is_replica_of, replicas_of, actors_where, same_stream, sends_stream, inputs_of, senders_of, readers_of, reads_from}
 use Rattle.dpc_model.specs.declared.actors.Role.{Role}
 use Rattle.dpc_model.specs.declared.actors.Role.TheVariants.{Source as IsSource, Node as IsNode, Client as IsClient, Nobody}

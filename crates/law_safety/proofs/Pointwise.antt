@@ -1,6 +1,6 @@
 -- One port of a node is changed.
 use Rattle.std.proofs.Common.{◌≡◌, ℕ, zero, suc, ◌+◌, ◌*◌, ◌≤◌, true, ◌==◌, List, [], ◌∷◌, map, length, refl, sym, ap, ◌∙◌, arith, Option, Some, None, slice_get}
-use Rattle.dpc_model.specs.Lists.{changed, place_of}
+use Rattle.dpc_lists.specs.Lists.{changed, place_of}
 use Rattle.dpc_model.specs.Actors.{senders_of}
 use Rattle.dpc_model.specs.Ports.{Port, held_at, sender_from, sender_at}
 use Rattle.dpc_model.specs.Fragments.{ideal_upto}

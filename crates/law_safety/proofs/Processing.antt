@@ -2,7 +2,7 @@
 use Rattle.std.proofs.Common.{◌≡◌, ℕ, suc, ◌+◌, ◌-◌, ◌*◌, ◌/◌, ◌<◌, ◌≤◌, min, max, Bool, true, false, cond, ◌==◌, nat_le, List, [], ◌∷◌, ◌++◌, map, length, refl, ap, arith, ◌⊎◌, inl, inr, Some, None, not}
 use Rattle.std.proofs.lemmas.List.{length-map}
 use Rattle.std.proofs.Math.Nat.{le-div_iff_mul-le}
-use Rattle.dpc_model.specs.Lists.{least, range_with_len, is_nil}
+use Rattle.dpc_lists.specs.Lists.{least, range_with_len, is_nil}
 use Rattle.dpc_model.specs.Reading.{Reader}
 use Rattle.dpc_model.specs.Sessions.{given_items, boundary_item, with_batch, with_batches}
 use Rattle.dpc_model.specs.declared.sessions.Sub.{Sub}

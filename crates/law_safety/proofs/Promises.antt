@@ -1,7 +1,7 @@
 -- The promises of every run, each from what is safe.
 use Rattle.std.proofs.Common.{◌≡◌, ℕ, zero, suc, ◌+◌, ◌-◌, Bool, true, false, cond, List, [], ◌∷◌, ◌++◌, length, drop, refl, sym, ap, subst, ◌∙◌, arith, Option, Some, None, slice_get, unwrap_or}
 use Rattle.std.specs.Prelude.{IfSome, IsSomeAnd}
-use Rattle.dpc_model.specs.Lists.{changed}
+use Rattle.dpc_lists.specs.Lists.{changed}
 use Rattle.dpc_model.specs.Reading.{Reader, empty_reader, is_sure, NoReading, Skipped, Taken, reading, taken_first, Folded, fold_items}
 use Rattle.dpc_model.specs.Actors.{role_of, nodes_of}
 use Rattle.dpc_model.specs.declared.actors.Role.{Role}
@@ -24,7 +24,7 @@ use Rattle.law_safety.specs.Plans.{IsCheckedPlan}
 use Rattle.law_safety.specs.Holders.{Holder, AtClient, AtPort, client_holds, port_holds, node_holds, role_holds, holding}
 use Rattle.law_safety.specs.Promises.{AllSentIsTrue, ReadersAreRight, OutputsAreRight, DoneLeavesNothing, DoneIsSurelySent, NoneWaits}
 use Rattle.law_safety.proofs.Runs.{run-push}
-use Rattle.dpc_model.proofs.Elements.{get-drop}
+use Rattle.dpc_lists.proofs.Elements.{get-drop}
 use Rattle.law_safety.proofs.Outputs.{cut-held}
 use Rattle.law_safety.proofs.Frames.{IsGood}
 use Rattle.law_safety.proofs.Pointwise.{holds-at, get-changed}

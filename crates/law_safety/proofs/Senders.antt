@@ -2,7 +2,7 @@
 use Rattle.std.proofs.Common.{◌≡◌, ℕ, suc, ◌+◌, ◌-◌, ◌≤◌, Bool, true, false, cond, ◌==◌, nat_eq, List, [], ◌∷◌, map, refl, ap, arith, Option, Some, None}
 use Rattle.std.proofs.lemmas.Grind.{common_steps}
 use Rattle.std.specs.List.{filter, enumerate_from}
-use Rattle.dpc_model.specs.Lists.{nth, place_of}
+use Rattle.dpc_lists.specs.Lists.{nth, place_of}
 use Rattle.dpc_model.specs.Actors.{role_of, roles_of, sends_stream, same_stream, senders_of}
 use Rattle.dpc_model.specs.declared.actors.Role.{Role}
 use Rattle.dpc_model.specs.declared.actors.Role.TheVariants.{Source as IsSource, Node as IsNode, Client as IsClient, Nobody}

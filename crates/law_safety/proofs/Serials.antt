@@ -1,6 +1,6 @@
 -- A bucket of a node lies in its time, and its tuples have the columns of their ports.
 use Rattle.std.proofs.Common.{◌≡◌, ℕ, ◌+◌, ◌*◌, true, false, cond, ◌&&◌, nat_le, List, [], ◌∷◌, ◌++◌, map, refl}
-use Rattle.dpc_model.specs.Lists.{list_all}
+use Rattle.dpc_lists.specs.Lists.{list_all}
 use Rattle.dpc_model.specs.Streams.{is_below}
 use Rattle.dpc_model.specs.Operators.{between}
 use Rattle.dpc_model.specs.Engines.{lies_in}

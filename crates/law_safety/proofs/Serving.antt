@@ -6,7 +6,7 @@ use Rattle.std.proofs.lemmas.List.{length-map}
 use Rattle.std.proofs.lemmas.List.Elements.{Contains-append_left, Contains-append_right}
 use Rattle.std.proofs.Math.Seq.{drop-length}
 use Rattle.std.proofs.lemmas.List.FromFn.{length-range_with_len}
-use Rattle.dpc_model.specs.Lists.{nth, list_all, range_with_len}
+use Rattle.dpc_lists.specs.Lists.{nth, list_all, range_with_len}
 use Rattle.dpc_model.specs.Replicas.{is_silent}
 use Rattle.dpc_model.specs.Granting.{with_ask, own_key}
 use Rattle.dpc_model.specs.Ports.{port_after_choice, port_after_tick, without_ended_marks}

@@ -1,6 +1,6 @@
 -- What a port is to be, part by part.
 use Rattle.std.proofs.Common.{◌≡◌, ℕ, ◌<◌, ◌≤◌, Bool, true, ◌==◌, nat_lt, nat_le, List, [], ◌∷◌, ◌++◌, map, length, refl}
-use Rattle.dpc_model.specs.Lists.{list_all, IsPrefixOf}
+use Rattle.dpc_lists.specs.Lists.{list_all, IsPrefixOf}
 use Rattle.dpc_model.specs.Columns.{stream_columns}
 use Rattle.dpc_model.specs.Fragments.{ideal}
 use Rattle.dpc_model.specs.Actors.{senders_of}

@@ -1,7 +1,7 @@
 -- Steps of a source.
 use Rattle.std.proofs.Common.{◌≡◌, ℕ, zero, suc, ◌+◌, ◌≤◌, max, Bool, true, false, cond, ◌||◌, ◌==◌, nat_lt, nat_le, List, [], ◌∷◌, length, take, drop, refl, sym, ap, ◌∙◌, arith, Option, Some, None}
 use Rattle.std.proofs.lemmas.Grind.{common_steps}
-use Rattle.dpc_model.specs.Lists.{nth, list_all, place_of}
+use Rattle.dpc_lists.specs.Lists.{nth, list_all, place_of}
 use Rattle.dpc_model.specs.Streams.{cut, is_below, count_below}
 use Rattle.dpc_model.specs.Fragments.{log_of, ideal, ideal_upto}
 use Rattle.dpc_model.specs.Actors.{role_of, reads_from, are_peers}
@@ -26,7 +26,7 @@ use Rattle.law_safety.proofs.Numbering.{readers-read, source-sends-it}
 use Rattle.law_safety.proofs.Mailing.{AreMails, source-sender, batches-mails, given-fit, IsBoundWithin, mails-weaker}
 use Rattle.law_safety.proofs.Giving.{IsShown, answer-mails, place-below}
 use Rattle.law_safety.proofs.Ticked.{zipped-mails, or-left}
-use Rattle.dpc_model.proofs.Elements.{get-take, get-drop, length-changed}
+use Rattle.dpc_lists.proofs.Elements.{get-take, get-drop, length-changed}
 
 -- what is kept of a source
 pub record IsFineSource (plan : Plan) (s : ℕ) (x : SourceState) : Type 0 where

@@ -3,7 +3,7 @@ use Rattle.std.proofs.Common.{◌≡◌, ℕ, zero, suc, ◌*◌, ◌≤◌, min
 use Rattle.std.specs.Prelude.{replicate}
 use Rattle.std.proofs.lemmas.List.{length-map}
 use Rattle.std.proofs.Math.Nat.{le-div_iff_mul-le}
-use Rattle.dpc_model.specs.Lists.{list_all, least}
+use Rattle.dpc_lists.specs.Lists.{list_all, least}
 use Rattle.dpc_model.specs.Fragments.{ideal, ideal_upto}
 use Rattle.dpc_model.specs.Reading.{Reader, stable_reader}
 use Rattle.dpc_model.specs.Granting.{Key}

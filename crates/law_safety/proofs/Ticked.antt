@@ -3,7 +3,7 @@ use Rattle.std.proofs.Common.{◌≡◌, ℕ, suc, ◌+◌, ◌<◌, Bool, true,
 use Rattle.std.specs.Prelude.{zip, is_none}
 use Rattle.std.proofs.lemmas.List.{length-map}
 use Rattle.std.specs.List.{filter}
-use Rattle.dpc_model.specs.Lists.{nth, list_all, least, place_of}
+use Rattle.dpc_lists.specs.Lists.{nth, list_all, least, place_of}
 use Rattle.dpc_model.specs.Inlets.{with_next_session, asked_by}
 use Rattle.dpc_model.specs.Replicas.{rank_of, rank_order, choose, is_silent}
 use Rattle.dpc_model.specs.Granting.{with_ask, own_key}

@@ -3,7 +3,7 @@ use Rattle.std.proofs.Common.{◌≡◌, ℕ, zero, suc, ◌+◌, ◌-◌, ◌<�
 use Rattle.std.specs.Prelude.{IfSome, IsSome}
 use Rattle.std.proofs.lemmas.Grind.{common_steps}
 use Rattle.std.proofs.lemmas.List.{length-take-le, length-take, append-nil}
-use Rattle.dpc_model.specs.Lists.{push, is_nil, IsPrefixOf}
+use Rattle.dpc_lists.specs.Lists.{push, is_nil, IsPrefixOf}
 use Rattle.dpc_model.specs.Fragments.{ideal}
 use Rattle.dpc_model.specs.Reading.{Reader, Reading, NoReading, Skipped, Taken, reading, is_sure, Folded, fold_items, taken_first}
 use Rattle.dpc_model.specs.Sessions.{Shown, Given, given_items, stable_items, boundary_item, tentative_items, passed_item, item_if, first_batch}
@@ -15,7 +15,7 @@ use Rattle.dpc_model.specs.declared.plans.Plan.{Plan}
 use Rattle.dpc_model.specs.declared.plans.StreamRef.{StreamRef}
 use Rattle.std.proofs.lemmas.List.Elements.{filter-append}
 use Rattle.dpc_model.proofs.Prefixes.{get-prefix}
-use Rattle.dpc_model.proofs.Elements.{get-drop}
+use Rattle.dpc_lists.proofs.Elements.{get-drop}
 use Rattle.dpc_model.specs.Engines.{from_time}
 use Rattle.world_model.specs.SessionLaw.{Fits, bound_of, soft_of, taken_whole, LeavesView}
 use Rattle.law_safety.proofs.Tests.{both, le-test, lt-of, lt-test, eq-of, eq-test}

@@ -1,6 +1,6 @@
 -- What every checked plan has, as the law of every run needs it.
 use Rattle.std.specs.Prelude.{◌≡◌, ℕ, ◌*◌, ◌<◌, Bool, true, ◌&&◌, ◌==◌, nat_lt, List, [], ◌∷◌, map, length}
-use Rattle.dpc_model.specs.Lists.{nth, push, list_all}
+use Rattle.dpc_lists.specs.Lists.{nth, push, list_all}
 use Rattle.dpc_model.specs.Fragments.{IsSound, log_of}
 use Rattle.dpc_model.specs.Actors.{senders_of}
 use Rattle.dpc_model.specs.declared.plans.Plan.{Plan}

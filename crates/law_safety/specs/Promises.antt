@@ -1,6 +1,6 @@
 -- What every run of a checked plan promises, a sentence each.
 use Rattle.std.specs.Prelude.{◌≡◌, ℕ, ◌*◌, ◌≤◌, false, IsTrue, List, [], ◌∷◌, ◌++◌, length, Some, None, IsSomeAnd, slice_get}
-use Rattle.dpc_model.specs.Lists.{IsPrefixOf}
+use Rattle.dpc_lists.specs.Lists.{IsPrefixOf}
 use Rattle.dpc_model.specs.Streams.{cut}
 use Rattle.dpc_model.specs.Fragments.{ideal, ideal_upto}
 use Rattle.dpc_model.specs.Reading.{Reader, empty_reader, Folded, fold_items}

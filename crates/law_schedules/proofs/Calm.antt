@@ -1,7 +1,7 @@
 -- What every event leaves of a world, and what deliveries, ticks and milling leave.
 use Rattle.std.proofs.Common.{◌≡◌, ℕ, zero, suc, ◌≤◌, Bool, true, false, cond, ◌&&◌, nat_lt, nat_le, List, [], ◌∷◌, ◌++◌, map, length, refl, sym, ap, subst, ◌∙◌, arith, append_assoc, Option, Some, None, slice_get, unwrap_or, is_some}
 use Rattle.std.proofs.lemmas.List.{length-append}
-use Rattle.dpc_model.specs.Lists.{nth, changed, push}
+use Rattle.dpc_lists.specs.Lists.{nth, changed, push}
 use Rattle.dpc_model.specs.Actors.{role_of}
 use Rattle.dpc_model.specs.declared.actors.Role.{Role}
 use Rattle.dpc_model.specs.declared.actors.Role.TheVariants.{Source as IsSource, Node as IsNode, Client as IsClient, Nobody}

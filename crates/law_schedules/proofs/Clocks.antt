@@ -1,6 +1,6 @@
 -- No clock is ahead of its phase, so a tick that may come next is not void.
 use Rattle.std.proofs.Common.{◌≡◌, ℕ, zero, suc, ◌≤◌, Bool, true, false, cond, ◌==◌, nat_lt, List, [], ◌∷◌, map, length, refl, arith, Option, Some, None, slice_get}
-use Rattle.dpc_model.specs.Lists.{nth, changed, range_with_len, push, place_of}
+use Rattle.dpc_lists.specs.Lists.{nth, changed, range_with_len, push, place_of}
 use Rattle.dpc_model.specs.Actors.{role_of, nodes_of}
 use Rattle.dpc_model.specs.declared.actors.Role.{Role}
 use Rattle.dpc_model.specs.declared.actors.Role.TheVariants.{Source as IsSource, Node as IsNode, Client as IsClient, Nobody}

@@ -3,7 +3,7 @@ use Rattle.std.proofs.Common.{◌≡◌, ℕ, zero, suc, ◌+◌, ◌-◌, ◌�
 use Rattle.std.specs.Prelude.{replicate, flat_map}
 use Rattle.std.specs.List.{filter}
 use Rattle.std.proofs.Math.Bool.{or-true}
-use Rattle.dpc_model.specs.Lists.{list_all, list_any, range_with_len, is_nil, has}
+use Rattle.dpc_lists.specs.Lists.{list_all, list_any, range_with_len, is_nil, has}
 use Rattle.dpc_model.specs.declared.messages.Event.{Event}
 use Rattle.dpc_model.specs.declared.messages.Event.TheVariants.{Deliver, Tick}
 use Rattle.dpc_model.specs.declared.scripts.Directive.{Directive}

@@ -2,7 +2,7 @@
 use Rattle.std.proofs.Common.{◌≡◌, ℕ, ◌+◌, ◌-◌, ◌≤◌, ◌<◌, Bool, true, false, not, cond, ◌&&◌, ◌==◌, List, [], ◌∷◌, ◌++◌, length, drop, refl, sym, ap, subst, ◌∙◌, arith, Option, Some, None, slice_get}
 use Rattle.std.specs.Prelude.{fold}
 use Rattle.std.specs.List.{filter}
-use Rattle.dpc_model.specs.Lists.{list_all, is_nil}
+use Rattle.dpc_lists.specs.Lists.{list_all, is_nil}
 use Rattle.dpc_model.specs.declared.messages.Event.{Event}
 use Rattle.dpc_model.specs.declared.messages.Event.TheVariants.{Phase, Emit, Release, Cut, Heal, Crash, Restart}
 use Rattle.dpc_model.specs.declared.scripts.Directive.{Directive}

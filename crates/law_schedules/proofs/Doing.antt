@@ -5,7 +5,7 @@ use Rattle.std.proofs.lemmas.Grind.{common_steps}
 use Rattle.std.proofs.lemmas.List.Sums.{fold-append}
 use Rattle.std.proofs.lemmas.Nat.{div-add-mod'}
 use Rattle.std.proofs.Math.Nat.{mod-lt}
-use Rattle.dpc_model.specs.Lists.{range_with_len, is_nil}
+use Rattle.dpc_lists.specs.Lists.{range_with_len, is_nil}
 use Rattle.dpc_model.specs.declared.messages.Event.{Event}
 use Rattle.dpc_model.specs.declared.messages.Event.TheVariants.{Mill}
 use Rattle.dpc_model.specs.declared.scripts.Script.{Script}

@@ -3,7 +3,7 @@ use Rattle.std.proofs.Common.{◌≡◌, ℕ, zero, suc, ◌+◌, ◌-◌, ◌�
 use Rattle.std.specs.Prelude.{fold, flat_map, replicate}
 use Rattle.std.specs.List.{filter}
 use Rattle.std.proofs.lemmas.Option.{slice_get_past}
-use Rattle.dpc_model.specs.Lists.{list_all, range_with_len, is_nil, has}
+use Rattle.dpc_lists.specs.Lists.{list_all, range_with_len, is_nil, has}
 use Rattle.dpc_model.specs.Actors.{roles_of}
 use Rattle.dpc_model.specs.declared.messages.Event.{Event}
 use Rattle.dpc_model.specs.declared.messages.Event.TheVariants.{Phase, Deliver, Tick}

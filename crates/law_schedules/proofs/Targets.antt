@@ -1,6 +1,6 @@
 -- The cursors that nodes must reach in a phase: milling its ready buckets, a node reaches its own, and no later event undoes that.
 use Rattle.std.proofs.Common.{◌≡◌, ℕ, zero, suc, ◌+◌, ◌-◌, ◌/◌, ◌≤◌, Bool, true, false, not, cond, ◌&&◌, ◌==◌, nat_le, List, [], ◌∷◌, ◌++◌, map, length, refl, sym, ap, subst, ◌∙◌, arith, Option, Some, None, slice_get, unwrap_or}
-use Rattle.dpc_model.specs.Lists.{nth, changed, range_with_len, is_nil, least}
+use Rattle.dpc_lists.specs.Lists.{nth, changed, range_with_len, is_nil, least}
 use Rattle.dpc_model.specs.Actors.{role_of, nodes_of}
 use Rattle.dpc_model.specs.declared.actors.Role.{Role}
 use Rattle.dpc_model.specs.declared.actors.Role.TheVariants.{Source as IsSource, Node as IsNode, Client as IsClient, Nobody}

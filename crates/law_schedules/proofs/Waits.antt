@@ -1,6 +1,6 @@
 -- The envelopes that wait: those that are pending, and behind them those sent in the phase.
 use Rattle.std.proofs.Common.{◌≡◌, ℕ, zero, suc, ◌+◌, ◌-◌, ◌≤◌, ◌<◌, Bool, true, false, not, ◌&&◌, ◌||◌, ◌==◌, nat_lt, List, [], ◌∷◌, ◌++◌, map, length, refl, sym, ap, ◌∙◌, arith, append_assoc, Option, Some, None, slice_get}
-use Rattle.dpc_model.specs.Lists.{nth, list_all, range_with_len, place_of}
+use Rattle.dpc_lists.specs.Lists.{nth, list_all, range_with_len, place_of}
 use Rattle.dpc_model.specs.declared.scripts.Directive.{Directive}
 use Rattle.world_model.specs.Worlds.{World, Envelope}
 use Rattle.world_model.specs.Schedules.{Undelivered, is_lost, pending_in, delivery_made, same_way, is_first_of_its_way, may_come}

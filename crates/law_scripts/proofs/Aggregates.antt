@@ -5,7 +5,7 @@ use Rattle.std.specs.Fmt.{decimal}
 use Rattle.std.proofs.Math.ListN.{replicate}
 use Rattle.std.proofs.lemmas.Fmt.{decimal_digit}
 use Rattle.std.proofs.lemmas.Bool.{and_parts, ltb-true, false_from_ne_true}
-use Rattle.dpc_model.specs.Lists.{list_all, is_nil, nth}
+use Rattle.dpc_lists.specs.Lists.{list_all, is_nil, nth}
 use Rattle.dpc_model.specs.Words.{Word}
 use Rattle.dpc_model.specs.ScriptText.{column_word, agg_words, group_word}
 use Rattle.dpc_model.specs.declared.operators.Agg.{Agg}

@@ -4,7 +4,7 @@ use Rattle.std.specs.Prelude.{not, ◌&&◌, ◌==◌, flat_map, codes, bytes_eq
 use Rattle.std.proofs.lemmas.Bool.{and_parts, not-true}
 use Rattle.std.proofs.lemmas.List.{append_assoc}
 use Rattle.std.proofs.lemmas.List.Folds.{list_all-append}
-use Rattle.dpc_model.specs.Lists.{list_all, list_any}
+use Rattle.dpc_lists.specs.Lists.{list_all, list_any}
 use Rattle.dpc_model.specs.Words.{Word, spaced, text_of}
 use Rattle.dpc_model.specs.ScriptText.{script_text, header_lines, log_line, source_lines, patience_lines, operator_line, frag_lines, client_line, directive_line, phase_lines, settle_lines, script_lines, number_line}
 use Rattle.dpc_model.specs.declared.tuples.Tuple.{Tuple}

@@ -3,7 +3,7 @@ use Rattle.std.proofs.Common.{◌≡◌, ℕ, ◌+◌, ◌≤◌, Bool, true, fa
 use Rattle.std.specs.Prelude.{not, ◌&&◌, ◌||◌, nat_lt, nat_le, flat_map}
 use Rattle.std.proofs.lemmas.Bool.{and_parts, ltb-true, ltb-false, lt-ltb}
 use Rattle.std.proofs.lemmas.List.{length-append, length-map}
-use Rattle.dpc_model.specs.Lists.{list_all, list_any, is_nil, push}
+use Rattle.dpc_lists.specs.Lists.{list_all, list_any, is_nil, push}
 use Rattle.dpc_model.specs.Actors.{roles_of, role_of, reads_from, sends_stream, are_peers, inputs_of}
 use Rattle.dpc_model.specs.Columns.{kind_columns, wire_columns, stream_columns}
 use Rattle.dpc_model.specs.declared.actors.Role.{Role}

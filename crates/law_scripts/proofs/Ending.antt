@@ -3,7 +3,7 @@ use Rattle.std.proofs.Common.{◌≡◌, ℕ, zero, suc, ◌≤◌, Bool, true, 
 use Rattle.std.specs.Prelude.{not, ◌&&◌, ◌||◌, ◌==◌, flat_map, codes, if◌then◌else◌}
 use Rattle.std.proofs.lemmas.Bool.{or_parts, not-false, eqb-true, ne_eqb}
 use Rattle.std.proofs.lemmas.List.{append-nil, map-append}
-use Rattle.dpc_model.specs.Lists.{is_nil}
+use Rattle.dpc_lists.specs.Lists.{is_nil}
 use Rattle.dpc_model.specs.Words.{Word}
 use Rattle.dpc_model.specs.ScriptText.{stream_name, wire_word, header_lines, source_lines, log_line, patience_lines, operator_line, frag_lines, client_line, directive_line, phase_lines, settle_lines, number_line, script_lines}
 use Rattle.dpc_model.specs.declared.tuples.Tuple.{Tuple}

@@ -3,7 +3,7 @@ use Rattle.std.proofs.Common.{◌≡◌, ℕ, ◌^◌, ◌<◌, Bool, false, Lis
 use Rattle.std.specs.Prelude.{not}
 use Rattle.std.specs.Fmt.{decimal}
 use Rattle.std.proofs.lemmas.Bool.{or_parts, not-false}
-use Rattle.dpc_model.specs.Lists.{list_any}
+use Rattle.dpc_lists.specs.Lists.{list_any}
 use Rattle.dpc_model.specs.Words.{Word}
 use Rattle.script_rules.specs.declared.places.Sort.{Sort}
 use Rattle.script_rules.specs.declared.places.Sort.TheVariants.{Range}

@@ -1,6 +1,6 @@
 -- Words that can stand at their places, and leave none of these over.
 use Rattle.std.proofs.Common.{◌≡◌, Bool, true, false, List, [], ◌∷◌, ◌++◌, refl}
-use Rattle.dpc_model.specs.Lists.{list_all, list_any}
+use Rattle.dpc_lists.specs.Lists.{list_all, list_any}
 use Rattle.dpc_model.specs.Words.{Word}
 use Rattle.script_rules.specs.declared.places.Sort.{Sort}
 use Rattle.script_rules.specs.declared.places.Place.{Place}

@@ -5,7 +5,7 @@ use Rattle.std.specs.Fmt.{decimal}
 use Rattle.std.proofs.Math.ListN.{replicate}
 use Rattle.std.proofs.lemmas.Bool.{and_parts}
 use Rattle.std.proofs.lemmas.List.{length-map}
-use Rattle.dpc_model.specs.Lists.{list_all, is_nil, push, changed}
+use Rattle.dpc_lists.specs.Lists.{list_all, is_nil, push, changed}
 use Rattle.dpc_model.specs.Words.{Word}
 use Rattle.dpc_model.specs.ScriptText.{stream_name, patience_lines, operator_line, frag_lines, client_line, wire_word}
 use Rattle.dpc_model.specs.declared.operators.OpSpec.{OpSpec}

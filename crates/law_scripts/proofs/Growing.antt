@@ -2,7 +2,7 @@
 use Rattle.std.proofs.Common.{◌≡◌, ℕ, zero, suc, ◌+◌, ◌≤◌, Bool, true, false, List, [], ◌∷◌, ◌++◌, length, refl, sym, ap, subst, ◌∙◌, arith}
 use Rattle.std.specs.Prelude.{ℤ, ⊤, not, ◌&&◌, ◌==◌, is_none, bytes_eq}
 use Rattle.std.proofs.lemmas.Bool.{not-false, not-true, and_parts, ltb-true, lt-ltb, eqb-true}
-use Rattle.dpc_model.specs.Lists.{is_nil, list_all, list_any}
+use Rattle.dpc_lists.specs.Lists.{is_nil, list_all, list_any}
 use Rattle.dpc_model.specs.Words.{Word}
 use Rattle.dpc_model.specs.declared.operators.OpKind.{OpKind}
 use Rattle.dpc_model.specs.declared.plans.FragSpec.{FragSpec}

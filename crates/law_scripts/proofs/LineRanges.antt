@@ -4,7 +4,7 @@ use Rattle.std.specs.Prelude.{⊤, not, ◌&&◌, ◌==◌, nat_lt, min, if◌th
 use Rattle.std.proofs.Math.ListN.{replicate}
 use Rattle.std.proofs.lemmas.Bool.{not-false, and_parts, and_from, or_parts, ltb-true, ltb-false, lt-ltb, le-leb, eqb-true}
 use Rattle.std.proofs.lemmas.List.{length-map}
-use Rattle.dpc_model.specs.Lists.{list_all, nth}
+use Rattle.dpc_lists.specs.Lists.{list_all, nth}
 use Rattle.dpc_model.specs.Words.{Word}
 use Rattle.dpc_model.specs.Columns.{kind_columns}
 use Rattle.dpc_model.specs.declared.operators.OpKind.{OpKind}

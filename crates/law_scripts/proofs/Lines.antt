@@ -3,7 +3,7 @@ use Rattle.std.proofs.Common.{◌≡◌, ℕ, ◌≤◌, Bool, true, false, List
 use Rattle.std.specs.Prelude.{not, ◌&&◌, ◌==◌, nat_le, filter}
 use Rattle.std.proofs.lemmas.Bool.{and_parts, not-true, ne_eqb, leb-true, le-leb, eq-eqb}
 use Rattle.std.proofs.lemmas.List.{append_assoc}
-use Rattle.dpc_model.specs.Lists.{list_all, list_any, is_nil}
+use Rattle.dpc_lists.specs.Lists.{list_all, list_any, is_nil}
 use Rattle.dpc_model.specs.Words.{Word, spaced, text_of}
 use Rattle.script_rules.specs.Lines.{pieces, lines_of, words_of, is_foreign_byte, begins_with_hash, is_skipped}
 

@@ -5,7 +5,7 @@ use Rattle.std.specs.Fmt.{decimal}
 use Rattle.std.proofs.Math.ListN.{replicate}
 use Rattle.std.proofs.lemmas.Bool.{and_parts, ltb-true, eqb-true}
 use Rattle.std.proofs.lemmas.List.{append-nil}
-use Rattle.dpc_model.specs.Lists.{list_all, is_nil, nth}
+use Rattle.dpc_lists.specs.Lists.{list_all, is_nil, nth}
 use Rattle.dpc_model.specs.Words.{Word}
 use Rattle.dpc_model.specs.ScriptText.{formula_words, agg_words, group_word, kind_word, kind_words}
 use Rattle.dpc_model.specs.Formula.{Formula}

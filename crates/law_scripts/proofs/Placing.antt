@@ -4,7 +4,7 @@ use Rattle.std.specs.Prelude.{ℤ, not, ◌&&◌, ◌||◌, ◌==◌, ◌%◌, i
 use Rattle.std.specs.Fmt.{decimal, signed_decimal}
 use Rattle.std.proofs.Math.ListN.{replicate}
 use Rattle.std.proofs.lemmas.Bool.{and_parts}
-use Rattle.dpc_model.specs.Lists.{list_all, list_any}
+use Rattle.dpc_lists.specs.Lists.{list_all, list_any}
 use Rattle.dpc_model.specs.Words.{Word}
 use Rattle.dpc_model.specs.ScriptText.{column_word, group_word}
 use Rattle.script_rules.specs.declared.places.Sort.{Sort}

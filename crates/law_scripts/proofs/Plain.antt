@@ -3,7 +3,7 @@ use Rattle.std.proofs.Common.{◌≡◌, ℕ, ◌^◌, ◌<◌, ◌≤◌, Bool,
 use Rattle.std.specs.Prelude.{ℤ, not, ◌&&◌, ◌||◌, ◌==◌, nat_lt, nat_le, if◌then◌else◌, length, codes, bytes_eq}
 use Rattle.std.specs.Fmt.{decimal, signed_decimal}
 use Rattle.std.proofs.lemmas.Bool.{and_parts, eqb-true, leb-true, le-leb}
-use Rattle.dpc_model.specs.Lists.{list_all, is_nil}
+use Rattle.dpc_lists.specs.Lists.{list_all, is_nil}
 use Rattle.dpc_model.specs.Words.{Word}
 use Rattle.dpc_model.specs.ScriptText.{column_word}
 use Rattle.script_rules.specs.Spelling.{is_digit, is_numeral, is_value, is_i64, is_letter, may_stand_in_name, is_name}

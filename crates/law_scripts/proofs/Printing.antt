@@ -2,7 +2,7 @@
 use Rattle.std.proofs.Common.{◌≡◌, ◌^◌, ◌≤◌, true, map, length, Some, None, ap, ◌∙◌}
 use Rattle.std.specs.Prelude.{Err, if◌then◌else◌}
 use Rattle.std.proofs.lemmas.Bool.{le-ltb}
-use Rattle.dpc_model.specs.Lists.{list_all}
+use Rattle.dpc_lists.specs.Lists.{list_all}
 use Rattle.dpc_model.specs.Words.{spaced}
 use Rattle.dpc_model.specs.ScriptText.{script_text, script_lines}
 use Rattle.dpc_model.specs.declared.scripts.Script.{Script}

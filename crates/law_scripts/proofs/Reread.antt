@@ -2,7 +2,7 @@
 use Rattle.std.proofs.Common.{◌≡◌, ℕ, ◌+◌, true, false, List, [], ◌∷◌, map, drop, Option, Some, None, refl, sym, ap, subst, ◌∙◌}
 use Rattle.std.specs.Prelude.{Result, Ok, Err, if◌then◌else◌}
 use Rattle.std.proofs.lemmas.Bool.{not-false, or_parts}
-use Rattle.dpc_model.specs.Lists.{list_any, nth}
+use Rattle.dpc_lists.specs.Lists.{list_any, nth}
 use Rattle.dpc_model.specs.Words.{Word, text_of}
 use Rattle.dpc_model.specs.ScriptText.{script_text}
 use Rattle.dpc_model.specs.declared.scripts.Script.{Script}

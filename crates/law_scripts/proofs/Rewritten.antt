@@ -4,7 +4,7 @@ use Rattle.std.specs.Prelude.{if◌then◌else◌, ◌&&◌, ◌||◌, nat_lt, f
 use Rattle.std.specs.Fmt.{decimal, signed_decimal}
 use Rattle.std.proofs.Math.ListN.{replicate}
 use Rattle.std.proofs.lemmas.Bool.{not-false, and_parts, ltb-true}
-use Rattle.dpc_model.specs.Lists.{list_all, nth}
+use Rattle.dpc_lists.specs.Lists.{list_all, nth}
 use Rattle.dpc_model.specs.Words.{Word}
 use Rattle.dpc_model.specs.ScriptText.{column_word, agg_words, group_word}
 use Rattle.dpc_model.specs.declared.operators.Agg.{Agg}

@@ -2,7 +2,7 @@
 use Rattle.std.proofs.Common.{◌≡◌, ℕ, true, false, List, [], ◌∷◌, ◌++◌, map, Option, Some, None, refl, sym, ap, subst, ◌∙◌}
 use Rattle.std.specs.Prelude.{flat_map, is_none, unwrap_or}
 use Rattle.std.proofs.lemmas.List.{append_assoc}
-use Rattle.dpc_model.specs.Lists.{nth}
+use Rattle.dpc_lists.specs.Lists.{nth}
 use Rattle.dpc_model.specs.Words.{Word}
 use Rattle.dpc_model.specs.Actors.{roles_of, role_of}
 use Rattle.dpc_model.specs.declared.actors.Role.TheVariants.{Nobody}

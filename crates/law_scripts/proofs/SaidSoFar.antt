@@ -2,7 +2,7 @@
 use Rattle.std.proofs.Common.{◌≡◌, ℕ, zero, suc, ◌+◌, Bool, true, false, List, [], ◌∷◌, ◌++◌, map, length, Some, refl, sym, ap, subst, ◌∙◌, arith}
 use Rattle.std.specs.Prelude.{ℤ, flat_map, is_none, unwrap_or, if◌then◌else◌}
 use Rattle.std.proofs.lemmas.List.{append-nil, append_assoc, map-append, length-map}
-use Rattle.dpc_model.specs.Lists.{is_nil, changed}
+use Rattle.dpc_lists.specs.Lists.{is_nil, changed}
 use Rattle.dpc_model.specs.Words.{Word}
 use Rattle.dpc_model.specs.declared.tuples.Tuple.{Tuple}
 use Rattle.dpc_model.specs.declared.operators.OpSpec.{OpSpec}

@@ -4,7 +4,7 @@ use Rattle.std.specs.Prelude.{not, ◌&&◌, ◌==◌, nat_lt, is_none, unwrap_o
 use Rattle.std.proofs.lemmas.Bool.{and_parts, or_from, not_from_true, lt-ltb, le-ltb}
 use Rattle.std.proofs.lemmas.List.{append-nil, append_assoc, map_push, map-append, length-append, length-map}
 use Rattle.std.proofs.lemmas.List.Sums.{sum_by-append}
-use Rattle.dpc_model.specs.Lists.{nth, list_all}
+use Rattle.dpc_lists.specs.Lists.{nth, list_all}
 use Rattle.dpc_model.specs.Streams.{NoneBelow, IsOrdered}
 use Rattle.dpc_model.specs.declared.tuples.Tuple.{Tuple}
 use Rattle.dpc_model.specs.declared.plans.SourceSpec.{SourceSpec}

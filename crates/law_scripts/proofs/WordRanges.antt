@@ -3,7 +3,7 @@ use Rattle.std.proofs.Common.{◌≡◌, ℕ, zero, suc, ◌+◌, ◌^◌, ◌<�
 use Rattle.std.specs.Prelude.{⊤, if◌then◌else◌, not, ◌&&◌, nat_lt, codes, bytes_eq, is_some, unwrap_or, option_map, option_to_list}
 use Rattle.std.proofs.Math.ListN.{replicate}
 use Rattle.std.proofs.lemmas.Bool.{not-false, and_parts, and_from, ltb-true, lt-ltb}
-use Rattle.dpc_model.specs.Lists.{list_all, nth}
+use Rattle.dpc_lists.specs.Lists.{list_all, nth}
 use Rattle.dpc_model.specs.Words.{Word}
 use Rattle.dpc_model.specs.Formula.{Formula, Num, Time}
 use Rattle.dpc_model.specs.declared.operators.Agg.{Agg}

@@ -6,7 +6,7 @@ use Rattle.std.proofs.Math.ListN.{replicate}
 use Rattle.std.proofs.lemmas.Fmt.{decimal_digit}
 use Rattle.std.proofs.lemmas.Bool.{and_parts, not-true, not-false, eqb-true, leb-true}
 use Rattle.std.proofs.lemmas.List.{append-nil}
-use Rattle.dpc_model.specs.Lists.{nth}
+use Rattle.dpc_lists.specs.Lists.{nth}
 use Rattle.dpc_model.specs.Words.{Word}
 use Rattle.dpc_model.specs.ScriptText.{column_word, binary_word, formula_words}
 use Rattle.dpc_model.specs.Formula.{Formula, Num, Time}

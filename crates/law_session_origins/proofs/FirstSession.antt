@@ -1,7 +1,7 @@
 -- Session (1, 1) is asked for in no run.
 use Rattle.std.proofs.Common.{◌≡◌, ℕ, zero, suc, Bool, true, false, cond, ◌&&◌, ◌==◌, nat_lt, List, [], ◌∷◌, ◌++◌, map, length, refl, sym, ap, subst, ◌∙◌, arith, Option, Some, None, slice_get, inl, inr}
 use Rattle.std.proofs.lemmas.Grind.{common_steps}
-use Rattle.dpc_model.specs.Lists.{nth, changed, list_all, range_with_len}
+use Rattle.dpc_lists.specs.Lists.{nth, changed, list_all, range_with_len}
 use Rattle.dpc_model.specs.Actors.{nodes_of}
 use Rattle.dpc_model.specs.Inlets.{same_sess, sess_of, take_batch}
 use Rattle.dpc_model.specs.Ports.{Port, sender_at, on_beat, without_ended_marks, port_after_tick, port_after_choice}

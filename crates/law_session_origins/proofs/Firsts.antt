@@ -1,6 +1,6 @@
 -- What opened a session, by the batches that were sent in it.
 use Rattle.std.proofs.Common.{◌≡◌, ℕ, Bool, true, false, cond, ◌&&◌, ◌||◌, ◌==◌, List, [], ◌∷◌, length, drop, refl, sym, ap, subst, ◌∙◌, Option, Some, None, slice_get, unwrap_or}
-use Rattle.dpc_model.specs.Lists.{list_any}
+use Rattle.dpc_lists.specs.Lists.{list_any}
 use Rattle.dpc_model.specs.Inlets.{same_sess}
 use Rattle.dpc_model.specs.declared.messages.Event.{Event}
 use Rattle.dpc_model.specs.declared.messages.Event.TheVariants.{Deliver}
@@ -12,7 +12,7 @@ use Rattle.world_model.specs.SessionLaw.{Channel}
 use Rattle.law_safety.proofs.Growing.{event-grows}
 use Rattle.law_sessions.proofs.Asked.{brought as was-sent}
 use Rattle.std.proofs.lemmas.Bool.{or_left, or_right}
-use Rattle.dpc_model.proofs.Elements.{get-first}
+use Rattle.dpc_lists.proofs.Elements.{get-first}
 use Rattle.law_sessions.specs.Openings.{packet_asks, asks_for, brings, is_first_packet, has_first, asked_next}
 use Rattle.law_granting.specs.Taken.{index_in, index_of, subscribes_packet}
 use Rattle.law_granting.proofs.Sending.{indexes, is_zero}

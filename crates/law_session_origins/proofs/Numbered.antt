@@ -4,7 +4,7 @@ use Rattle.std.proofs.lemmas.Grind.{common_steps}
 use Rattle.std.proofs.lemmas.List.{map-append, length-map}
 use Rattle.std.proofs.lemmas.List.FromFn.{length-range_with_len}
 use Rattle.std.specs.List.{filter, enumerate_from}
-use Rattle.dpc_model.specs.Lists.{nth, range_with_len, list_any}
+use Rattle.dpc_lists.specs.Lists.{nth, range_with_len, list_any}
 use Rattle.dpc_model.specs.Actors.{nodes_from, nodes_of, inputs_of, sends_stream, actors_where, senders_of, readers_of, same_stream}
 use Rattle.dpc_model.specs.declared.actors.Role.{Role}
 use Rattle.dpc_model.specs.declared.actors.Role.TheVariants.{Source as IsSource, Node as IsNode, Client as IsClient}

@@ -1,7 +1,7 @@
 -- Nobody reads a stream at two ports, and each sender has its port.
 use Rattle.std.proofs.Common.{◌≡◌, ℕ, zero, suc, ◌+◌, ◌≤◌, true, false, not, ◌==◌, List, [], ◌∷◌, map, refl, sym, ap, subst, ◌∙◌, arith, Option, Some, None, slice_get}
 use Rattle.std.proofs.lemmas.Grind.{common_steps}
-use Rattle.dpc_model.specs.Lists.{nth, list_any, place_of}
+use Rattle.dpc_lists.specs.Lists.{nth, list_any, place_of}
 use Rattle.dpc_model.specs.Actors.{role_of, inputs_of, sends_stream, senders_of, same_stream}
 use Rattle.dpc_model.specs.Ports.{sender_from}
 use Rattle.dpc_model.specs.declared.actors.Role.{Role}

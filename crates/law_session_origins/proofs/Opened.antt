@@ -1,7 +1,7 @@
 -- A node's session, but the first one, was opened by a subscription that its reader sent to it.
 use Rattle.std.proofs.Common.{◌≡◌, ℕ, zero, suc, ◌+◌, Bool, true, false, cond, ◌&&◌, ◌==◌, nat_lt, List, [], ◌∷◌, ◌++◌, map, length, drop, refl, sym, ap, subst, ◌∙◌, Option, Some, None, slice_get, ◌⊎◌, inl, inr}
 use Rattle.std.proofs.Math.Seq.{drop-append_seam}
-use Rattle.dpc_model.specs.Lists.{nth, changed, list_any}
+use Rattle.dpc_lists.specs.Lists.{nth, changed, list_any}
 use Rattle.dpc_model.specs.Actors.{role_of}
 use Rattle.dpc_model.specs.declared.actors.Role.TheVariants.{Node as IsNode}
 use Rattle.dpc_model.specs.Sessions.{no_session}

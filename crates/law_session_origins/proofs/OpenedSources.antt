@@ -1,6 +1,6 @@
 -- A source's session, but the first one, was opened by a subscription that its reader sent to it.
 use Rattle.std.proofs.Common.{◌≡◌, ℕ, ◌<◌, Bool, true, false, ◌&&◌, ◌==◌, List, [], ◌∷◌, map, length, refl, sym, ap, subst, ◌∙◌, ◌⊎◌, inl, inr}
-use Rattle.dpc_model.specs.Lists.{nth, list_any}
+use Rattle.dpc_lists.specs.Lists.{nth, list_any}
 use Rattle.dpc_model.specs.Actors.{role_of}
 use Rattle.dpc_model.specs.declared.actors.Role.TheVariants.{Source as IsSource}
 use Rattle.dpc_model.specs.Sessions.{no_session}

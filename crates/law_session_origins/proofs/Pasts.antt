@@ -2,7 +2,7 @@
 use Rattle.std.proofs.Common.{◌≡◌, ℕ, suc, ◌+◌, ◌-◌, Bool, true, false, cond, not, ◌&&◌, ◌==◌, nat_lt, max, min, List, [], ◌∷◌, ◌++◌, map, length, refl, ap, ◌∙◌, arith, Option, Some, None, slice_get, inl, inr}
 use Rattle.std.specs.Prelude.{is_none, zip}
 use Rattle.std.proofs.lemmas.Grind.{common_steps}
-use Rattle.dpc_model.specs.Lists.{nth, list_all}
+use Rattle.dpc_lists.specs.Lists.{nth, list_all}
 use Rattle.dpc_model.specs.Inlets.{same_sess, sess_of, new_inlet, restarted_inlet, with_next_session, asked_by}
 use Rattle.dpc_model.specs.Reading.{stable_reader}
 use Rattle.dpc_model.specs.Replicas.{is_silent}

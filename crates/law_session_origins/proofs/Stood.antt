@@ -4,7 +4,7 @@ use Rattle.std.specs.Prelude.{All, Contains}
 use Rattle.std.proofs.Math.Seq.{drop-append_seam}
 use Rattle.std.proofs.lemmas.List.Elements.{All-head, All-tail, Contains-append_cases}
 use Rattle.std.proofs.lemmas.Option.{slice_get_within}
-use Rattle.dpc_model.specs.Lists.{nth, range_with_len}
+use Rattle.dpc_lists.specs.Lists.{nth, range_with_len}
 use Rattle.dpc_model.specs.Actors.{role_of}
 use Rattle.dpc_model.specs.declared.tuples.Tuple.{Tuple}
 use Rattle.dpc_model.specs.declared.tuples.Item.{Item}
@@ -20,7 +20,7 @@ use Rattle.law_safety.proofs.Growing.{event-grows}
 use Rattle.law_safety.proofs.Law.{new_world-plan}
 use Rattle.law_safety.proofs.Carried.{there}
 use Rattle.law_safety.proofs.Tests.{lt-of, not-lt}
-use Rattle.dpc_model.proofs.Elements.{get-drop}
+use Rattle.dpc_lists.proofs.Elements.{get-drop}
 use Rattle.law_sessions.specs.Laws.{TentativesStand, tentative_output, NoneInvented}
 use Rattle.law_sessions.proofs.Invented.{none-invented}
 use Rattle.law_granting.proofs.Prefix.{new_world-none}

@@ -1,7 +1,7 @@
 -- What a client takes: items of an envelope that is delivered to it.
 use Rattle.std.proofs.Common.{◌≡◌, ℕ, zero, suc, true, false, cond, not, ◌||◌, ◌==◌, nat_lt, List, [], ◌∷◌, ◌++◌, refl, sym, ap, subst, ◌∙◌, arith, Option, Some, None, slice_get, ◌⊎◌, inl, inr, append-nil}
 use Rattle.std.specs.Prelude.{Contains}
-use Rattle.dpc_model.specs.Lists.{nth, changed}
+use Rattle.dpc_lists.specs.Lists.{nth, changed}
 use Rattle.dpc_model.specs.Reading.{Reader, NoReading, Skipped, Taken as Reads, reading, Folded, fold_items, taken_first}
 use Rattle.dpc_model.specs.Inlets.{AfterBatch, take_batch, same_sess, after_missing_batch, after_next_batch}
 use Rattle.dpc_model.specs.Actors.{role_of}

@@ -1,6 +1,6 @@
 -- Each session that is open, but the first one, was opened by a subscription that its reader sent to its sender.
 use Rattle.std.specs.Prelude.{◌≡◌, false, ⊤, ℕ, List, Some, IfSome, slice_get}
-use Rattle.dpc_model.specs.Lists.{nth}
+use Rattle.dpc_lists.specs.Lists.{nth}
 use Rattle.dpc_model.specs.Inlets.{same_sess, sess_of}
 use Rattle.dpc_model.specs.Actors.{role_of}
 use Rattle.dpc_model.specs.Sessions.{link_of}

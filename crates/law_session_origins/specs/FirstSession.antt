@@ -1,6 +1,6 @@
 -- The session (1, 1), which is open at the opening: nobody ever asks for it.
 use Rattle.std.specs.Prelude.{◌≡◌, ◌≢◌, Bool, true, false, ℕ, List, ◌++◌, Option, Some, None, slice_get}
-use Rattle.dpc_model.specs.Lists.{nth, IsPrefixOf}
+use Rattle.dpc_lists.specs.Lists.{nth, IsPrefixOf}
 use Rattle.dpc_model.specs.Inlets.{same_sess, sess_of}
 use Rattle.dpc_model.specs.Actors.{role_of, inputs_of}
 use Rattle.dpc_model.specs.Ports.{Port}

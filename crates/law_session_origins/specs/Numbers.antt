@@ -1,6 +1,6 @@
 -- What numbers the senders and readers of a stream have, and that nobody reads a stream twice.
 use Rattle.std.specs.Prelude.{◌≡◌, ℕ, zero, suc, ◌+◌, ◌<◌, if◌then◌else◌, List, [], ◌∷◌, ◌++◌, length, Some, slice_get}
-use Rattle.dpc_model.specs.Lists.{nth, list_any, range_with_len}
+use Rattle.dpc_lists.specs.Lists.{nth, list_any, range_with_len}
 use Rattle.dpc_model.specs.Actors.{role_of, inputs_of, senders_of, readers_of, replicas_of, same_stream}
 use Rattle.dpc_model.specs.Ports.{sender_at}
 use Rattle.dpc_model.specs.declared.actors.Role.TheVariants.{Source as IsSource, Node as IsNode, Client as IsClient}

@@ -1,6 +1,6 @@
 -- No two readers of a stream, nor two replicas, disagree.
 use Rattle.std.proofs.Common.{◌≡◌, ℕ, ◌+◌, true, false, cond, List, [], ◌∷◌, ◌++◌, length, refl, sym, subst, ◌∙◌, Option, Some, None, ◌⊎◌, inl, inr}
-use Rattle.dpc_model.specs.Lists.{IsPrefixOf}
+use Rattle.dpc_lists.specs.Lists.{IsPrefixOf}
 use Rattle.dpc_model.specs.Fragments.{ideal}
 use Rattle.dpc_model.specs.Reading.{Reader}
 use Rattle.dpc_model.specs.Actors.{role_of}

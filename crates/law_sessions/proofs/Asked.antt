@@ -8,7 +8,7 @@ use Rattle.world_model.specs.Worlds.{World, Envelope, happens, new_world, run, r
 use Rattle.world_model.specs.SessionLaw.{Channel}
 use Rattle.law_sessions.specs.Openings.{first_subscription, asks_for, brings, has_first, asked_next, opened_by}
 use Rattle.law_sessions.specs.Laws.{WasAsked}
-use Rattle.dpc_model.proofs.Elements.{get-first}
+use Rattle.dpc_lists.proofs.Elements.{get-first}
 use Rattle.law_safety.proofs.Growing.{Grows, event-grows}
 
 -- ---- who asked

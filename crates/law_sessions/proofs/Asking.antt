@@ -3,7 +3,7 @@ use Rattle.std.proofs.Common.{◌≡◌, ℕ, zero, suc, ◌<◌, ◌≤◌, Boo
 use Rattle.std.proofs.lemmas.Grind.{common_steps}
 use Rattle.std.proofs.lemmas.List.{append-nil}
 use Rattle.std.proofs.lemmas.Option.{slice_get_within}
-use Rattle.dpc_model.specs.Lists.{nth, changed}
+use Rattle.dpc_lists.specs.Lists.{nth, changed}
 use Rattle.dpc_model.specs.Sessions.{Shown, Answered, answer_to, first_batch, is_newer_than_kept}
 use Rattle.dpc_model.specs.declared.sessions.Sub.{Sub}
 use Rattle.dpc_model.specs.declared.tuples.Item.{Item}
@@ -17,7 +17,7 @@ use Rattle.node_model.specs.Mails.{Plain, Mail, mail}
 use Rattle.world_model.specs.Worlds.{Envelope, from}
 use Rattle.world_model.specs.SessionLaw.{carried, LeavesView}
 use Rattle.law_safety.proofs.Tests.{eq-of, eq-test}
-use Rattle.dpc_model.proofs.Elements.{length-changed}
+use Rattle.dpc_lists.proofs.Elements.{length-changed}
 use Rattle.law_safety.proofs.Pointwise.{get-changed}
 use Rattle.law_safety.proofs.Views.{IsView, first-law}
 use Rattle.law_safety.proofs.Histories.{HoldsSession, AreDistinct, same-self, newer-other, newer-kept}

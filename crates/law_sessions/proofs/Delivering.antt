@@ -1,7 +1,7 @@
 -- What a packet leaves of the sessions of the node that takes it.
 use Rattle.std.proofs.Common.{◌≡◌, ℕ, ◌+◌, Bool, true, false, cond, ◌&&◌, ◌==◌, List, [], ◌∷◌, ◌++◌, map, refl, sym, subst, Option, Some, None, unwrap_or, ◌⊎◌, inl, inr}
 use Rattle.std.proofs.lemmas.List.{append-nil}
-use Rattle.dpc_model.specs.Lists.{nth, changed}
+use Rattle.dpc_lists.specs.Lists.{nth, changed}
 use Rattle.dpc_model.specs.Inlets.{same_sess, take_batch}
 use Rattle.dpc_model.specs.Granting.{grants, with_promise, may_enter_by}
 use Rattle.dpc_model.specs.Actors.{role_of, replicas_of}

@@ -1,7 +1,7 @@
 -- The session law of every run.
 use Rattle.std.proofs.Common.{◌≡◌, ℕ, ◌*◌, true, List, [], map, length, refl, sym, ap, subst, ◌∙◌, arith, Option, Some, None, slice_get, unwrap_or}
 use Rattle.std.specs.Prelude.{IfSome}
-use Rattle.dpc_model.specs.Lists.{nth, range_with_len}
+use Rattle.dpc_lists.specs.Lists.{nth, range_with_len}
 use Rattle.dpc_model.specs.Fragments.{ideal, ideal_upto}
 use Rattle.dpc_model.specs.Actors.{role_of, nodes_of}
 use Rattle.dpc_model.specs.declared.actors.Role.{Role}
@@ -32,7 +32,7 @@ use Rattle.law_sessions.specs.Laws.{SessionsLeaveView, SessionLawOf, SessionLaw}
 use Rattle.law_sessions.proofs.Keeping.{line_of, SameShown, view-held, mapped}
 use Rattle.law_sessions.proofs.Worlds.{no_slot, HeldNode, HeldSource, HeldAt, AreHeld}
 use Rattle.law_sessions.proofs.Events.{run-held}
-use Rattle.dpc_model.proofs.Elements.{get-map}
+use Rattle.dpc_lists.proofs.Elements.{get-map}
 
 -- ---- the opening
 

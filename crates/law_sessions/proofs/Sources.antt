@@ -3,7 +3,7 @@ use Rattle.std.proofs.Common.{◌≡◌, ℕ, zero, suc, ◌≤◌, max, Bool, t
 use Rattle.std.specs.Prelude.{zip}
 use Rattle.std.proofs.lemmas.Grind.{common_steps}
 use Rattle.std.proofs.lemmas.List.{length-take-le}
-use Rattle.dpc_model.specs.Lists.{nth, list_all, changed, place_of, IsPrefixOf}
+use Rattle.dpc_lists.specs.Lists.{nth, list_all, changed, place_of, IsPrefixOf}
 use Rattle.dpc_model.specs.Streams.{count_below}
 use Rattle.dpc_model.specs.Fragments.{log_of, ideal}
 use Rattle.dpc_model.specs.Sessions.{no_session, link_of, answer_to, given_items}

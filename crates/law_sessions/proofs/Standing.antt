@@ -1,7 +1,7 @@
 -- No tentative tuple is invented: each stands in its sender's tentative output after the event that sent it.
 use Rattle.std.proofs.Common.{◌≡◌, ℕ, zero, suc, ◌+◌, ◌-◌, max, Bool, true, false, cond, not, ◌&&◌, ◌==◌, nat_lt, List, [], ◌∷◌, ◌++◌, length, drop, refl, sym, subst, arith, Option, Some, None}
 use Rattle.std.specs.Prelude.{Contains, is_none}
-use Rattle.dpc_model.specs.Lists.{nth, changed, list_all}
+use Rattle.dpc_lists.specs.Lists.{nth, changed, list_all}
 use Rattle.dpc_model.specs.Replicas.{is_silent}
 use Rattle.dpc_model.specs.Granting.{may_enter_by, own_key, with_ask, grants, with_promise}
 use Rattle.dpc_model.specs.Actors.{replicas_of}

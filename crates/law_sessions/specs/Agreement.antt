@@ -1,6 +1,6 @@
 -- No two readers of a stream, nor two replicas, disagree on its stable tuples.
 use Rattle.std.specs.Prelude.{◌≡◌, ℕ, ◌⊎◌, if◌then◌else◌, List, take, Option, Some, None}
-use Rattle.dpc_model.specs.Lists.{IsPrefixOf}
+use Rattle.dpc_lists.specs.Lists.{IsPrefixOf}
 use Rattle.dpc_model.specs.Fragments.{log_of}
 use Rattle.dpc_model.specs.Reading.{Reader}
 use Rattle.dpc_model.specs.Actors.{role_of}

@@ -1,6 +1,6 @@
 -- What is sent in a quiet phase is delivered by the end of the next one.
 use Rattle.std.proofs.Common.{◌≡◌, ℕ, Bool, true, false, ◌||◌, List, [], ◌∷◌, refl, arith}
-use Rattle.dpc_model.specs.Lists.{list_all, list_any}
+use Rattle.dpc_lists.specs.Lists.{list_all, list_any}
 use Rattle.dpc_model.specs.declared.messages.Event.{Event}
 use Rattle.dpc_model.specs.declared.scripts.Script.{Script}
 use Rattle.world_model.specs.Schedules.{Undelivered, Progress, next_progress, progress_from}

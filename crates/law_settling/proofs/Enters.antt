@@ -1,6 +1,6 @@
 -- From phase to phase until a replica enters: each trial ends with that, or with one more asking.
 use Rattle.std.proofs.Common.{◌≡◌, ℕ, suc, ◌+◌, ◌*◌, ◌-◌, ◌<◌, ◌≤◌, Bool, false, List, sym, ap, ◌∙◌, arith, Option, Some, None, ◌⊎◌, inl, inr}
-use Rattle.dpc_model.specs.Lists.{nth}
+use Rattle.dpc_lists.specs.Lists.{nth}
 use Rattle.dpc_model.specs.Actors.{role_of, replicas_of}
 use Rattle.dpc_model.specs.declared.actors.Role.TheVariants.{Node as IsNode}
 use Rattle.dpc_model.specs.declared.messages.Event.{Event}

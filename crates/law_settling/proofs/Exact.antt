@@ -1,6 +1,6 @@
 -- Elements of lists, and what a packet makes of the inlet that reads its sender.
 use Rattle.std.proofs.Common.{◌≡◌, ◌≢◌, ℕ, zero, suc, true, false, cond, ◌==◌, nat_lt, List, [], ◌∷◌, ◌++◌, map, refl, sym, ap, ◌∙◌, Option, Some, slice_get, ◌⊎◌, inl, inr}
-use Rattle.dpc_model.specs.Lists.{changed, insert_by}
+use Rattle.dpc_lists.specs.Lists.{changed, insert_by}
 use Rattle.dpc_model.specs.Inlets.{InletState, take_batch, after_link}
 use Rattle.dpc_model.specs.Ports.{Port}
 use Rattle.dpc_model.specs.declared.messages.Message.TheVariants as message

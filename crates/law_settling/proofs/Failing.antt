@@ -1,7 +1,7 @@
 -- Who is not UP_FAILURE stays so where its inputs are whole; and while a node is UP_FAILURE no ask of it becomes over.
 use Rattle.std.proofs.Common.{◌≡◌, ℕ, ◌+◌, ◌-◌, ◌<◌, ◌≤◌, Bool, true, false, cond, not, ◌&&◌, ◌==◌, min, List, [], ◌∷◌, ◌++◌, map, length, refl, sym, ap, ◌∙◌, arith, Option, Some, None}
 use Rattle.std.specs.Prelude.{is_none}
-use Rattle.dpc_model.specs.Lists.{nth, list_all, is_nil, range_with_len}
+use Rattle.dpc_lists.specs.Lists.{nth, list_all, is_nil, range_with_len}
 use Rattle.dpc_model.specs.Due.{first_incomplete, is_complete}
 use Rattle.dpc_model.specs.Inlets.{same_sess, take_batch, AfterBatch}
 use Rattle.dpc_model.specs.Replicas.{is_silent}

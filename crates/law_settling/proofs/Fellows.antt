@@ -1,7 +1,7 @@
 -- Each number below a fragment's number of replicas is a replica's.
 use Rattle.std.proofs.Common.{◌≡◌, ℕ, zero, suc, ◌+◌, ◌-◌, ◌<◌, true, false, cond, not, ◌==◌, List, [], ◌∷◌, map, length, refl, sym, ap, ◌∙◌, arith, Option, Some, slice_get}
 use Rattle.std.specs.List.{filter, enumerate_from}
-use Rattle.dpc_model.specs.Lists.{nth, list_all}
+use Rattle.dpc_lists.specs.Lists.{nth, list_all}
 use Rattle.dpc_model.specs.Actors.{role_of, nodes_from, nodes_of}
 use Rattle.dpc_model.specs.Replicas.{Watch, is_silent}
 use Rattle.dpc_model.specs.declared.actors.Role.TheVariants.{Node as IsNode}

@@ -1,7 +1,7 @@
 -- A port that asked its source anew, until it has the whole of it.
 use Rattle.std.proofs.Common.{◌≡◌, ℕ, zero, suc, ◌+◌, ◌-◌, ◌<◌, ◌≤◌, Bool, true, false, cond, not, ◌&&◌, ◌||◌, ◌==◌, nat_le, min, List, [], ◌∷◌, ◌++◌, map, length, refl, sym, ap, ◌∙◌, arith, Some, slice_get, ◌⊎◌}
 use Rattle.std.proofs.lemmas.Option.{slice_get_within}
-use Rattle.dpc_model.specs.Lists.{has, list_any, range_with_len}
+use Rattle.dpc_lists.specs.Lists.{has, list_any, range_with_len}
 use Rattle.dpc_model.specs.Reading.{Reader, Folded, fold_items, is_sure}
 use Rattle.dpc_model.specs.Inlets.{InletState, same_sess, with_next_session}
 use Rattle.dpc_model.specs.Ports.{Port, choice_at, must_reopen, port_after_choice}
@@ -12,7 +12,7 @@ use Rattle.dpc_model.specs.declared.messages.Event.TheVariants.{Phase, Emit, Rel
 use Rattle.dpc_model.specs.declared.messages.Sess.{Sess}
 use Rattle.dpc_model.specs.declared.messages.Message.TheVariants as message
 use Rattle.dpc_model.specs.declared.scripts.Script.{Script}
-use Rattle.dpc_model.proofs.Elements.{get-first}
+use Rattle.dpc_lists.proofs.Elements.{get-first}
 use Rattle.node_model.specs.Mails.{Plain}
 use Rattle.world_model.specs.Worlds.{World, Envelope, happens}
 use Rattle.world_model.specs.Schedules.{Undelivered, Progress, next_progress, noting, newly_sent, may_follow}

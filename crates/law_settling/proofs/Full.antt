@@ -2,7 +2,7 @@
 use Rattle.std.proofs.Common.{◌≡◌, ℕ, ◌+◌, ◌<◌, ◌≤◌, Bool, true, false, cond, not, ◌==◌, List, [], ◌∷◌, ◌++◌, length, take, drop, refl, sym, ap, subst, ◌∙◌, arith, Option, Some, None, slice_get}
 use Rattle.std.specs.Prelude.{max}
 use Rattle.std.proofs.lemmas.List.{take-append-drop, length-take}
-use Rattle.dpc_model.specs.Lists.{nth, IsPrefixOf}
+use Rattle.dpc_lists.specs.Lists.{nth, IsPrefixOf}
 use Rattle.dpc_model.specs.Streams.{count_below}
 use Rattle.dpc_model.specs.Fragments.{ideal, log_of}
 use Rattle.dpc_model.specs.Reading.{Reader, is_sure, Folded, fold_items}

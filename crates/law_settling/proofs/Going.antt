@@ -1,6 +1,6 @@
 -- What an event of a quiet phase makes of a port that reads a source, where its node does not recover: there is one replica, which it reads.
 use Rattle.std.proofs.Common.{◌≡◌, ℕ, ◌<◌, Bool, true, cond, length, refl, sym, ap, subst, ◌∙◌, arith, Option, Some, slice_get, inl, inr}
-use Rattle.dpc_model.specs.Lists.{nth}
+use Rattle.dpc_lists.specs.Lists.{nth}
 use Rattle.dpc_model.specs.Inlets.{take_batch, after_link}
 use Rattle.dpc_model.specs.Actors.{role_of, inputs_of, senders_of}
 use Rattle.dpc_model.specs.Ports.{Port, sender_at, without_ended_marks}

@@ -1,7 +1,7 @@
 -- What a node heard of the asks that are over: it only grows, a beat adds to it, and a tick tells it.
 use Rattle.std.proofs.Common.{◌≡◌, ℕ, zero, suc, ◌<◌, Bool, true, false, cond, not, ◌&&◌, ◌==◌, List, [], ◌∷◌, ◌++◌, length, refl, sym, ap, subst, ◌∙◌, arith, Option, Some, None, inl, inr}
 use Rattle.std.specs.Prelude.{is_none, filter}
-use Rattle.dpc_model.specs.Lists.{nth, changed, list_all}
+use Rattle.dpc_lists.specs.Lists.{nth, changed, list_all}
 use Rattle.dpc_model.specs.Inlets.{same_sess, take_batch, AfterBatch}
 use Rattle.dpc_model.specs.Replicas.{is_silent}
 use Rattle.dpc_model.specs.Granting.{Key, key_le, greater_key, own_key, Grants, grants, with_promise, may_enter_by, later_key, with_ask, with_ask_over}

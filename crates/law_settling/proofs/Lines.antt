@@ -1,7 +1,7 @@
 -- A port that reads a source, and the source that it reads.
 use Rattle.std.proofs.Common.{◌≡◌, ℕ, zero, suc, ◌+◌, ◌<◌, ◌≤◌, Bool, true, false, cond, ◌==◌, List, [], ◌∷◌, map, length, refl, sym, ap, subst, ◌∙◌, arith, Option, Some, None, slice_get, unwrap_or}
 use Rattle.std.specs.List.{filter, enumerate_from}
-use Rattle.dpc_model.specs.Lists.{nth, place_of}
+use Rattle.dpc_lists.specs.Lists.{nth, place_of}
 use Rattle.dpc_model.specs.Actors.{role_of, roles_of, inputs_of, same_stream, sends_stream, senders_of, readers_of}
 use Rattle.dpc_model.specs.Ports.{sender_from, sender_at}
 use Rattle.dpc_model.specs.declared.actors.Role.{Role}

@@ -1,6 +1,6 @@
 -- In every run a promise is to one of the fragment's replicas.
 use Rattle.std.proofs.Common.{◌≡◌, ℕ, suc, ◌+◌, ◌<◌, Bool, true, false, cond, ◌==◌, nat_lt, List, [], ◌∷◌, refl, sym, ap, subst, ◌∙◌, Option, Some, None, ◌⊎◌, inl, inr}
-use Rattle.dpc_model.specs.Lists.{list_all, changed, place_of}
+use Rattle.dpc_lists.specs.Lists.{list_all, changed, place_of}
 use Rattle.dpc_model.specs.Actors.{role_of, is_replica_of, replicas_of}
 use Rattle.dpc_model.specs.Granting.{Key}
 use Rattle.dpc_model.specs.declared.actors.Role.{Role}

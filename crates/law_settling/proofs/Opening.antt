@@ -1,7 +1,7 @@
 -- Where every link and every node is up it stays so in quiet phases, and every envelope may come.
 use Rattle.std.proofs.Common.{◌≡◌, ℕ, zero, suc, ◌<◌, Bool, true, false, cond, not, ◌&&◌, ◌||◌, ◌==◌, List, [], ◌∷◌, length, refl, ap, ◌∙◌, arith, Option, Some, None, slice_get}
 use Rattle.std.specs.Prelude.{is_some, unwrap_or}
-use Rattle.dpc_model.specs.Lists.{changed, list_all, list_any}
+use Rattle.dpc_lists.specs.Lists.{changed, list_all, list_any}
 use Rattle.dpc_model.specs.declared.actors.Role.TheVariants.{Source as IsSource, Node as IsNode, Client as IsClient, Nobody}
 use Rattle.dpc_model.specs.declared.actors.Role.{Role}
 use Rattle.dpc_model.specs.Actors.{role_of, nodes_of, reads_from, are_peers, are_linked, sends_stream, inputs_of}

@@ -1,6 +1,6 @@
 -- What a packet makes of a reader's port, exactly: the inlet, and what is known of each replica.
 use Rattle.std.proofs.Common.{◌≡◌, ℕ, zero, suc, Bool, true, false, cond, ◌&&◌, ◌==◌, List, [], ◌∷◌, refl, sym, ap, subst, ◌∙◌, Option, Some, None, slice_get, unwrap_or, inl, inr}
-use Rattle.dpc_model.specs.Lists.{nth, changed}
+use Rattle.dpc_lists.specs.Lists.{nth, changed}
 use Rattle.dpc_model.specs.Inlets.{same_sess, take_batch}
 use Rattle.dpc_model.specs.Granting.{grants, with_promise, may_enter_by}
 use Rattle.dpc_model.specs.Actors.{replicas_of}

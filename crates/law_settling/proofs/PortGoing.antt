@@ -1,6 +1,6 @@
 -- What an event of a quiet phase makes of a port, where its node does not recover.
 use Rattle.std.proofs.Common.{◌≡◌, ℕ, ◌≤◌, true, false, List, [], ◌∷◌, ◌++◌, map, length, refl, sym, ap, subst, ◌∙◌, Option, Some, slice_get, ◌⊎◌, inl, inr}
-use Rattle.dpc_model.specs.Lists.{nth, changed}
+use Rattle.dpc_lists.specs.Lists.{nth, changed}
 use Rattle.dpc_model.specs.Actors.{role_of, inputs_of}
 use Rattle.dpc_model.specs.Ports.{Port, sender_at, must_reopen, port_after_choice, without_ended_marks}
 use Rattle.dpc_model.specs.declared.actors.Role.{Role}

@@ -1,6 +1,6 @@
 -- A packet of a sender of its stream that comes to a port is taken, and a tick that is not void ticks it.
 use Rattle.std.proofs.Common.{◌≡◌, ℕ, Bool, true, cond, map, length, ◌++◌, refl, sym, ap, subst, ◌∙◌, Option, Some, None, slice_get, inl, inr}
-use Rattle.dpc_model.specs.Lists.{changed}
+use Rattle.dpc_lists.specs.Lists.{changed}
 use Rattle.dpc_model.specs.Actors.{role_of, inputs_of}
 use Rattle.dpc_model.specs.Ports.{Port, sender_at, without_ended_marks}
 use Rattle.dpc_model.specs.declared.actors.Role.{Role}

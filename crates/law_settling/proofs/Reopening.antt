@@ -1,6 +1,6 @@
 -- From a port that asked its source anew to one that has the whole of it, event by event.
 use Rattle.std.proofs.Common.{◌≡◌, ℕ, zero, suc, ◌+◌, ◌≤◌, Bool, true, false, cond, not, ◌&&◌, ◌||◌, ◌==◌, nat_le, min, List, [], ◌∷◌, ◌++◌, length, refl, sym, ap, subst, ◌∙◌, arith, Option, Some, None, slice_get, ◌⊎◌, inl, inr}
-use Rattle.dpc_model.specs.Lists.{nth, has}
+use Rattle.dpc_lists.specs.Lists.{nth, has}
 use Rattle.dpc_model.specs.Reading.{Reader, is_sure}
 use Rattle.dpc_model.specs.Inlets.{InletState, same_sess, is_newer, take_batch, after_link, with_next_session}
 use Rattle.dpc_model.specs.Ports.{Port, choice_at, must_reopen}

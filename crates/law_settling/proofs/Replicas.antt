@@ -1,7 +1,7 @@
 -- The replicas of a fragment by their actors: each has its number, and knows each other as a peer.
 use Rattle.std.proofs.Common.{◌≡◌, ℕ, zero, suc, ◌+◌, ◌<◌, Bool, true, false, cond, ◌==◌, List, [], ◌∷◌, ◌++◌, map, refl, sym, ap, subst, ◌∙◌, arith, Option, Some, None, slice_get, unwrap_or, ◌⊎◌, inl, inr}
 use Rattle.std.specs.List.{filter, enumerate_from}
-use Rattle.dpc_model.specs.Lists.{nth, range_with_len, place_of}
+use Rattle.dpc_lists.specs.Lists.{nth, range_with_len, place_of}
 use Rattle.dpc_model.specs.Actors.{role_of, roles_of, nodes_from, is_replica_of, replicas_of}
 use Rattle.dpc_model.specs.declared.actors.Role.{Role}
 use Rattle.dpc_model.specs.declared.actors.Role.TheVariants.{Node as IsNode, Nobody}

@@ -1,6 +1,6 @@
 -- What a full phase brings about: P holds until Q does, and the phase is not complete before.
 use Rattle.std.proofs.Common.{◌≡◌, ◌≢◌, ℕ, zero, suc, ◌+◌, ◌<◌, ◌≤◌, Bool, true, false, not, ◌&&◌, ◌||◌, ◌==◌, List, [], ◌∷◌, length, refl, sym, ap, subst, ◌∙◌, arith, ◌⊎◌, inl, inr}
-use Rattle.dpc_model.specs.Lists.{list_all, has, range_with_len}
+use Rattle.dpc_lists.specs.Lists.{list_all, has, range_with_len}
 use Rattle.dpc_model.specs.Actors.{roles_of}
 use Rattle.dpc_model.specs.declared.messages.Event.{Event}
 use Rattle.dpc_model.specs.declared.messages.Event.TheVariants.{Phase, Emit, Release, Cut, Heal, Crash, Restart, Deliver, Tick, Mill}

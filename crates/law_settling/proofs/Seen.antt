@@ -1,6 +1,6 @@
 -- What is known of a port and its source in every run: a port that took all that was sent holds the source's view.
 use Rattle.std.proofs.Common.{◌≡◌, ℕ, zero, suc, ◌+◌, ◌<◌, ◌≤◌, Bool, true, false, ◌&&◌, nat_lt, List, [], ◌∷◌, length, refl, sym, ap, subst, ◌∙◌, arith, Option, Some, None, slice_get, unwrap_or}
-use Rattle.dpc_model.specs.Lists.{nth, range_with_len, list_all}
+use Rattle.dpc_lists.specs.Lists.{nth, range_with_len, list_all}
 use Rattle.dpc_model.specs.Actors.{role_of, senders_of}
 use Rattle.dpc_model.specs.Ports.{Port}
 use Rattle.dpc_model.specs.Sessions.{no_session, link_of}

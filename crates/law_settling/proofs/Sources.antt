@@ -1,7 +1,7 @@
 -- Every port that reads a source has its whole log, from the ninth phase on past the last recovery.
 use Rattle.std.proofs.Common.{◌≡◌, ℕ, ◌≤◌, true, List, [], ◌∷◌, ◌++◌, length, refl, sym, ap, subst, ◌∙◌, arith, Some}
 use Rattle.std.proofs.lemmas.List.{append-nil, length-append}
-use Rattle.dpc_model.specs.Lists.{IsPrefixOf}
+use Rattle.dpc_lists.specs.Lists.{IsPrefixOf}
 use Rattle.dpc_model.specs.Fragments.{ideal, ideal_upto, log_of}
 use Rattle.dpc_model.specs.Reading.{Reader}
 use Rattle.dpc_model.specs.declared.tuples.Tuple.{Tuple}

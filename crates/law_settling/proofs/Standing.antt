@@ -1,6 +1,6 @@
 -- All that is known of a port that reads a source, and of the source, in a run where nobody recovers and every link is up.
 use Rattle.std.proofs.Common.{◌≡◌, ℕ, ◌+◌, ◌<◌, ◌≤◌, true, false, not, ◌==◌, List, [], ◌∷◌, length, refl, sym, ap, subst, ◌∙◌, arith, Option, Some, slice_get}
-use Rattle.dpc_model.specs.Lists.{nth}
+use Rattle.dpc_lists.specs.Lists.{nth}
 use Rattle.dpc_model.specs.Reading.{Reader, is_sure, Folded, fold_items}
 use Rattle.dpc_model.specs.Inlets.{InletState, same_sess, is_newer}
 use Rattle.dpc_model.specs.Actors.{role_of, sends_stream, readers_of}

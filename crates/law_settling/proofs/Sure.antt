@@ -1,6 +1,6 @@
 -- A reader of a source that has nothing tentative stays so: no source sends what may be corrected.
 use Rattle.std.proofs.Common.{◌≡◌, ℕ, ◌≤◌, Bool, true, false, cond, ◌&&◌, ◌||◌, ◌==◌, nat_lt, nat_le, List, [], ◌∷◌, length, refl, sym, subst, arith, Option, Some, None, inl, inr}
-use Rattle.dpc_model.specs.Lists.{list_all, push}
+use Rattle.dpc_lists.specs.Lists.{list_all, push}
 use Rattle.dpc_model.specs.Reading.{Reader, Reading, NoReading, Skipped, Taken, reading, is_sure, Folded, fold_items, taken_first}
 use Rattle.dpc_model.specs.Inlets.{InletState, take_batch, after_next_batch, after_missing_batch, is_old}
 use Rattle.dpc_model.specs.declared.batches.Taken.TheVariants.{Old}

@@ -1,6 +1,6 @@
 -- What a tick or milling makes of a reader's port, exactly, and which subscription a tick sends.
 use Rattle.std.proofs.Common.{◌≡◌, ℕ, zero, suc, Bool, true, false, cond, not, List, [], ◌∷◌, ◌++◌, map, refl, sym, length, ap, subst, ◌∙◌, Option, Some, slice_get, inl, inr}
-use Rattle.dpc_model.specs.Lists.{nth}
+use Rattle.dpc_lists.specs.Lists.{nth}
 use Rattle.dpc_model.specs.Inlets.{with_next_session, asked_by}
 use Rattle.dpc_model.specs.Actors.{senders_of}
 use Rattle.dpc_model.specs.Ports.{Port, without_ended_marks, port_after_tick, choice_at, must_reopen, port_after_choice, subscription, subscriptions, acks_to}

@@ -1,7 +1,7 @@
 -- While no replica enters and none begins to ask: the least asking replica promised nobody, and the next one nobody else.
 use Rattle.std.proofs.Common.{◌≡◌, ℕ, ◌+◌, ◌*◌, ◌/◌, ◌<◌, ◌≤◌, Bool, true, false, not, ◌&&◌, ◌||◌, ◌==◌, nat_le, mul-le-mul_right, List, [], ◌∷◌, map, length, refl, sym, ap, ◌∙◌, arith, Option, Some, None, ◌⊎◌, inl, inr}
 use Rattle.std.proofs.Math.Nat.{div-mul-le_self}
-use Rattle.dpc_model.specs.Lists.{list_all, is_nil}
+use Rattle.dpc_lists.specs.Lists.{list_all, is_nil}
 use Rattle.dpc_model.specs.Due.{is_complete}
 use Rattle.dpc_model.specs.Reading.{Reader}
 use Rattle.dpc_model.specs.Granting.{Key, promised_other}

@@ -1,13 +1,13 @@
 -- Envelopes that wait: one stays until it is delivered, becomes pending at the next phase, and is delivered in it.
 use Rattle.std.proofs.Common.{◌≡◌, ℕ, ◌-◌, Bool, true, false, cond, not, ◌&&◌, ◌||◌, ◌==◌, List, [], ◌∷◌, ◌++◌, map, refl, ◌∙◌, slice_get}
 use Rattle.std.specs.List.{filter}
-use Rattle.dpc_model.specs.Lists.{list_all, list_any}
+use Rattle.dpc_lists.specs.Lists.{list_all, list_any}
 use Rattle.dpc_model.specs.declared.messages.Event.{Event}
 use Rattle.dpc_model.specs.declared.messages.Event.TheVariants.{Phase, Emit, Release, Cut, Heal, Crash, Restart, Deliver, Tick, Mill}
 use Rattle.dpc_model.specs.declared.scripts.Script.{Script}
 use Rattle.world_model.specs.Worlds.{World, happens}
 use Rattle.world_model.specs.Schedules.{Undelivered, Progress, next_progress, may_come, delivery_made, pending_in, becomes_pending, is_lost, newly_sent, is_phase_complete, all_ticked, all_delivered, all_milled}
-use Rattle.dpc_model.specs.Lists.{is_nil}
+use Rattle.dpc_lists.specs.Lists.{is_nil}
 use Rattle.law_safety.proofs.Tests.{both, eq-of}
 use Rattle.law_settling.specs.Phased.{is_quiet}
 pub use Rattle.law_settling.specs.Phased.{waits, is_delivery}

@@ -1,6 +1,6 @@
 -- Replicas with whole inputs that are UP_FAILURE: one after another enters.
 use Rattle.std.specs.Prelude.{◌≡◌, ℕ, zero, suc, ◌+◌, ◌*◌, ◌<◌, ◌≤◌, true, false, IsTrue, List, ◌++◌, length, Some, None, ◌⊎◌}
-use Rattle.dpc_model.specs.Lists.{nth}
+use Rattle.dpc_lists.specs.Lists.{nth}
 use Rattle.dpc_model.specs.Actors.{role_of}
 use Rattle.dpc_model.specs.Granting.{Key, key_le}
 use Rattle.dpc_model.specs.NodeStates.{is_up_failure}

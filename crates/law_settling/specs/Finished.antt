@@ -1,6 +1,6 @@
 -- Replicas that have all of their inputs, and those that have processed them.
 use Rattle.std.specs.Prelude.{◌≡◌, ℕ, ◌+◌, ◌<◌, Bool, true, false, ◌==◌, IsTrue, List, [], ◌∷◌, ◌++◌, length, Some}
-use Rattle.dpc_model.specs.Lists.{list_all}
+use Rattle.dpc_lists.specs.Lists.{list_all}
 use Rattle.dpc_model.specs.Fragments.{ideal}
 use Rattle.dpc_model.specs.Actors.{role_of}
 use Rattle.dpc_model.specs.NodeStates.{is_up_failure}

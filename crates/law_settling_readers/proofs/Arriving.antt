@@ -1,6 +1,6 @@
 -- The answer of the replica that was asked comes: the port has the whole, or turns to another replica.
 use Rattle.std.proofs.Common.{◌≡◌, ℕ, ◌<◌, ◌≤◌, Bool, true, cond, ◌==◌, List, map, length, refl, sym, ap, subst, ◌∙◌, arith, Option, Some, None, slice_get, inl, inr}
-use Rattle.dpc_model.specs.Lists.{nth, changed}
+use Rattle.dpc_lists.specs.Lists.{nth, changed}
 use Rattle.dpc_model.specs.Reading.{Reader, is_sure}
 use Rattle.dpc_model.specs.Inlets.{InletState, same_sess, take_batch}
 use Rattle.dpc_model.specs.Replicas.{unmarked_at, with_mark}

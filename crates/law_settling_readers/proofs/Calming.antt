@@ -2,7 +2,7 @@
 use Rattle.std.proofs.Common.{◌≡◌, ℕ, ◌+◌, ◌<◌, ◌≤◌, Bool, true, false, cond, not, ◌||◌, nat_lt, List, [], ◌∷◌, length, refl, sym, ap, subst, ◌∙◌, arith, Option, Some, slice_get, ◌⊎◌, inl, inr}
 use Rattle.std.proofs.lemmas.List.{length-append}
 use Rattle.std.proofs.lemmas.Option.{slice_get_within}
-use Rattle.dpc_model.specs.Lists.{changed, has, list_all}
+use Rattle.dpc_lists.specs.Lists.{changed, has, list_all}
 use Rattle.dpc_model.specs.Actors.{role_of, inputs_of, sends_stream}
 use Rattle.dpc_model.specs.Ports.{Port, sender_at, without_ended_marks}
 use Rattle.dpc_model.specs.Replicas.{Watch, after_beat, after_count}

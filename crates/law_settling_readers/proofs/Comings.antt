@@ -1,6 +1,6 @@
 -- The delivery of a subscription, and what a node's step leaves of its incarnation.
 use Rattle.std.proofs.Common.{◌≡◌, ℕ, zero, suc, Bool, true, false, ◌&&◌, ◌==◌, List, [], ◌∷◌, ◌++◌, map, refl, ap, ◌∙◌, Option, Some, None, slice_get}
-use Rattle.dpc_model.specs.Lists.{nth, place_of}
+use Rattle.dpc_lists.specs.Lists.{nth, place_of}
 use Rattle.dpc_model.specs.Actors.{role_of}
 use Rattle.dpc_model.specs.declared.actors.Role.TheVariants.{Node as IsNode}
 use Rattle.dpc_model.specs.declared.messages.Event.{Event}

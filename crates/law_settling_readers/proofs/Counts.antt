@@ -1,6 +1,6 @@
 -- How many elements of a list pass a test.
 use Rattle.std.proofs.Common.{◌≡◌, ℕ, zero, suc, ◌+◌, ◌≤◌, Bool, true, false, cond, nat_lt, List, [], ◌∷◌, ◌++◌, map, refl, ap, ◌∙◌, arith, Option, Some, slice_get}
-use Rattle.dpc_model.specs.Lists.{insert_by, sort_by}
+use Rattle.dpc_lists.specs.Lists.{insert_by, sort_by}
 use Rattle.law_granting.proofs.Each.{Each}
 
 abbrev pub one_if : Bool → ℕ

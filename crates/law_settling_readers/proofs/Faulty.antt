@@ -1,7 +1,7 @@
 -- A port that reads a fragment and misses something finds it out: a beat shows the fault, or three ticks bring no answer.
 use Rattle.std.proofs.Common.{◌≡◌, ℕ, zero, suc, ◌+◌, ◌<◌, ◌≤◌, Bool, true, false, cond, not, ◌&&◌, ◌||◌, ◌==◌, nat_le, min, List, [], ◌∷◌, map, length, refl, sym, ap, subst, ◌∙◌, arith, Option, Some, None, slice_get, ◌⊎◌, inl, inr}
 use Rattle.std.proofs.lemmas.List.{length-map}
-use Rattle.dpc_model.specs.Lists.{nth}
+use Rattle.dpc_lists.specs.Lists.{nth}
 use Rattle.dpc_model.specs.Reading.{is_sure}
 use Rattle.dpc_model.specs.Inlets.{InletState, is_newer, with_next_session, take_batch, after_link}
 use Rattle.dpc_model.specs.Actors.{role_of, inputs_of}

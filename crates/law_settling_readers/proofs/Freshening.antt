@@ -1,6 +1,6 @@
 -- What an event makes of a port that asked anew: it waits on, has the whole, is told that its tuples are forgotten, or ticks.
 use Rattle.std.proofs.Common.{◌≡◌, ℕ, ◌<◌, ◌≤◌, true, false, cond, ◌==◌, List, map, length, refl, sym, ap, subst, ◌∙◌, arith, Option, Some, slice_get, inl, inr}
-use Rattle.dpc_model.specs.Lists.{changed, place_of}
+use Rattle.dpc_lists.specs.Lists.{changed, place_of}
 use Rattle.dpc_model.specs.Reading.{Reader, is_sure}
 use Rattle.dpc_model.specs.Inlets.{InletState, same_sess, take_batch, after_link}
 use Rattle.dpc_model.specs.Actors.{role_of, inputs_of, senders_of}

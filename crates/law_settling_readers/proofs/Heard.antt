@@ -3,7 +3,7 @@ use Rattle.std.proofs.Common.{◌≡◌, ℕ, zero, suc, ◌+◌, ◌<◌, ◌�
 use Rattle.std.specs.Prelude.{is_some}
 use Rattle.std.proofs.lemmas.List.{append_assoc}
 use Rattle.std.proofs.lemmas.Option.{slice_get_within}
-use Rattle.dpc_model.specs.Lists.{nth, has}
+use Rattle.dpc_lists.specs.Lists.{nth, has}
 use Rattle.dpc_model.specs.Actors.{role_of}
 use Rattle.dpc_model.specs.Ports.{Port}
 use Rattle.dpc_model.specs.Replicas.{Watch}

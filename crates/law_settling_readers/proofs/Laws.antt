@@ -1,6 +1,6 @@
 -- The laws.
 use Rattle.std.proofs.Common.{◌≡◌, ℕ, ◌+◌, ◌&&◌, ◌==◌, ◌≤◌, true, List, length, refl, sym, ap, subst, ◌∙◌, arith}
-use Rattle.dpc_model.specs.Lists.{nth}
+use Rattle.dpc_lists.specs.Lists.{nth}
 use Rattle.dpc_model.specs.Fragments.{ideal, ideal_upto}
 use Rattle.dpc_model.specs.Actors.{role_of, sends_stream, senders_of}
 use Rattle.dpc_model.specs.declared.tuples.Tuple.{Tuple}

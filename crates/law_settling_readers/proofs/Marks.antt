@@ -1,7 +1,7 @@
 -- The replicas that truncated what a port asked for, and the choice among the others, where all are heard to be STABLE.
 use Rattle.std.proofs.Common.{◌≡◌, ℕ, zero, suc, ◌+◌, ◌<◌, ◌≤◌, Bool, true, false, cond, ◌&&◌, ◌||◌, ◌==◌, nat_le, nat_lt, List, [], ◌∷◌, map, length, refl, sym, ap, subst, ◌∙◌, arith, Option, Some, None, slice_get, unwrap_or, ◌⊎◌, inl, inr}
 use Rattle.std.specs.Prelude.{is_none, is_some}
-use Rattle.dpc_model.specs.Lists.{nth, changed, least, list_all, place_of}
+use Rattle.dpc_lists.specs.Lists.{nth, changed, least, list_all, place_of}
 use Rattle.dpc_model.specs.Replicas.{Watch, after_beat, after_tick, after_count, with_mark, unmarked_at, is_silent, rank_of, rank_by, rank_order, choose}
 use Rattle.dpc_model.specs.Ports.{Port, choice_at, all_truncated}
 use Rattle.dpc_model.specs.declared.messages.NodeState.{NodeState}

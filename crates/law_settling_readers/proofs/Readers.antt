@@ -1,6 +1,6 @@
 -- A reader of a fragment, and what is known of it along a live run: from some phases on past the replicas' finish it has its whole stream.
 use Rattle.std.proofs.Common.{◌≡◌, ℕ, ◌+◌, ◌*◌, ◌<◌, ◌≤◌, Bool, true, cond, List, ◌++◌, length, refl, sym, ap, subst, ◌∙◌, arith, Option, Some, None, slice_get, unwrap_or}
-use Rattle.dpc_model.specs.Lists.{nth}
+use Rattle.dpc_lists.specs.Lists.{nth}
 use Rattle.dpc_model.specs.Actors.{role_of, inputs_of, same_stream, sends_stream, senders_of, readers_of}
 use Rattle.dpc_model.specs.Ports.{Port}
 use Rattle.dpc_model.specs.declared.actors.Role.{Role}

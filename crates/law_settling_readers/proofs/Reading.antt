@@ -1,6 +1,6 @@
 -- All that is known of a port that reads a fragment, and of the fragment's replicas, where all of them have finished.
 use Rattle.std.proofs.Common.{◌≡◌, ℕ, ◌+◌, ◌<◌, ◌≤◌, Bool, true, false, ◌==◌, List, ◌++◌, length, refl, sym, ap, subst, ◌∙◌, arith, Option, Some, slice_get, unwrap_or}
-use Rattle.dpc_model.specs.Lists.{nth, place_of}
+use Rattle.dpc_lists.specs.Lists.{nth, place_of}
 use Rattle.dpc_model.specs.Reading.{is_sure}
 use Rattle.dpc_model.specs.Inlets.{is_newer}
 use Rattle.dpc_model.specs.Actors.{role_of, inputs_of, sends_stream, senders_of, readers_of}

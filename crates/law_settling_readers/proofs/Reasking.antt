@@ -3,7 +3,7 @@ use Rattle.std.proofs.Common.{◌≡◌, ℕ, ◌<◌, ◌≤◌, Bool, true, fa
 use Rattle.std.proofs.lemmas.List.{length-map}
 use Rattle.law_settling.proofs.Full.{asks_with}
 use Rattle.law_settling.proofs.Ports.{node-there}
-use Rattle.dpc_model.specs.Lists.{nth, has}
+use Rattle.dpc_lists.specs.Lists.{nth, has}
 use Rattle.dpc_model.specs.Reading.{Reader}
 use Rattle.dpc_model.specs.Inlets.{same_sess, is_newer, with_next_session}
 use Rattle.dpc_model.specs.Actors.{role_of, sends_stream}

@@ -1,6 +1,6 @@
 -- What an event of a quiet phase makes of a reader's session at a finished replica, and what the replica sends it.
 use Rattle.std.proofs.Common.{◌≡◌, ℕ, ◌+◌, ◌<◌, ◌≤◌, true, false, ◌&&◌, ◌==◌, nat_le, nat_lt, List, [], ◌∷◌, ◌++◌, map, length, refl, sym, ap, subst, ◌∙◌, arith, Option, Some, slice_get, ◌⊎◌, inl, inr}
-use Rattle.dpc_model.specs.Lists.{nth, changed, place_of}
+use Rattle.dpc_lists.specs.Lists.{nth, changed, place_of}
 use Rattle.dpc_model.specs.Limits.{most_milled}
 use Rattle.dpc_model.specs.Actors.{role_of, readers_of}
 use Rattle.dpc_model.specs.NodeStates.{is_up_failure}

@@ -1,7 +1,7 @@
 -- From a port that asked a replica to one that has the whole, or turns to another replica.
 use Rattle.std.proofs.Common.{◌≡◌, ℕ, ◌+◌, ◌<◌, ◌≤◌, min, Bool, true, false, cond, not, ◌&&◌, ◌||◌, ◌==◌, nat_le, List, map, length, refl, sym, ap, subst, ◌∙◌, arith, Some, None, ◌⊎◌, inl, inr}
 use Rattle.std.proofs.lemmas.List.{length-map}
-use Rattle.dpc_model.specs.Lists.{nth, has}
+use Rattle.dpc_lists.specs.Lists.{nth, has}
 use Rattle.dpc_model.specs.Reading.{Reader}
 use Rattle.dpc_model.specs.Inlets.{InletState}
 use Rattle.dpc_model.specs.Ports.{Port, choice_at, must_reopen}

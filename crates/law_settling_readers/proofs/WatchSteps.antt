@@ -1,6 +1,6 @@
 -- What is said of the incarnation of each replica that a port knows of holds after every step, where each beat that comes has it.
 use Rattle.std.proofs.Common.{◌≡◌, ℕ, zero, suc, ◌*◌, Bool, true, false, cond, not, ◌&&◌, ◌==◌, nat_lt, List, [], ◌∷◌, map, refl, sym, ap, subst, ◌∙◌, Option, Some, None, slice_get, unwrap_or, ◌⊎◌, inl, inr}
-use Rattle.dpc_model.specs.Lists.{nth, changed}
+use Rattle.dpc_lists.specs.Lists.{nth, changed}
 use Rattle.dpc_model.specs.Inlets.{same_sess, take_batch}
 use Rattle.dpc_model.specs.Replicas.{Watch, new_watch, after_beat, after_tick, after_count, with_mark}
 use Rattle.dpc_model.specs.Granting.{may_enter_by, grants, with_promise}

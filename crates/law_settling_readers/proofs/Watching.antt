@@ -2,7 +2,7 @@
 use Rattle.std.specs.Prelude.{IfSome}
 use Rattle.std.proofs.Common.{◌≡◌, ℕ, zero, suc, ◌+◌, ◌<◌, ◌≤◌, min, Bool, true, false, cond, ◌||◌, ◌==◌, nat_lt, List, [], ◌∷◌, map, length, refl, sym, ap, subst, ◌∙◌, arith, Option, Some, None, slice_get, inl, inr}
 use Rattle.std.proofs.lemmas.List.{length-map}
-use Rattle.dpc_model.specs.Lists.{changed, has, place_of}
+use Rattle.dpc_lists.specs.Lists.{changed, has, place_of}
 use Rattle.dpc_model.specs.Actors.{role_of, inputs_of, senders_of}
 use Rattle.dpc_model.specs.Inlets.{same_sess, take_batch}
 use Rattle.dpc_model.specs.Ports.{Port, sender_at, without_ended_marks}
@@ -17,7 +17,7 @@ use Rattle.dpc_model.specs.declared.plans.Plan.{Plan}
 use Rattle.dpc_model.specs.declared.plans.StreamRef.{StreamRef}
 use Rattle.dpc_model.specs.declared.plans.StreamRef.TheVariants.{Frag}
 use Rattle.dpc_model.specs.declared.scripts.Script.{Script}
-use Rattle.dpc_model.proofs.Elements.{length-changed}
+use Rattle.dpc_lists.proofs.Elements.{length-changed}
 use Rattle.node_model.specs.Mails.{Packet, Plain, SnapFor}
 use Rattle.node_model.specs.Nodes.{PlainNode}
 use Rattle.world_model.specs.Worlds.{World, Envelope, slot_of, client_at, happens}

@@ -1,6 +1,6 @@
 -- A port that took all of a finished replica has the whole stream, and so has one that takes the answer of a finished replica.
 use Rattle.std.proofs.Common.{◌≡◌, ℕ, zero, suc, ◌+◌, ◌*◌, ◌<◌, ◌≤◌, true, false, nat_lt, List, length, refl, sym, ap, subst, ◌∙◌, arith, Option, Some, slice_get, unwrap_or}
-use Rattle.dpc_model.specs.Lists.{nth, list_all, range_with_len}
+use Rattle.dpc_lists.specs.Lists.{nth, list_all, range_with_len}
 use Rattle.dpc_model.specs.Reading.{Reader, is_sure, Folded, fold_items}
 use Rattle.dpc_model.specs.Fragments.{ideal}
 use Rattle.dpc_model.specs.Actors.{role_of, senders_of}

@@ -1,6 +1,6 @@
 -- Readers that have a whole stream.
 use Rattle.std.specs.Prelude.{◌≡◌, ℕ, ◌+◌, ◌*◌, ◌<◌, ◌≤◌, false, IsTrue, List, ◌++◌, length, Some}
-use Rattle.dpc_model.specs.Lists.{nth}
+use Rattle.dpc_lists.specs.Lists.{nth}
 use Rattle.dpc_model.specs.Fragments.{ideal}
 use Rattle.dpc_model.specs.Reading.{Reader, is_sure}
 use Rattle.dpc_model.specs.Actors.{role_of, senders_of, readers_of}

@@ -4,7 +4,7 @@ use Rattle.std.specs.Prelude.{max, fold, All, nat_le}
 use Rattle.std.proofs.lemmas.Bool.{and_parts, leb-true}
 use Rattle.std.proofs.lemmas.List.Elements.{All-nil, All-cons}
 use Rattle.std.proofs.Math.Nat.{mul-le-mul_left}
-use Rattle.dpc_model.specs.Lists.{list_all}
+use Rattle.dpc_lists.specs.Lists.{list_all}
 use Rattle.dpc_model.specs.Actors.{role_of, inputs_of}
 use Rattle.dpc_model.specs.declared.plans.FragSpec.{FragSpec}
 use Rattle.dpc_model.specs.declared.plans.Plan.{Plan}

@@ -5,7 +5,7 @@ use Rattle.std.proofs.lemmas.Bool.{and_parts}
 use Rattle.std.proofs.lemmas.List.{append-nil}
 use Rattle.std.proofs.lemmas.Option.{slice_get_within, same_Some}
 use Rattle.std.proofs.Math.Nat.{suc-mul}
-use Rattle.dpc_model.specs.Lists.{nth, list_any, list_all, is_nil}
+use Rattle.dpc_lists.specs.Lists.{nth, list_any, list_all, is_nil}
 use Rattle.dpc_model.specs.Reading.{is_sure}
 use Rattle.dpc_model.specs.Actors.{nodes_of, role_of, inputs_of}
 use Rattle.dpc_model.specs.Ports.{Port}

@@ -1,6 +1,6 @@
 -- Actors take the same steps: the version stands in nothing that a step looks at.
 use Rattle.std.proofs.Common.{◌≡◌, ℕ, ◌+◌, ◌==◌, List, [], ◌∷◌, refl, ap, Option, Some, None}
-use Rattle.dpc_model.specs.Lists.{place_of}
+use Rattle.dpc_lists.specs.Lists.{place_of}
 use Rattle.dpc_model.specs.Actors.{senders_of}
 use Rattle.dpc_model.specs.Ports.{sender_from}
 use Rattle.dpc_model.specs.declared.messages.Message.{Message}

@@ -6,7 +6,7 @@ ghost use Rattle.std.specs.Io.{StartsWith};
 ghost use Rattle.std.specs.Fmt.{signed_decimal};
 ghost use Rattle.line_writer.specs.Spaces.{behind_spaces};
 
-use dpc_model::faults::NoMemory;
+use dpc_lists::faults::NoMemory;
 use itoa::Buffer;
 
 /// The first word of a line.

@@ -1,7 +1,7 @@
 -- The generated load of a number: two sources with random logs, six fragments of three replicas, three clients, and a failure
 -- in every fifth phase.
 use Rattle.std.specs.Prelude.{ℕ, zero, suc, ◌+◌, ◌*◌, ◌/◌, ◌%◌, ◌^◌, pos, true, false, ◌&&◌, ◌==◌, nat_lt, if◌then◌else◌, List, [], ◌∷◌, ◌++◌, map, Option, Some, None, option_to_list, codes}
-use Rattle.dpc_model.specs.Lists.{range_with_len}
+use Rattle.dpc_lists.specs.Lists.{range_with_len}
 use Rattle.dpc_model.specs.Words.{Word}
 use Rattle.dpc_model.specs.Formula.{Bin, Col, Num}
 use Rattle.dpc_model.specs.declared.tuples.Tuple.{Tuple}

@@ -11,7 +11,7 @@ ghost use Rattle.load_gen.specs.Generated.{generated};
 use crate::draws::Generator;
 use crate::phases::{failure_draws, phases};
 use crate::plan::plan;
-use dpc_model::faults::NoMemory;
+use dpc_lists::faults::NoMemory;
 use dpc_model::scripts::Script;
 use std::alloc::Global;
 

@@ -3,8 +3,8 @@ ghost use Rattle.std.specs.Prelude.{◌≡◌, ◌+◌, ◌*◌, ◌<◌, ◌≤
 ghost use Rattle.load_gen.specs.Generated.{state_after, entries, failure, ending, failures, failure_draws, begun, ended, phase_of, phases, phases_of};
 
 use crate::draws::Generator;
-use dpc_model::faults::NoMemory;
-use dpc_model::lists::Listed;
+use dpc_lists::faults::NoMemory;
+use dpc_lists::lists::Listed;
 use dpc_model::scripts::{Directive, Phase};
 use std::alloc::Global;
 

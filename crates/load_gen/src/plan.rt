@@ -9,9 +9,9 @@ ghost use Rattle.dpc_model.specs.declared.operators.OpKind.TheVariants as kind;
 ghost use Rattle.dpc_model.specs.declared.plans.StreamRef.TheVariants.{Frag};
 
 use crate::draws::Generator;
+use dpc_lists::faults::NoMemory;
+use dpc_lists::lists::{Listed, Name};
 use dpc_model::expressions::{BinOp, Expr, ExprNode};
-use dpc_model::faults::NoMemory;
-use dpc_model::lists::{Listed, Name};
 use dpc_model::operators::{Agg, OpKind, OpSpec, Wire};
 use dpc_model::plans::{ClientSpec, FragSpec, Plan, SourceSpec, StreamRef};
 use dpc_model::tuples::{Tuple, Tuples, Vals};

@@ -5,7 +5,7 @@ use Rattle.std.proofs.lemmas.List.{length-append, length-map, map-id, map-append
 use Rattle.std.proofs.lemmas.List.FromFn.{length-range_with_len, map-range_with_len_more}
 use Rattle.std.proofs.lemmas.List.Sums.{sum_by-cons}
 use Rattle.std.proofs.lemmas.List.Elements.{filter-append}
-use Rattle.dpc_model.specs.Lists.{range_with_len, list_any}
+use Rattle.dpc_lists.specs.Lists.{range_with_len, list_any}
 use Rattle.dpc_model.specs.Actors.{nodes_from, nodes_of, roles_of}
 use Rattle.dpc_model.specs.declared.actors.Role.TheVariants.{Source as IsSource, Node as IsNode, Client as IsClient}
 use Rattle.dpc_model.specs.declared.messages.Event.{Event}

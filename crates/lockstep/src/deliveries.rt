@@ -1,6 +1,6 @@
 //! How often a pending envelope is delivered.
 ghost use Rattle.std.specs.Prelude.{◌≡◌, false, IfOk};
-ghost use Rattle.dpc_model.specs.Lists.{list_any};
+ghost use Rattle.dpc_lists.specs.Lists.{list_any};
 ghost use Rattle.world_model.specs.Schedules.{deliveries_of};
 ghost use Rattle.world_core.specs.Runs.{world_of};
 ghost use Rattle.lockstep.specs.Ends.{goes_so, loses_so, repeats_so, marks_of};

@@ -1,15 +1,15 @@
 //! The events of a phase behind its directives, as one list: all are told of the world as it stands then.
 ghost use Rattle.std.specs.Prelude.{◌≡◌, ◌-◌, ◌++◌, false, length, flat_map, map, filter, replicate, IfOk, OnOk};
 ghost use Rattle.dpc_model.specs.Actors.{nodes_from, roles_of};
-ghost use Rattle.dpc_model.specs.Lists.{range_with_len};
+ghost use Rattle.dpc_lists.specs.Lists.{range_with_len};
 ghost use Rattle.dpc_model.specs.declared.messages.Event.TheVariants.{Deliver, Tick, Mill};
 ghost use Rattle.world_model.specs.Worlds.{is_up, ready_at};
 ghost use Rattle.world_model.specs.Schedules.{mill_events, deliveries_of, phase_events};
 ghost use Rattle.world_core.specs.Runs.{world_of};
 
 use crate::deliveries::{deliveries, marks};
+use dpc_lists::faults::NoMemory;
 use dpc_model::actors::narrow;
-use dpc_model::faults::NoMemory;
 use dpc_model::messages::Event;
 use dpc_model::plans::{FragSpec, Plan};
 use dpc_model::scripts::Directive;

@@ -3,7 +3,7 @@ ghost use Rattle.std.specs.Prelude.{◌≡◌};
 ghost use Rattle.lockstep.specs.Faults.{fault_of};
 ghost use Rattle.lockstep.specs.declared.faults.RunFault.TheVariants as run_fault;
 
-use dpc_model::faults::NoMemory;
+use dpc_lists::faults::NoMemory;
 use std::alloc::{AllocError, AllocFailed};
 use world_core::faults::ApplyFault;
 

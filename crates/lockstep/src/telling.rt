@@ -5,8 +5,8 @@ ghost use Rattle.world_core.specs.Runs.{world_of};
 ghost use Rattle.lockstep.specs.Locking.{Follows, Exceeds};
 
 use crate::faults::RunFault;
+use dpc_lists::faults::NoMemory;
 use dpc_model::actors::narrow;
-use dpc_model::faults::NoMemory;
 use dpc_model::messages::Event;
 use dpc_model::scripts::Directive;
 use std::alloc::Global;

@@ -4,9 +4,9 @@ ghost use Rattle.mill_work.specs.Milling.{IsOrder, IsMilled};
 
 use crate::order::Order;
 use checkpoint_redo::keeper::Keeper;
+use dpc_lists::faults::NoMemory;
+use dpc_lists::steps::Steps;
 use dpc_model::engines::Engine;
-use dpc_model::faults::NoMemory;
-use dpc_model::steps::Steps;
 use dpc_model::tuples::Tuples;
 use std::alloc::Global;
 use std::marker::Model;

@@ -1,5 +1,5 @@
 //! Work as a node gives it out.
-use dpc_model::lists::Listed;
+use dpc_lists::lists::Listed;
 use dpc_model::tuples::Tagged;
 use std::marker::Model;
 

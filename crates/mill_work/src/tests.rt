@@ -3,10 +3,10 @@ ghost use Rattle.std.specs.Prelude.{◌≡◌, ◌<◌};
 
 use crate::milling::mill;
 use crate::order::Order;
+use dpc_lists::lists::Listed;
+use dpc_lists::steps::Steps;
 use dpc_model::engines::Engine;
 use dpc_model::expressions::{Expr, ExprNode};
-use dpc_model::lists::Listed;
-use dpc_model::steps::Steps;
 use dpc_model::tuples::{Tagged, Tuple, Vals};
 use ops_stateless::filter::Filter;
 use std::alloc::{AllocError, Global};

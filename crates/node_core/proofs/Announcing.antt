@@ -4,7 +4,7 @@ use Rattle.std.proofs.lemmas.List.{map-append, take_all}
 use Rattle.std.specs.Prelude.{if◌then◌else◌}
 use Rattle.dpc_model.specs.Actors.{senders_of}
 use Rattle.dpc_model.specs.Inlets.{InletState}
-use Rattle.dpc_model.specs.Lists.{nth, sort_by}
+use Rattle.dpc_lists.specs.Lists.{nth, sort_by}
 use Rattle.dpc_model.specs.Parts.{Inputs, Outputs, Neighbours}
 use Rattle.dpc_model.specs.Ports.{Port, no_port, acks_to}
 use Rattle.dpc_model.specs.Sessions.{no_session, link_of}

@@ -2,7 +2,7 @@
 use Rattle.std.proofs.Common.{◌≡◌, ℕ, suc, ◌<◌, Bool, true, false, ◌==◌, List, [], ◌∷◌, length, refl, sym, ap, subst, ◌∙◌, arith, Option, Some, None, Result, Ok, Err, Box, Global}
 use Rattle.std.proofs.lemmas.Grind.{common_steps}
 use Rattle.std.specs.Prelude.{if◌then◌else◌, IfOk}
-use Rattle.dpc_model.specs.Lists.{nth, changed, place_of}
+use Rattle.dpc_lists.specs.Lists.{nth, changed, place_of}
 use Rattle.dpc_model.specs.Parts.{Stream, Neighbours, stream_by, shown_of}
 use Rattle.dpc_model.specs.Fragments.{fragment_value}
 use Rattle.dpc_model.specs.Actors.{replicas_of}
@@ -15,7 +15,7 @@ use Rattle.dpc_model.specs.declared.messages.NodeState.{NodeState}
 use Rattle.dpc_model.specs.declared.messages.Subscribe.{Subscribe}
 use Rattle.dpc_model.specs.declared.tuples.Tuple.{Tuple}
 use Rattle.dpc_model.specs.declared.tuples.Item.{Item}
-use Rattle.dpc_model.proofs.Places.{place-within}
+use Rattle.dpc_lists.proofs.Places.{place-within}
 use Rattle.soutput.specs.Laws.{outputs_at}
 use Rattle.node_links.specs.Linking.{LinksValue}
 use Rattle.node_model.specs.Mails.{Snap, Stepped, mail}

@@ -2,7 +2,7 @@
 use Rattle.std.proofs.Common.{◌≡◌, ℕ, Bool, true, false, ◌&&◌, List, [], map, refl, sym, ap, subst, ◌∙◌, Option, Some, None, is_none}
 use Rattle.std.specs.Prelude.{if◌then◌else◌}
 use Rattle.dpc_model.specs.Granting.{own_key, with_ask}
-use Rattle.dpc_model.specs.Lists.{list_all}
+use Rattle.dpc_lists.specs.Lists.{list_all}
 use Rattle.dpc_model.specs.Parts.{Neighbours}
 use Rattle.dpc_model.specs.Replicas.{is_silent}
 use Rattle.dpc_model.specs.declared.messages.Message.TheVariants as message

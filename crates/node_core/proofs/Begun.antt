@@ -1,7 +1,7 @@
 -- A new node, and one that restarted.
 use Rattle.std.proofs.Common.{◌≡◌, ℕ, zero, suc, ◌<◌, Bool, true, false, ◌==◌, List, [], ◌∷◌, map, length, refl, sym, ap, subst, ◌∙◌, arith, Some, slice_get, replicate}
 use Rattle.std.specs.Prelude.{if◌then◌else◌}
-use Rattle.dpc_model.specs.Lists.{nth}
+use Rattle.dpc_lists.specs.Lists.{nth}
 use Rattle.dpc_model.specs.Inlets.{InletState, new_inlet, restarted_inlet, sess_of}
 use Rattle.dpc_model.specs.Ports.{Port, port_at}
 use Rattle.dpc_model.specs.Parts.{Inputs, Outputs}
@@ -12,7 +12,7 @@ use Rattle.dpc_model.specs.declared.messages.NodeState.TheVariants.{Stable, Stab
 use Rattle.dpc_model.specs.declared.plans.FragSpec.{FragSpec}
 use Rattle.dpc_model.specs.declared.plans.Plan.{Plan}
 use Rattle.dpc_model.specs.declared.plans.StreamRef.{StreamRef}
-use Rattle.dpc_model.proofs.Places.{same-each}
+use Rattle.dpc_lists.proofs.Places.{same-each}
 use Rattle.node_model.specs.Nodes.{Home, no_fragment, spec_of, streams_of, own_readers, PlainNode, new_node, restarted_node, first_session}
 use Rattle.node_model.specs.Views.{inputs_of, outputs_of, neighbours_of}
 use Rattle.node_links.specs.Linking.{LinksValue, new_links}

@@ -3,7 +3,7 @@ use Rattle.std.proofs.Common.{◌≡◌, ℕ, zero, suc, ◌<◌, Bool, true, fa
 use Rattle.std.specs.Prelude.{if◌then◌else◌}
 use Rattle.dpc_model.specs.Actors.{senders_of}
 use Rattle.dpc_model.specs.Inlets.{InletState, with_next_session, asked_by}
-use Rattle.dpc_model.specs.Lists.{nth}
+use Rattle.dpc_lists.specs.Lists.{nth}
 use Rattle.dpc_model.specs.Parts.{Inputs, Upstream, Neighbours}
 use Rattle.dpc_model.specs.Ports.{Port, no_port, choice_at, must_reopen, port_after_choice}
 use Rattle.dpc_model.specs.declared.messages.Message.TheVariants as message
@@ -13,7 +13,7 @@ use Rattle.dpc_model.specs.declared.plans.StreamRef.{StreamRef}
 use Rattle.dpc_model.specs.declared.plans.StreamRef.TheVariants.{Source}
 use Rattle.dpc_model.specs.declared.operators.OpSpec.{OpSpec}
 use Rattle.dpc_model.specs.Parts.{Outputs}
-use Rattle.dpc_model.proofs.Elements.{length-changed}
+use Rattle.dpc_lists.proofs.Elements.{length-changed}
 use Rattle.sunion.specs.Laws.{with_inlet}
 use Rattle.sunion.specs.Unions.{no_value}
 use Rattle.upstream.specs.Upstreams.{with_choice, asked_actor}

@@ -1,13 +1,13 @@
 -- A replica is chosen for each port, one after another.
 use Rattle.std.proofs.Common.{◌≡◌, ℕ, zero, suc, ◌+◌, ◌<◌, List, [], ◌∷◌, ◌++◌, map, take, length, refl, sym, ap, subst, ◌∙◌, arith, append_assoc, append-nil}
 use Rattle.std.proofs.lemmas.List.{map-append, take_all}
-use Rattle.dpc_model.specs.Lists.{nth, changed, sort_by}
+use Rattle.dpc_lists.specs.Lists.{nth, changed, sort_by}
 use Rattle.dpc_model.specs.Ports.{Port, no_port, port_after_choice, subscription, subscriptions}
 use Rattle.dpc_model.specs.declared.messages.Out.{Out}
 use Rattle.dpc_model.specs.declared.plans.Plan.{Plan}
 use Rattle.dpc_model.specs.declared.plans.StreamRef.{StreamRef}
 use Rattle.dpc_model.specs.declared.plans.StreamRef.TheVariants.{Source}
-use Rattle.dpc_model.proofs.Mapped.{mapped_to}
+use Rattle.dpc_lists.proofs.Mapped.{mapped_to}
 use Rattle.node_model.specs.Mails.{Mail, mail, mails}
 use Rattle.node_model.specs.Nodes.{Home, streams_of, PlainNode}
 use Rattle.node_model.specs.NodeSteps.{with_port, choice_step}

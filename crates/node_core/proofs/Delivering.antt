@@ -3,7 +3,7 @@ use Rattle.std.proofs.Common.{◌≡◌, ℕ, zero, suc, ◌<◌, Bool, true, fa
 use Rattle.std.proofs.lemmas.Grind.{common_steps}
 use Rattle.std.proofs.lemmas.List.{length-map}
 use Rattle.std.specs.Prelude.{if◌then◌else◌}
-use Rattle.dpc_model.specs.Lists.{nth, place_of}
+use Rattle.dpc_lists.specs.Lists.{nth, place_of}
 use Rattle.dpc_model.specs.Inlets.{InletState, AfterBatch, take_batch, after_link}
 use Rattle.dpc_model.specs.Ports.{Port, no_port, sender_at}
 use Rattle.dpc_model.specs.Parts.{Inputs, Outputs, Upstream, Neighbours, done_in}

@@ -1,6 +1,6 @@
 -- Ready buckets are processed: where the node stands then, and what it sends.
 use Rattle.std.proofs.Common.{◌≡◌, ℕ, ◌+◌, ◌<◌, ◌≤◌, Bool, true, false, List, [], ◌∷◌, map, refl, sym, ap, subst, ◌∙◌, arith}
-use Rattle.dpc_model.specs.Lists.{nth}
+use Rattle.dpc_lists.specs.Lists.{nth}
 use Rattle.dpc_model.specs.Granting.{with_ask_over}
 use Rattle.dpc_model.specs.Parts.{Inputs, Outputs, Stream, Neighbours}
 use Rattle.dpc_model.specs.Sessions.{batches_of}

@@ -3,7 +3,7 @@ use Rattle.std.proofs.Common.{◌≡◌, ℕ, ◌-◌, ◌<◌, Bool, false, not
 use Rattle.std.proofs.lemmas.Grind.{common_steps}
 use Rattle.std.specs.Prelude.{if◌then◌else◌}
 use Rattle.dpc_model.specs.Due.{DueView, last_due, delay_of}
-use Rattle.dpc_model.specs.Lists.{nth, is_nil}
+use Rattle.dpc_lists.specs.Lists.{nth, is_nil}
 use Rattle.dpc_model.specs.Parts.{Inputs, Outputs, Stream, view_of}
 use Rattle.dpc_model.specs.Reading.{Reader}
 use Rattle.dpc_model.specs.Sessions.{batches_of}

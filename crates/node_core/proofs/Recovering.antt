@@ -4,7 +4,7 @@ use Rattle.dpc_model.specs.Inlets.{InletState, restarted_inlet}
 use Rattle.dpc_model.specs.Ports.{Port}
 use Rattle.dpc_model.specs.Parts.{Inputs, Outputs, Upstream, Neighbours}
 use Rattle.dpc_model.specs.Reading.{stable_reader}
-use Rattle.dpc_model.specs.Lists.{nth}
+use Rattle.dpc_lists.specs.Lists.{nth}
 use Rattle.dpc_model.specs.Sessions.{batches_of, with_batches}
 use Rattle.dpc_model.specs.declared.messages.Message.{Message}
 use Rattle.dpc_model.specs.declared.tuples.Item.TheVariants.{Undo}

@@ -11,7 +11,7 @@ use Rattle.node_core.specs.declared.packets.Mail as code_mail
 use Rattle.node_core.specs.Standing.{NodeValue, StandsForNode, AreMails}
 use Rattle.node_core.specs.Stepping.{plain_mail}
 use Rattle.std.proofs.Common.{◌≡◌, ℕ, Bool, true, false, List, [], ◌∷◌, map, refl, sym, ap, subst, ◌∙◌, nat_lt}
-use Rattle.dpc_model.specs.Lists.{insert_by, sort_by}
+use Rattle.dpc_lists.specs.Lists.{insert_by, sort_by}
 use Rattle.node_model.specs.Mails.{Mail, in_actor_order}
 use Rattle.node_core.specs.Standing.{NodeValue, StandsForNode, StandsForMail, AreMails}
 

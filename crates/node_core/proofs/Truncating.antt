@@ -3,14 +3,14 @@ use Rattle.std.proofs.Common.{◌≡◌, ℕ, zero, suc, ◌+◌, ◌*◌, ◌<�
 use Rattle.std.proofs.lemmas.Grind.{common_steps}
 use Rattle.std.specs.List.{AllZip}
 use Rattle.std.specs.Prelude.{if◌then◌else◌}
-use Rattle.dpc_model.specs.Lists.{nth, changed}
+use Rattle.dpc_lists.specs.Lists.{nth, changed}
 use Rattle.dpc_model.specs.Inlets.{InletState, same_sess}
 use Rattle.dpc_model.specs.Ports.{Port, no_port, sender_at, on_truncated, all_truncated, without_ended_marks}
 use Rattle.dpc_model.specs.Parts.{Inputs, Upstream, Neighbours}
 use Rattle.dpc_model.specs.PartStands.{InletValue, StandsForInlet}
 use Rattle.dpc_model.specs.Replicas.{with_mark, after_count}
 use Rattle.dpc_model.specs.declared.messages.Sess.{Sess}
-use Rattle.dpc_model.proofs.Elements.{length-changed}
+use Rattle.dpc_lists.proofs.Elements.{length-changed}
 use Rattle.upstream.specs.Upstreams.{with_marks_ended, with_truncation, port_by}
 use Rattle.sunion.specs.Unions.{no_value}
 use Rattle.node_links.specs.Linking.{LinksValue, with_upstream, no_upstream}

@@ -3,7 +3,7 @@ use Rattle.std.specs.Prelude.{◌≡◌, ◌↔◌, ℕ, ◌≤◌, ◌&&◌, �
 use Rattle.dpc_model.specs.Granting.{with_ask_over}
 use Rattle.dpc_model.specs.declared.messages.NodeState.TheVariants.{Stable}
 use Rattle.dpc_model.specs.Limits.{most_milled}
-use Rattle.dpc_model.specs.Lists.{nth, range_with_len}
+use Rattle.dpc_lists.specs.Lists.{nth, range_with_len}
 use Rattle.dpc_model.specs.PartStands.{at_cursor}
 use Rattle.dpc_model.specs.declared.tuples.Tagged.{Tagged}
 use Rattle.fragment_mill.specs.Mills.{MillState}

@@ -1,6 +1,6 @@
 -- How contracts say what a step leaves of a node, and what it sends.
 use Rattle.std.specs.Prelude.{◌≡◌, ℕ, List, [], ◌∷◌, length, Option, if◌then◌else◌}
-use Rattle.dpc_model.specs.Lists.{nth}
+use Rattle.dpc_lists.specs.Lists.{nth}
 use Rattle.dpc_model.specs.Ports.{no_port, port_after_choice, subscription}
 use Rattle.dpc_model.specs.declared.tuples.Item.TheVariants as item
 use Rattle.dpc_model.specs.declared.messages.Sess.{Sess}

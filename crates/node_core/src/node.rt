@@ -11,7 +11,8 @@ ghost use Rattle.node_core.specs.Stepping.{IsSound, Steps, CanTake, IsTaken};
 
 use crate::packets::{Mail, Packet};
 use actor_lists::lists::readers_of;
-use dpc_model::faults::{NoMemory, StepFault};
+use dpc_lists::faults::NoMemory;
+use dpc_model::faults::StepFault;
 use dpc_model::messages::NodeState;
 use dpc_model::plans::{Plan, StreamRef};
 use node_links::links::Links;

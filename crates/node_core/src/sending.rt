@@ -1,6 +1,6 @@
 //! Lists of mails.
 ghost use Rattle.std.specs.Prelude.{◌≡◌, ◌++◌, ◌∷◌, [], ℕ, map, IfOk, OnOk};
-ghost use Rattle.dpc_model.specs.Lists.{nth, sort_by};
+ghost use Rattle.dpc_lists.specs.Lists.{nth, sort_by};
 ghost use Rattle.dpc_model.specs.declared.messages.Message.{Message};
 ghost use Rattle.dpc_model.specs.declared.messages.Message.TheVariants as message;
 ghost use Rattle.node_core.specs.declared.packets.Mail.{Mail};
@@ -8,7 +8,7 @@ ghost use Rattle.node_core.specs.Stepping.{plain_mail, asked_in};
 
 use crate::packets::{Mail, Packet};
 use actor_lists::lists::actor_at;
-use dpc_model::faults::NoMemory;
+use dpc_lists::faults::NoMemory;
 use dpc_model::messages::Message;
 use soutput::batches::Sends;
 use std::alloc::Global;

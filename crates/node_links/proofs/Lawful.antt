@@ -1,7 +1,7 @@
 -- What the calls make of the neighbours is what the plain node's steps leave of them.
 use Rattle.std.proofs.Common.{◌≡◌, ℕ, zero, suc, ◌+◌, true, not, ◌==◌, List, [], ◌∷◌, map, filter, refl, ap, ◌∙◌, arith, Option, Some, None}
 use Rattle.std.proofs.lemmas.Grind.{common_steps}
-use Rattle.dpc_model.specs.Lists.{nth, changed, place_of}
+use Rattle.dpc_lists.specs.Lists.{nth, changed, place_of}
 use Rattle.dpc_model.specs.Inlets.{InletState, same_sess}
 use Rattle.dpc_model.specs.Ports.{Port, no_port, port_at, sender_from, on_beat, on_truncated, port_after_tick}
 use Rattle.dpc_model.specs.Parts.{Upstream, Neighbours}

@@ -1,6 +1,6 @@
 -- Loops over ports and over replicas, one step more.
 use Rattle.std.proofs.Common.{◌≡◌, ℕ, zero, suc, ◌+◌, ◌<◌, Bool, true, false, not, cond, ◌||◌, ◌&&◌, ◌==◌, List, [], ◌∷◌, map, filter, drop, length, refl, ap, sym, ◌∙◌, arith, Option, Some, None, slice_index_or}
-use Rattle.dpc_model.specs.Lists.{nth, list_all, enumerate_from, place_of}
+use Rattle.dpc_lists.specs.Lists.{nth, list_all, enumerate_from, place_of}
 use Rattle.dpc_model.specs.Replicas.{Watch, new_watch}
 use Rattle.upstream.specs.Upstreams.{UpstreamValue}
 use Rattle.node_links.specs.Linking.{sender_among, other_watches}

@@ -1,7 +1,7 @@
 -- What contracts see of links whose ports were changed.
 use Rattle.std.proofs.Common.{◌≡◌, ℕ, zero, suc, ◌<◌, List, [], ◌∷◌, map, length, replicate, refl, ap, sym, subst, ◌∙◌, arith, Some, slice_index_or, slice_set}
 use Rattle.std.proofs.lemmas.List.{length-map}
-use Rattle.dpc_model.specs.Lists.{nth, changed}
+use Rattle.dpc_lists.specs.Lists.{nth, changed}
 use Rattle.dpc_model.specs.Replicas.{Watch, new_watch}
 use Rattle.dpc_model.specs.Actors.{senders_of, replicas_of}
 use Rattle.dpc_model.specs.declared.plans.Plan.{Plan}
@@ -9,7 +9,7 @@ use Rattle.dpc_model.specs.declared.plans.StreamRef.{StreamRef}
 use Rattle.node_model.specs.Nodes.{Home, spec_of, streams_of}
 use Rattle.dpc_model.specs.Granting.{Grants, new_grants}
 use Rattle.dpc_model.specs.Parts.{Upstream}
-use Rattle.dpc_model.proofs.Elements.{set-changed}
+use Rattle.dpc_lists.proofs.Elements.{set-changed}
 use Rattle.upstream.specs.Upstreams.{UpstreamValue, new_upstream}
 use Rattle.node_links.specs.Linking.{LinksValue, new_links, sender_among, seen_otherwise, with_upstream, with_upstreams, no_upstream, upstream_at}
 use Rattle.node_links.proofs.Within.{sender-within}

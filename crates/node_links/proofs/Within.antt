@@ -1,7 +1,7 @@
 -- Whoever is found stands in the list.
 use Rattle.std.proofs.Common.{◌≡◌, ℕ, suc, ◌+◌, ◌<◌, ◌==◌, List, [], ◌∷◌, length, refl, ap, arith, Option, Some, None}
-use Rattle.dpc_model.specs.Lists.{nth, place_of}
-use Rattle.dpc_model.proofs.Places.{place-within}
+use Rattle.dpc_lists.specs.Lists.{nth, place_of}
+use Rattle.dpc_lists.proofs.Places.{place-within}
 use Rattle.node_links.specs.Linking.{sender_among}
 
 some-same : {X : Type 0} (x y : X) → Some x ≡ Some y → x ≡ y

@@ -1,6 +1,6 @@
 -- What each call makes of the neighbours is what the plain node's step leaves of them.
 use Rattle.std.specs.Prelude.{◌≡◌, ℕ, map, Option}
-use Rattle.dpc_model.specs.Lists.{nth}
+use Rattle.dpc_lists.specs.Lists.{nth}
 use Rattle.dpc_model.specs.Ports.{Port, no_port, sender_at, on_truncated}
 use Rattle.dpc_model.specs.Actors.{senders_of, replicas_of}
 use Rattle.dpc_model.specs.declared.messages.Beat.{Beat}

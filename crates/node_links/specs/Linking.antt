@@ -1,6 +1,6 @@
 -- What a node knows of its neighbours, and what each call makes of it.
 use Rattle.std.specs.Prelude.{ℕ, ◌+◌, Bool, not, ◌||◌, ◌==◌, if◌then◌else◌, List, [], ◌∷◌, map, filter, replicate, Option, Some, None, is_none}
-use Rattle.dpc_model.specs.Lists.{nth, changed, list_all, numbered, place_of}
+use Rattle.dpc_lists.specs.Lists.{nth, changed, list_all, numbered, place_of}
 use Rattle.dpc_model.specs.Replicas.{Watch, new_watch, after_beat, after_tick, is_silent, says_recovering}
 use Rattle.dpc_model.specs.Granting.{new_grants, own_key, after_peer_beat, after_silence, with_ask, with_ask_over}
 use Rattle.dpc_model.specs.Parts.{Upstream, Neighbours}

@@ -1,6 +1,6 @@
 //! What a node knows of its neighbours.
 ghost use Rattle.std.specs.Prelude.{◌≡◌, ◌+◌, ◌^◌, ◌<◌, ◌≤◌, ◌==◌, ℕ, false, [], length, All, IfOk};
-ghost use Rattle.dpc_model.specs.Lists.{nth, place_of};
+ghost use Rattle.dpc_lists.specs.Lists.{nth, place_of};
 ghost use Rattle.dpc_model.specs.Actors.{senders_of, replicas_of};
 ghost use Rattle.dpc_model.specs.Ports.{all_truncated};
 ghost use Rattle.dpc_model.specs.declared.plans.StreamRef.{StreamRef};
@@ -12,7 +12,7 @@ ghost use Rattle.node_links.specs.Linking.{new_links, sender_among, peers_in, wi
 use crate::peers::others;
 use crate::ports::{forget_sessions, new_ports, sender};
 use actor_lists::lists::{place_of, replicas_of};
-use dpc_model::faults::NoMemory;
+use dpc_lists::faults::NoMemory;
 use dpc_model::messages::Beat;
 use dpc_model::plans::{Plan, StreamRef};
 use grant_core::grants::GrantCore;
@@ -50,7 +50,7 @@ pub struct Links {
 impl Model for Links {
     ghost use Rattle.std.specs.Coded.{codes};
     ghost use Rattle.std.specs.Prelude.{◌≡◌, ◌<◌, length, map, not, ◌==◌, filter};
-    ghost use Rattle.dpc_model.specs.Lists.{nth};
+    ghost use Rattle.dpc_lists.specs.Lists.{nth};
     ghost use Rattle.upstream.specs.Upstreams.{UpstreamValue};
     ghost use Rattle.node_links.specs.Linking.{LinksValue};
 

@@ -1,10 +1,10 @@
 //! The other replicas of a fragment.
 ghost use Rattle.std.specs.Prelude.{◌≡◌, ℕ, ◌==◌, ◌||◌, not, map, take, length, filter, IfOk};
-ghost use Rattle.dpc_model.specs.Lists.{list_all};
+ghost use Rattle.dpc_lists.specs.Lists.{list_all};
 ghost use Rattle.dpc_model.specs.Replicas.{is_silent, says_recovering};
 ghost use Rattle.node_links.specs.Linking.{other_watches};
 
-use dpc_model::faults::NoMemory;
+use dpc_lists::faults::NoMemory;
 use dpc_model::plans::MOST_REPLICAS;
 use input_monitor::monitor::Monitor;
 use std::alloc::Global;

@@ -6,7 +6,7 @@ ghost use Rattle.dpc_model.specs.declared.plans.TheConstants.{MOST_REPLICAS};
 ghost use Rattle.upstream.specs.Upstreams.{UpstreamValue, new_upstream, with_tick, with_no_tick};
 ghost use Rattle.node_links.specs.Linking.{sender_among, seen_otherwise};
 
-use dpc_model::faults::NoMemory;
+use dpc_lists::faults::NoMemory;
 use dpc_model::plans::{Plan, StreamRef};
 use std::alloc::Global;
 use upstream::upstream::Upstream;

@@ -1,6 +1,6 @@
 -- A client: it folds what it takes of one stream.
 use Rattle.std.specs.Prelude.{ℕ, Bool, ◌==◌, if◌then◌else◌, List, [], ◌∷◌, ◌++◌, length, Option, Some, None}
-use Rattle.dpc_model.specs.Lists.{nth}
+use Rattle.dpc_lists.specs.Lists.{nth}
 use Rattle.dpc_model.specs.Reading.{Reader, is_settled}
 use Rattle.dpc_model.specs.Inlets.{new_inlet, AfterBatch, take_batch}
 use Rattle.dpc_model.specs.declared.batches.Taken.{Taken}

@@ -1,6 +1,6 @@
 -- The steps of the plain node: what it becomes, and what it sends in order.
 use Rattle.std.specs.Prelude.{ℕ, ◌+◌, ◌-◌, ◌*◌, Bool, true, false, not, ◌&&◌, ◌||◌, ◌==◌, nat_lt, nat_le, min, if◌then◌else◌, List, [], ◌∷◌, ◌++◌, map, length, drop, filter, zip, Option, Some, None, is_none}
-use Rattle.dpc_model.specs.Lists.{nth, changed, is_nil, list_all, range_with_len, numbered, place_of}
+use Rattle.dpc_lists.specs.Lists.{nth, changed, is_nil, list_all, range_with_len, numbered, place_of}
 use Rattle.dpc_model.specs.Streams.{count_below}
 use Rattle.dpc_model.specs.Reading.{tuples_in, stable_reader}
 use Rattle.dpc_model.specs.Inlets.{same_sess, restarted_inlet, AfterBatch, take_batch}

@@ -1,6 +1,6 @@
 -- A source: it logs its tuples, and sends them as they are emitted.
 use Rattle.std.specs.Prelude.{ℕ, true, false, ◌==◌, nat_lt, max, if◌then◌else◌, List, [], map, take, drop, zip, Option, Some, None}
-use Rattle.dpc_model.specs.Lists.{place_of}
+use Rattle.dpc_lists.specs.Lists.{place_of}
 use Rattle.dpc_model.specs.Streams.{count_below}
 use Rattle.dpc_model.specs.Fragments.{log_of}
 use Rattle.dpc_model.specs.Actors.{readers_of}

@@ -4,7 +4,7 @@ use Rattle.std.proofs.lemmas.Grind.{common_steps, flat_map-append}
 use Rattle.std.proofs.lemmas.List.{map-append}
 use Rattle.std.proofs.lemmas.List.Elements.{filter-append, recursion_from_All}
 use Rattle.std.specs.List.{filter, flat_map, AllByRecursion}
-use Rattle.dpc_model.specs.Lists.{sort_by}
+use Rattle.dpc_lists.specs.Lists.{sort_by}
 use Rattle.dpc_model.specs.Streams.{InOrder, time_of, is_below}
 use Rattle.dpc_model.specs.Operators.{joined, are_partners, pairs_with, paired}
 use Rattle.dpc_model.specs.Fragments.{at_port}

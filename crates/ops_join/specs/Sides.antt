@@ -6,7 +6,7 @@ use Rattle.std.specs.Ordering.{nat_cmp, int_cmp, ordering_then, is_eq}
 use Rattle.std.specs.Cmp.Lexicographic.{slice_cmp}
 use Rattle.std.specs.BTreeSet.{BTreeSet, contains}
 use Rattle.std.specs.declared.cmp.Ordering.{Ordering}
-use Rattle.dpc_model.specs.Lists.{sort_by}
+use Rattle.dpc_lists.specs.Lists.{sort_by}
 use Rattle.dpc_model.specs.Values.{column}
 use Rattle.dpc_model.specs.Operators.{keys_agree, are_partners, pairs_with}
 use Rattle.dpc_model.specs.declared.tuples.Tuple.{Tuple}

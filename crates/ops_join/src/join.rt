@@ -5,10 +5,11 @@ ghost use Rattle.dpc_model.specs.declared.operators.OpKind.TheVariants as kind;
 ghost use Rattle.ops_join.specs.Joins.{new_join, JoinAfter};
 
 use crate::sides::Sides;
+use dpc_lists::exact::Exact;
+use dpc_lists::faults::NoMemory;
+use dpc_lists::lists::Listed;
 use dpc_model::engines::Engine;
-use dpc_model::exact::Exact;
-use dpc_model::faults::{NoMemory, StepFault};
-use dpc_model::lists::Listed;
+use dpc_model::faults::StepFault;
 use dpc_model::tuples::{Tagged, Tuple, Tuples};
 use std::alloc::Global;
 use std::collections::VecDeque;

@@ -3,7 +3,7 @@ ghost use Rattle.std.specs.Prelude.{◌≡◌, ℕ, ◌++◌, ◌≤◌, drop, l
 ghost use Rattle.std.specs.List.{list_any};
 ghost use Rattle.std.specs.Ordering.{nat_cmp};
 ghost use Rattle.std.specs.BTreeSet.{contains};
-ghost use Rattle.dpc_model.specs.Lists.{sort_by};
+ghost use Rattle.dpc_lists.specs.Lists.{sort_by};
 ghost use Rattle.dpc_model.specs.Streams.{InOrder};
 ghost use Rattle.dpc_model.specs.Operators.{paired, pairs_with, are_partners};
 ghost use Rattle.dpc_model.specs.Fragments.{at_port};
@@ -14,8 +14,8 @@ ghost use Rattle.ops_join.specs.declared.ends.End.TheVariants.{Left, Right};
 
 use crate::ends::End;
 use crate::sides::Sides;
-use dpc_model::exact::Exact;
-use dpc_model::faults::NoMemory;
+use dpc_lists::exact::Exact;
+use dpc_lists::faults::NoMemory;
 use dpc_model::tuples::{Tagged, Tuple};
 use std::alloc::{AllocError, Global};
 use std::collections::BTreeSet;

@@ -5,9 +5,9 @@ ghost use Rattle.ops_join.specs.Joins.{kept_from};
 ghost use Rattle.ops_join.specs.Sides.{key_of as key_at, is_over as is_first_over};
 
 use crate::ends::End;
-use dpc_model::exact::Exact;
-use dpc_model::faults::NoMemory;
-use dpc_model::inlined::Inlined;
+use dpc_lists::exact::Exact;
+use dpc_lists::faults::NoMemory;
+use dpc_lists::inlined::Inlined;
 use dpc_model::tuples::Tuple;
 use std::alloc::{AllocError, Global};
 use std::collections::{BTreeSet, VecDeque};

@@ -9,10 +9,10 @@ ghost use Rattle.ops_join.specs.Keeping.{IsIndexed};
 
 use crate::ends::End;
 use crate::side::{Side, key_of};
-use dpc_model::exact::Exact;
-use dpc_model::faults::NoMemory;
-use dpc_model::inlined::Inlined;
-use dpc_model::lists::Listed;
+use dpc_lists::exact::Exact;
+use dpc_lists::faults::NoMemory;
+use dpc_lists::inlined::Inlined;
+use dpc_lists::lists::Listed;
 use dpc_model::tuples::{Tagged, Tuple};
 use std::alloc::Global;
 use std::collections::VecDeque;

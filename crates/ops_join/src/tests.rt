@@ -3,8 +3,8 @@ ghost use Rattle.std.specs.Prelude.{◌≡◌, IfOk};
 ghost use Rattle.dpc_model.specs.Engines.{FitsBucket};
 
 use crate::join::Join;
+use dpc_lists::lists::Listed;
 use dpc_model::engines::Engine;
-use dpc_model::lists::Listed;
 use dpc_model::tuples::{Tagged, Tuple, Tuples, Vals};
 use std::alloc::{AllocError, Global};
 use std::test::Fail;

@@ -2,7 +2,7 @@
 use Rattle.std.proofs.Common.{◌≡◌, ℕ, zero, suc, ◌+◌, ◌*◌, ◌<◌, ◌≤◌, true, false, cond, ◌==◌, List, [], ◌∷◌, ◌++◌, map, refl, sym, ◌∙◌, ap, arith, nat_lt, nat_le, append_assoc, All}
 use Rattle.std.proofs.lemmas.Grind.{common_steps}
 use Rattle.std.specs.List.{filter, AllByRecursion}
-use Rattle.dpc_model.specs.Lists.{sort_by, insert_by, range_with_len}
+use Rattle.dpc_lists.specs.Lists.{sort_by, insert_by, range_with_len}
 use Rattle.dpc_model.specs.Streams.{NoneBelow, time_of}
 use Rattle.dpc_model.specs.Engines.{IsBucket, LiesBelow, precedes, from_time, ports_of, engine_value, lone_operator, added_output, is_serial}
 use Rattle.dpc_model.specs.Fragments.{at_port}

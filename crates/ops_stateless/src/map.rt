@@ -7,11 +7,11 @@ ghost use Rattle.dpc_model.specs.declared.operators.OpKind.TheVariants as kind;
 ghost use Rattle.ops_stateless.specs.MapOps.{new_map};
 
 use crate::eval;
+use dpc_lists::exact::Exact;
+use dpc_lists::lists::Listed;
 use dpc_model::engines::Engine;
-use dpc_model::exact::Exact;
 use dpc_model::expressions::Expr;
 use dpc_model::faults::StepFault;
-use dpc_model::lists::Listed;
 use dpc_model::tuples::{Tagged, Tuple, Tuples, Vals};
 use std::alloc::{AllocError, Global};
 use std::marker::Model;

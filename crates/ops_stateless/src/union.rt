@@ -5,10 +5,10 @@ ghost use Rattle.dpc_model.specs.declared.operators.OpKind.TheVariants as kind;
 ghost use Rattle.dpc_model.specs.declared.tuples.Tagged.{Tagged};
 ghost use Rattle.ops_stateless.specs.Unions.{new_union, UnionAfter};
 
+use dpc_lists::exact::Exact;
+use dpc_lists::lists::Listed;
 use dpc_model::engines::Engine;
-use dpc_model::exact::Exact;
 use dpc_model::faults::StepFault;
-use dpc_model::lists::Listed;
 use dpc_model::tuples::{Tagged, Tuples};
 use std::alloc::{AllocError, Global};
 use std::marker::Model;

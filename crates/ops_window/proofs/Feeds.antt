@@ -10,7 +10,7 @@ use Rattle.std.proofs.Math.Nat.{le-div_iff_mul-le, mul-div_cancel}
 use Rattle.std.specs.List.{fold}
 use Rattle.std.specs.List.Sorted.{IsStrictlySortedBy}
 use Rattle.std.specs.Map.{keys_of}
-use Rattle.dpc_model.specs.Lists.{range_with_len}
+use Rattle.dpc_lists.specs.Lists.{range_with_len}
 use Rattle.dpc_model.specs.Streams.{is_below}
 use Rattle.dpc_model.specs.Operators.{between, window_count}
 use Rattle.dpc_model.specs.declared.tuples.Tuple.{Tuple}

@@ -9,7 +9,7 @@ use Rattle.std.specs.declared.cmp.Ordering.TheVariants.{Less, Equal, Greater}
 use Rattle.std.specs.Ordering.{int_cmp, is_eq, ordering_reverse}
 use Rattle.std.specs.List.{AllByRecursion, flat_map, list_any}
 use Rattle.std.specs.List.Sorted.{IsStrictlySortedBy}
-use Rattle.dpc_model.specs.Lists.{range_with_len, is_nil}
+use Rattle.dpc_lists.specs.Lists.{range_with_len, is_nil}
 use Rattle.dpc_model.specs.Operators.{between, distinct_values, insert_value}
 use Rattle.dpc_model.specs.declared.tuples.Tuple.{Tuple}
 use Rattle.dpc_model.specs.declared.operators.Agg.{Agg}

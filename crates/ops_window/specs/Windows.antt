@@ -1,7 +1,7 @@
 -- An aggregate over windows as an engine over buckets, and the cells that it keeps.
 use Rattle.std.specs.Prelude.{◌≡◌, ℕ, ◌+◌, ◌-◌, ◌*◌, ◌/◌, ◌==◌, ℤ, pos, Bool, false, List, [], map, length, filter, flat_map, Option, Some, None, All, if◌then◌else◌}
 use Rattle.std.specs.Ordering.{int_eq}
-use Rattle.dpc_model.specs.Lists.{range_with_len}
+use Rattle.dpc_lists.specs.Lists.{range_with_len}
 use Rattle.dpc_model.specs.Values.{column}
 use Rattle.dpc_model.specs.Operators.{aggregated, between, window_count, distinct_values, sum_of, least_value, greatest_value}
 use Rattle.dpc_model.specs.Fragments.{at_port}

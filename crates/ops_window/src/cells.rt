@@ -7,9 +7,9 @@ ghost use Rattle.dpc_model.specs.declared.tuples.Tagged.{Tagged};
 ghost use Rattle.ops_window.specs.Feeding.{take_cell, take_tuple, fed_cells, row_of, ended_cells, kept_cells, first_key, cells_from, cell_cmp};
 
 use crate::totals::{finished, first_totals, group_of, grow};
-use dpc_model::exact::Exact;
-use dpc_model::faults::NoMemory;
-use dpc_model::lists::Listed;
+use dpc_lists::exact::Exact;
+use dpc_lists::faults::NoMemory;
+use dpc_lists::lists::Listed;
 use dpc_model::operators::Agg;
 use dpc_model::tuples::{Tagged, Tuple, Tuples, Vals};
 use std::alloc::{AllocError, Global};

@@ -3,8 +3,8 @@ ghost use Rattle.std.specs.Prelude.{◌≡◌, IfOk, OnOk, map};
 ghost use Rattle.ops_window.specs.Windows.{group_of as group_value};
 ghost use Rattle.ops_window.specs.Feeding as feeding;
 
-use dpc_model::faults::NoMemory;
-use dpc_model::lists::Listed;
+use dpc_lists::faults::NoMemory;
+use dpc_lists::lists::Listed;
 use dpc_model::operators::Agg;
 use dpc_model::tuples::Tuple;
 use std::alloc::{AllocError, Global};

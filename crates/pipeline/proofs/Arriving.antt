@@ -1,7 +1,7 @@
 -- What comes to a port or goes to a reader leaves the rest of the data path as it stands.
 use Rattle.std.proofs.Common.{◌≡◌, ℕ, zero, suc, ◌*◌, Bool, not, ◌&&◌, List, [], ◌∷◌, ◌++◌, map, drop, length, refl, sym, ap, subst, Option, Some, None}
 use Rattle.std.specs.Prelude.{if◌then◌else◌, ◌<◌, false, IfSome}
-use Rattle.dpc_model.specs.Lists.{nth, changed, is_nil}
+use Rattle.dpc_lists.specs.Lists.{nth, changed, is_nil}
 use Rattle.dpc_model.specs.Streams.{cut}
 use Rattle.dpc_model.specs.Operators.{all_of}
 use Rattle.dpc_model.specs.Engines.{Value}

@@ -6,7 +6,7 @@ use Rattle.std.proofs.lemmas.List.{take_all}
 use Rattle.std.proofs.lemmas.List.Elements.{All-head, All-tail}
 use Rattle.std.proofs.lemmas.Slice.Zip.{AllZip-long}
 use Rattle.std.specs.List.{All}
-use Rattle.dpc_model.specs.Lists.{nth}
+use Rattle.dpc_lists.specs.Lists.{nth}
 use Rattle.dpc_model.specs.Streams.{InOrder, cut, count_below}
 use Rattle.dpc_model.specs.Inlets.{InletState}
 use Rattle.dpc_model.specs.Parts.{Inputs, done_in}

@@ -4,7 +4,7 @@ use Rattle.std.proofs.lemmas.Grind.{common_steps}
 use Rattle.std.proofs.lemmas.List.Elements.{All-head, All-from_recursion}
 use Rattle.std.proofs.lemmas.List.{append-nil}
 use Rattle.std.specs.Prelude.{if◌then◌else◌, IfSome, IsNone}
-use Rattle.dpc_model.specs.Lists.{is_nil}
+use Rattle.dpc_lists.specs.Lists.{is_nil}
 use Rattle.dpc_model.specs.Streams.{InOrder, cut}
 use Rattle.dpc_model.specs.Engines.{LiesBelow}
 use Rattle.dpc_model.specs.Fragments.{AreSoundOps, fragment_value}

@@ -2,7 +2,7 @@
 use Rattle.std.proofs.Common.{◌≡◌, ℕ, zero, suc, ◌+◌, ◌-◌, ◌*◌, ◌<◌, ◌≤◌, Bool, true, false, not, ◌&&◌, nat_lt, List, [], ◌∷◌, ◌++◌, length, refl, sym, ap, subst, ◌∙◌, arith, append-nil, Option, Some, None}
 use Rattle.std.specs.Prelude.{if◌then◌else◌, unwrap_or}
 use Rattle.std.proofs.lemmas.Grind.{common_steps}
-use Rattle.dpc_model.specs.Lists.{is_nil}
+use Rattle.dpc_lists.specs.Lists.{is_nil}
 use Rattle.dpc_model.specs.Engines.{engine_value}
 use Rattle.dpc_model.specs.Fragments.{AreSoundOps, fragment_value}
 use Rattle.dpc_model.specs.Parts.{Inputs, view_of, processed, processed_view, Stream, stream_by}

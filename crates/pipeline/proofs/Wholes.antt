@@ -1,7 +1,7 @@
 -- What a call leaves of the whole data path.
 use Rattle.std.proofs.Common.{◌≡◌, ℕ, ◌+◌, ◌-◌, ◌*◌, ◌^◌, ◌<◌, ◌≤◌, Bool, true, false, ◌&&◌, nat_lt, List, [], ◌∷◌, ◌++◌, length, refl, sym, ap, subst, ◌∙◌, arith, append-nil, min, Option, Some, None}
 use Rattle.std.specs.Prelude.{if◌then◌else◌}
-use Rattle.dpc_model.specs.Lists.{is_nil}
+use Rattle.dpc_lists.specs.Lists.{is_nil}
 use Rattle.dpc_model.specs.Fragments.{fragment_value}
 use Rattle.dpc_model.specs.Parts.{Inputs, view_of, processed, Stream, stream_by, Outputs}
 use Rattle.dpc_model.specs.PartStands.{KeeperValue, at_cursor, OutputValue, StandsForOutput}

@@ -1,6 +1,6 @@
 -- Work that was done apart: when it still fits, and what it takes to put it back.
 use Rattle.std.specs.Prelude.{◌≡◌, ℕ, ◌-◌, ◌≤◌, if◌then◌else◌, List, length, Some}
-use Rattle.dpc_model.specs.Lists.{is_nil}
+use Rattle.dpc_lists.specs.Lists.{is_nil}
 use Rattle.dpc_model.specs.Parts.{Inputs, Outputs}
 use Rattle.dpc_model.specs.PartStands.{at_cursor}
 use Rattle.dpc_model.specs.declared.operators.OpSpec.{OpSpec}

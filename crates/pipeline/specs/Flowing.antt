@@ -1,6 +1,6 @@
 -- The inputs, operators and output of a node together: what they stand for, and what processing buckets makes of them.
 use Rattle.std.specs.Prelude.{◌≡◌, ℕ, ◌+◌, ◌-◌, ◌<◌, ◌≤◌, Bool, true, false, nat_lt, min, if◌then◌else◌, List, [], ◌∷◌, length, drop, Some, None, IfSome}
-use Rattle.dpc_model.specs.Lists.{is_nil}
+use Rattle.dpc_lists.specs.Lists.{is_nil}
 use Rattle.dpc_model.specs.Engines.{nameless}
 use Rattle.dpc_model.specs.Fragments.{AreSoundOps, fragment_value}
 use Rattle.dpc_model.specs.Parts.{Inputs, view_of, Stream, stream_by, Outputs}

@@ -1,6 +1,6 @@
 -- What comes to single ports and goes to single readers, and what each call leaves and answers.
 use Rattle.std.specs.Prelude.{◌≡◌, ℕ, Bool, List, Option}
-use Rattle.dpc_model.specs.Lists.{nth, changed}
+use Rattle.dpc_lists.specs.Lists.{nth, changed}
 use Rattle.dpc_model.specs.Inlets.{with_next_session, asked_by}
 use Rattle.dpc_model.specs.Parts.{Inputs, done_in, shown_of, Outputs}
 use Rattle.dpc_model.specs.Sessions.{no_session, Answered, answer_to}

@@ -8,7 +8,7 @@ ghost use Rattle.soutput.specs.Giving.{new_output};
 ghost use Rattle.pipeline.specs.Flowing.{IsMillOf};
 
 use checkpoint_redo::keeper::Keeper;
-use dpc_model::faults::NoMemory;
+use dpc_lists::faults::NoMemory;
 use dpc_model::plans::Plan;
 use fragment_mill::mill::FragMill;
 use soutput::output::SOutput;

@@ -9,7 +9,7 @@ ghost use Rattle.pipeline.specs.Running.{StandsForWork, HasClosed};
 
 use crate::running::run;
 use checkpoint_redo::keeper::Keeper;
-use dpc_model::faults::NoMemory;
+use dpc_lists::faults::NoMemory;
 use dpc_model::tuples::Tuple;
 use fragment_mill::mill::FragMill;
 use std::alloc::Global;

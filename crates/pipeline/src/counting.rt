@@ -4,7 +4,7 @@ ghost use Rattle.dpc_model.specs.Parts.{Inputs, done_in};
 ghost use Rattle.sunion.specs.Unions.{StandsForInputs, AreInOrder};
 
 use crate::inlets::count_done;
-use dpc_model::faults::NoMemory;
+use dpc_lists::faults::NoMemory;
 use std::alloc::Global;
 use sunion::sunion::SUnion;
 

@@ -9,8 +9,8 @@ ghost use Rattle.pipeline.specs.Running.{StandsForWork, HasRun, CanAdvance, HasA
 
 use crate::running::run;
 use checkpoint_redo::keeper::Keeper;
-use dpc_model::faults::NoMemory;
-use dpc_model::lists::Listed;
+use dpc_lists::faults::NoMemory;
+use dpc_lists::lists::Listed;
 use dpc_model::tuples::{Tagged, Tuple};
 use fragment_mill::mill::FragMill;
 use std::alloc::Global;

@@ -1,6 +1,6 @@
 //! Inputs, operators and output of a node, and the processing of buckets.
 ghost use Rattle.std.specs.Prelude.{◌≡◌, ◌-◌, List, false, if◌then◌else◌, IfOk};
-ghost use Rattle.dpc_model.specs.Lists.{is_nil};
+ghost use Rattle.dpc_lists.specs.Lists.{is_nil};
 ghost use Rattle.dpc_model.specs.Parts.{Inputs, Outputs};
 ghost use Rattle.dpc_model.specs.PartStands.{at_cursor};
 ghost use Rattle.dpc_model.specs.declared.operators.OpSpec.{OpSpec};
@@ -12,8 +12,8 @@ use crate::closing::close;
 use crate::milling::{advance, next_buckets};
 use crate::running::{give, some_if, told_upto};
 use checkpoint_redo::keeper::Keeper;
-use dpc_model::faults::NoMemory;
-use dpc_model::lists::Listed;
+use dpc_lists::faults::NoMemory;
+use dpc_lists::lists::Listed;
 use dpc_model::tuples::Tagged;
 use fragment_mill::mill::FragMill;
 use soutput::batches::Sends;

@@ -8,7 +8,7 @@ ghost use Rattle.soutput.specs.Giving.{fresh_items, after_giving};
 ghost use Rattle.pipeline.specs.Running.{HasRun};
 
 use checkpoint_redo::keeper::Keeper;
-use dpc_model::faults::NoMemory;
+use dpc_lists::faults::NoMemory;
 use dpc_model::tuples::{Tagged, Tuple};
 use fragment_mill::mill::FragMill;
 use soutput::batches::Sends;

@@ -1,10 +1,10 @@
 //! What a node hands out of its data path, for another one to go on from.
 ghost use Rattle.std.specs.Prelude.{◌≡◌, length, IfOk};
 
+use dpc_lists::exact::Exact;
+use dpc_lists::faults::NoMemory;
+use dpc_lists::lists::Listed;
 use dpc_model::engines::Engine;
-use dpc_model::exact::Exact;
-use dpc_model::faults::NoMemory;
-use dpc_model::lists::Listed;
 use dpc_model::tuples::{Tuple, Tuples};
 use fragment_mill::mill::FragMill;
 use std::alloc::{AllocError, Global};

@@ -1,7 +1,7 @@
 -- The least order of ranks, rank by rank; and the first place of an order.
 use Rattle.std.proofs.Common.{◌≡◌, ℕ, zero, suc, ◌+◌, ◌<◌, ◌≤◌, ◌==◌, false, List, [], ◌∷◌, ◌++◌, map, take, length, min, Option, refl, ap, arith, slice_index_or, lit≤, position, unwrap_or}
 use Rattle.std.proofs.lemmas.Grind.{common_steps}
-use Rattle.dpc_model.specs.Lists.{least, place_of, nth}
+use Rattle.dpc_lists.specs.Lists.{least, place_of, nth}
 use Rattle.dpc_model.specs.Replicas.{rank_order, choose}
 use Rattle.dpc_model.specs.declared.messages.Rank.{Rank}
 use Rattle.dpc_model.specs.declared.messages.Rank.TheVariants.{Stable, UpFailure, Stabilizing, Silent}

@@ -1,6 +1,6 @@
 //! The choice among the replicas of a stream, by their ranks.
 ghost use Rattle.std.specs.Prelude.{◌≡◌, ◌<◌, ◌==◌, length, map, position};
-ghost use Rattle.dpc_model.specs.Lists.{least};
+ghost use Rattle.dpc_lists.specs.Lists.{least};
 ghost use Rattle.dpc_model.specs.declared.messages.Rank.{Rank};
 ghost use Rattle.dpc_model.specs.Replicas.{rank_order, choose as chosen};
 

@@ -1,6 +1,6 @@
 //! What no clause says: the text as the format's description shows it.
 use crate::text::{Summary, put_client};
-use dpc_model::lists::Listed;
+use dpc_lists::lists::Listed;
 use dpc_model::tuples::{Item, Tuple, Vals};
 use std::alloc::{AllocError, Global};
 use std::test::Fail;

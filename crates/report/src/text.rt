@@ -8,7 +8,7 @@ ghost use Rattle.report.specs.Text.{tuple_words, item_words, settled_word, summa
 ghost use Rattle.dpc_model.specs.Sessions.{stable_items};
 ghost use Rattle.dpc_model.specs.declared.tuples.Item.TheVariants.{Stable};
 
-use dpc_model::faults::NoMemory;
+use dpc_lists::faults::NoMemory;
 use dpc_model::tuples::{Item, Tuple};
 use line_writer::{put_first, put_number, put_values, put_word};
 

@@ -3,7 +3,7 @@ use Rattle.std.proofs.Common.{◌≡◌, ℕ, ◌+◌, ◌<◌, ◌≤◌, true,
 use Rattle.std.specs.Prelude.{Ok, Err, ◌||◌, not, nat_lt, flat_map, is_none, unwrap_or, bytes_eq}
 use Rattle.std.proofs.lemmas.List.{map_push, length-map, take_more, take_all}
 use Rattle.std.proofs.lemmas.List.Folds.{list_any-append}
-use Rattle.dpc_model.specs.Lists.{list_any, is_nil}
+use Rattle.dpc_lists.specs.Lists.{list_any, is_nil}
 use Rattle.dpc_model.specs.Words.{Word}
 use Rattle.dpc_model.specs.ScriptText.{stream_name}
 use Rattle.dpc_model.specs.declared.operators.OpSpec.{OpSpec}

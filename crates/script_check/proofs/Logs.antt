@@ -4,7 +4,7 @@ use Rattle.std.specs.Prelude.{Ok, Err, not, ◌||◌, ◌==◌, nat_lt, nat_le, 
 use Rattle.std.proofs.lemmas.Bool.{ltb-true, ltb-false, le-leb, leb-true}
 use Rattle.std.proofs.lemmas.List.{map_push, length-map, length-take-le, take_more, take_all}
 use Rattle.std.proofs.lemmas.List.Sums.{sum_by-append}
-use Rattle.dpc_model.specs.Lists.{nth, last_or}
+use Rattle.dpc_lists.specs.Lists.{nth, last_or}
 use Rattle.dpc_model.specs.declared.tuples.Tuple.{Tuple}
 use Rattle.dpc_model.specs.declared.plans.SourceSpec.{SourceSpec}
 use Rattle.dpc_model.specs.declared.plans.Plan.{Plan}

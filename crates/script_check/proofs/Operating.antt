@@ -2,7 +2,7 @@
 use Rattle.std.proofs.Common.{◌≡◌, ℕ, ◌+◌, ◌<◌, ◌≤◌, List, [], ◌∷◌, ◌++◌, map, take, drop, length, Option, Some, None, refl, sym, ap, subst, ◌∙◌, arith, get_or}
 use Rattle.std.specs.Prelude.{Result, Ok, Err, flat_map, unwrap_or}
 use Rattle.std.proofs.lemmas.List.{append_assoc, take_more, take_all, length-append}
-use Rattle.dpc_model.specs.Lists.{last_or}
+use Rattle.dpc_lists.specs.Lists.{last_or}
 use Rattle.dpc_model.specs.ScriptText.{stream_name}
 use Rattle.dpc_model.specs.Columns.{kind_columns}
 use Rattle.dpc_model.specs.declared.operators.OpSpec.{OpSpec}

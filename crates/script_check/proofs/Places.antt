@@ -1,7 +1,7 @@
 -- Where a name stands among several.
 use Rattle.std.proofs.Common.{subst, ◌≡◌, ℕ, zero, suc, ◌+◌, ◌<◌, Bool, true, false, List, [], ◌∷◌, map, drop, length, refl, arith, get_or}
 use Rattle.std.specs.Prelude.{◌||◌, ◌&&◌}
-use Rattle.dpc_model.specs.Lists.{list_any, list_all}
+use Rattle.dpc_lists.specs.Lists.{list_any, list_all}
 use Rattle.dpc_model.specs.Words.{Word}
 use Rattle.script_rules.specs.Reasons.{is_among, has_twice}
 

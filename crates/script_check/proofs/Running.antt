@@ -3,7 +3,7 @@ use Rattle.std.proofs.Common.{◌≡◌, ℕ, zero, suc, ◌+◌, ◌<◌, ◌�
 use Rattle.std.specs.Prelude.{Result, Ok, Err, ◌||◌, not, nat_lt, flat_map, is_none, is_some, unwrap_or, option_map, fold}
 use Rattle.std.proofs.lemmas.Bool.{ltb-true, ltb-false}
 use Rattle.std.proofs.lemmas.List.{append-nil, append_assoc, take_all, length-map}
-use Rattle.dpc_model.specs.Lists.{list_any}
+use Rattle.dpc_lists.specs.Lists.{list_any}
 use Rattle.dpc_model.specs.ScriptText.{source_name, role_name, actor_name}
 use Rattle.dpc_model.specs.Actors.{roles_of, role_of, reads_from, sends_stream, are_peers, inputs_of, are_linked}
 use Rattle.dpc_model.specs.declared.actors.Role.{Role}

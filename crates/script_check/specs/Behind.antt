@@ -1,7 +1,7 @@
 -- What is said behind some fragments of a plan. A stream or an operator that is read may have the name of an earlier one: it is
 -- found by its name, so these fragments have the names of the plan's and read what their names stand for.
 use Rattle.std.specs.Prelude.{◌≡◌, ℕ, true, false, is_none, fold, List, [], ◌∷◌, ◌++◌, map, flat_map, Result, Ok, Err}
-use Rattle.dpc_model.specs.Lists.{list_any}
+use Rattle.dpc_lists.specs.Lists.{list_any}
 use Rattle.dpc_model.specs.ScriptText.{stream_name}
 use Rattle.dpc_model.specs.Columns.{columns_after, frags_columns}
 use Rattle.dpc_model.specs.declared.operators.OpSpec.{OpSpec}

@@ -1,6 +1,6 @@
 -- The reasons against each statement, by what the script says before it.
 use Rattle.std.specs.Prelude.{ℕ, ◌+◌, Bool, false, not, ◌||◌, ◌==◌, nat_lt, nat_le, List, [], ◌∷◌, ◌++◌, map, length, flat_map, Option, Some, None, is_none, option_map, unwrap_or, fold}
-use Rattle.dpc_model.specs.Lists.{list_any, is_nil, last_or}
+use Rattle.dpc_lists.specs.Lists.{list_any, is_nil, last_or}
 use Rattle.dpc_model.specs.Words.{Word}
 use Rattle.dpc_model.specs.ScriptText.{stream_name, wire_word}
 use Rattle.dpc_model.specs.Columns.{kind_columns, wire_columns, columns_by}

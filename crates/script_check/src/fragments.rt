@@ -1,6 +1,6 @@
 //! The lines of fragments, and of all that stands behind them.
 ghost use Rattle.std.specs.Prelude.{◌≡◌, ◌<◌, ◌∷◌, ◌++◌, [], ℕ, map, length, is_none, flat_map, OnOk};
-ghost use Rattle.dpc_model.specs.Lists.{list_any};
+ghost use Rattle.dpc_lists.specs.Lists.{list_any};
 ghost use Rattle.dpc_model.specs.ScriptText.{stream_name};
 ghost use Rattle.script_rules.specs.Reasons as reason;
 ghost use Rattle.script_rules.specs.Drafts.{Draft};

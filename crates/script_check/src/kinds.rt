@@ -1,6 +1,6 @@
 //! What is too large in an operator, and whether the columns are there that it reads.
 ghost use Rattle.std.specs.Prelude.{◌≡◌, ℕ, ◌+◌, ◌-◌, ◌^◌, ◌&&◌, nat_lt, min, is_some, unwrap_or, option_map, if◌then◌else◌};
-ghost use Rattle.dpc_model.specs.Lists.{list_any, list_all};
+ghost use Rattle.dpc_lists.specs.Lists.{list_any, list_all};
 ghost use Rattle.dpc_model.specs.Formula.{words};
 ghost use Rattle.dpc_model.specs.Values.{reads_below};
 ghost use Rattle.script_rules.specs.Reasons as reason;

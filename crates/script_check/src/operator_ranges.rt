@@ -1,6 +1,6 @@
 //! Whether the numbers and the counts of an operator are in their ranges.
 ghost use Rattle.std.specs.Prelude.{◌≡◌, ℕ, ◌&&◌, nat_lt, unwrap_or};
-ghost use Rattle.dpc_model.specs.Lists.{list_all};
+ghost use Rattle.dpc_lists.specs.Lists.{list_all};
 ghost use Rattle.script_rules.specs.Places as spec;
 ghost use Rattle.script_rules.specs.Reasons.{agg_reads_below};
 ghost use Rattle.script_rules.specs.Checking.{top, is_formula_in_range, are_inputs_in_range, is_kind_in_range, is_op_in_range};

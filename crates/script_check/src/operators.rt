@@ -1,6 +1,6 @@
 //! The lines of operators.
 ghost use Rattle.std.specs.Prelude.{◌≡◌, ◌≤◌, ◌==◌, ℕ, [], map, is_none};
-ghost use Rattle.dpc_model.specs.Lists.{nth, list_any, list_all};
+ghost use Rattle.dpc_lists.specs.Lists.{nth, list_any, list_all};
 ghost use Rattle.dpc_model.specs.ScriptText.{wire_word};
 ghost use Rattle.dpc_model.specs.Columns.{kind_columns, columns_by};
 ghost use Rattle.script_rules.specs.Reasons as reason;

@@ -1,6 +1,6 @@
 //! Whether the names, numbers and counts of a script are in their ranges.
 ghost use Rattle.std.specs.Prelude.{◌≡◌, ◌==◌, ◌^◌, ◌&&◌, ◌||◌, if◌then◌else◌};
-ghost use Rattle.dpc_model.specs.Lists.{list_all};
+ghost use Rattle.dpc_lists.specs.Lists.{list_all};
 ghost use Rattle.script_rules.specs.Spelling.{is_i64};
 ghost use Rattle.script_rules.specs.Places as spec;
 ghost use Rattle.script_rules.specs.Checking as rule;

@@ -1,8 +1,8 @@
 //! What no clause says: that scripts are judged as a person counted their lines.
 use crate::{check, is_in_range};
+use dpc_lists::faults::NoMemory;
+use dpc_lists::lists::{Listed, Name};
 use dpc_model::expressions::{Expr, ExprNode};
-use dpc_model::faults::NoMemory;
-use dpc_model::lists::{Listed, Name};
 use dpc_model::operators::{OpKind, OpSpec, Wire};
 use dpc_model::plans::{ClientSpec, FragSpec, Plan, SourceSpec, StreamRef};
 use dpc_model::scripts::{Directive, Phase, PlanFault, Script};

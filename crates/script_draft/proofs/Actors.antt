@@ -3,7 +3,7 @@ use Rattle.std.proofs.Common.{◌≡◌, ℕ, ◌+◌, false, List, [], ◌∷�
 use Rattle.std.specs.Prelude.{unwrap_or}
 use Rattle.std.proofs.lemmas.List.{append_assoc, length-map, map-append}
 use Rattle.std.proofs.lemmas.List.FromFn.{length-map-range_with_len}
-use Rattle.dpc_model.specs.Lists.{nth, range_with_len}
+use Rattle.dpc_lists.specs.Lists.{nth, range_with_len}
 use Rattle.dpc_model.specs.Words.{Word}
 use Rattle.dpc_model.specs.Actors.{roles_of, nodes_of, nodes_from}
 use Rattle.dpc_model.specs.declared.actors.Role.{Role}
@@ -13,7 +13,7 @@ use Rattle.dpc_model.specs.declared.plans.SourceSpec.{SourceSpec}
 use Rattle.dpc_model.specs.declared.plans.FragSpec.{FragSpec}
 use Rattle.dpc_model.specs.declared.plans.ClientSpec.{ClientSpec}
 use Rattle.dpc_model.specs.declared.plans.Plan.{Plan}
-use Rattle.dpc_model.proofs.Elements.{get-map, get-first}
+use Rattle.dpc_lists.proofs.Elements.{get-map, get-first}
 use Rattle.script_rules.specs.Drafts.{Draft, plan_of, place_of_name, source_names, source_named, actor_named}
 use Rattle.script_rules.specs.Reasons.{is_among}
 use Rattle.script_rules.proofs.Added.{client_names}

@@ -2,7 +2,7 @@
 use Rattle.std.proofs.Common.{◌≡◌, ℕ, zero, suc, ◌+◌, ◌<◌, ◌≤◌, List, [], ◌∷◌, length, Some, refl, sym, ap, ◌∙◌, arith, get_or}
 use Rattle.std.specs.Prelude.{slice_set, unwrap_or}
 use Rattle.std.proofs.lemmas.List.Sums.{sum_by-set}
-use Rattle.dpc_model.specs.Lists.{changed}
+use Rattle.dpc_lists.specs.Lists.{changed}
 use Rattle.dpc_model.specs.Words.{Word}
 use Rattle.dpc_model.specs.declared.tuples.Tuple.{Tuple}
 use Rattle.dpc_model.specs.declared.plans.SourceSpec.{SourceSpec}

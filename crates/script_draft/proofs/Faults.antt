@@ -2,7 +2,7 @@
 use Rattle.std.proofs.Common.{◌≡◌, ℕ, Bool, true, false, List, length, Some, None, refl, arith, ap, ◌∙◌}
 use Rattle.std.specs.Prelude.{ℤ, is_none, not, ◌||◌, ◌==◌, nat_lt, if◌then◌else◌}
 use Rattle.std.proofs.lemmas.Bool.Decides.{nat_tests}
-use Rattle.dpc_model.specs.Lists.{list_any}
+use Rattle.dpc_lists.specs.Lists.{list_any}
 use Rattle.dpc_model.specs.Words.{Word}
 use Rattle.dpc_model.specs.declared.operators.OpKind.{OpKind}
 use Rattle.dpc_model.specs.declared.plans.SourceSpec.{SourceSpec}

@@ -3,7 +3,7 @@ use Rattle.std.proofs.Common.{◌≡◌, ℕ, true, false, List, [], ◌∷◌, 
 use Rattle.std.specs.Prelude.{is_none, option_map, unwrap_or}
 use Rattle.std.proofs.lemmas.Bool.{or_parts, lt-ltb}
 use Rattle.std.proofs.lemmas.List.{length-map}
-use Rattle.dpc_model.specs.Lists.{nth, list_any, list_all}
+use Rattle.dpc_lists.specs.Lists.{nth, list_any, list_all}
 use Rattle.dpc_model.specs.Words.{Word}
 use Rattle.dpc_model.specs.Columns.{kind_columns, wire_columns}
 use Rattle.dpc_model.specs.declared.operators.OpKind.{OpKind}

@@ -1,7 +1,7 @@
 -- The last element of a list.
 use Rattle.std.proofs.Common.{◌≡◌, ◌-◌, List, [], ◌∷◌, map, length, Option, Some, None, refl, arith, slice_get}
 use Rattle.std.specs.Prelude.{option_map}
-use Rattle.dpc_model.specs.Lists.{last_or}
+use Rattle.dpc_lists.specs.Lists.{last_or}
 
 -- it stands at the greatest place
 pub last-get : {X : Type 0} (xs : List X) → last_or None xs ≡ slice_get xs (length xs - 1)

@@ -6,7 +6,7 @@ use Rattle.std.proofs.lemmas.List.Folds.{list_any-append, list_any_more}
 use Rattle.dpc_model.specs.declared.plans.FragSpec.{FragSpec}
 use Rattle.script_rules.proofs.Apart.{among_neither}
 use Rattle.std.proofs.lemmas.Bool.{or_parts}
-use Rattle.dpc_model.specs.Lists.{list_any}
+use Rattle.dpc_lists.specs.Lists.{list_any}
 use Rattle.dpc_model.specs.Words.{Word}
 use Rattle.script_rules.specs.Drafts.{place_of_name, op_names}
 use Rattle.script_rules.specs.Reasons.{is_among}

@@ -5,10 +5,10 @@ use Rattle.std.proofs.lemmas.Bool.{and_parts, or_parts, leb-true, le-leb}
 use Rattle.std.proofs.lemmas.Fmt.{decimal_digit}
 use Rattle.std.proofs.lemmas.List.FromFn.{length-map-range_with_len, get_or-range_with_len}
 use Rattle.std.proofs.lemmas.List.Sums.{sum_by-cons}
-use Rattle.dpc_model.specs.Lists.{changed, range_with_len, list_all}
+use Rattle.dpc_lists.specs.Lists.{changed, range_with_len, list_all}
 use Rattle.dpc_model.specs.Words.{Word}
 use Rattle.dpc_model.specs.declared.plans.FragSpec.{FragSpec}
-use Rattle.dpc_model.proofs.Elements.{get-map, get-first}
+use Rattle.dpc_lists.proofs.Elements.{get-map, get-first}
 use Rattle.dpc_model.specs.Actors.{nodes_from}
 use Rattle.script_rules.specs.Drafts.{place_of_name}
 use Rattle.script_rules.specs.Reasons.{is_among}

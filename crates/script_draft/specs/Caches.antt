@@ -1,6 +1,6 @@
 -- What a draft by code keeps beside what was said.
 use Rattle.std.specs.Prelude.{◌≡◌, ℕ, ◌^◌, ◌<◌, ◌≤◌, true, false, nat_le, List, ◌++◌, length, flat_map, sum_by, fold, Option, Some, None, Result, Ok, Err}
-use Rattle.dpc_model.specs.Lists.{has, list_all}
+use Rattle.dpc_lists.specs.Lists.{has, list_all}
 use Rattle.dpc_model.specs.Words.{Word}
 use Rattle.dpc_model.specs.declared.plans.SourceSpec.{SourceSpec}
 use Rattle.dpc_model.specs.declared.plans.FragSpec.{FragSpec}

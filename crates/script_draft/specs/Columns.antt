@@ -1,6 +1,6 @@
 -- How many columns streams have, as a draft by code keeps it.
 use Rattle.std.specs.Prelude.{◌≡◌, ℕ, ◌-◌, Bool, true, nat_lt, nat_le, List, [], ◌∷◌, map, length, take, None, unwrap_or}
-use Rattle.dpc_model.specs.Lists.{nth, push, last_or, list_all}
+use Rattle.dpc_lists.specs.Lists.{nth, push, last_or, list_all}
 use Rattle.dpc_model.specs.Columns.{columns_after, fragment_columns, stream_columns}
 use Rattle.dpc_model.specs.declared.plans.SourceSpec.{SourceSpec}
 use Rattle.dpc_model.specs.declared.plans.FragSpec.{FragSpec}

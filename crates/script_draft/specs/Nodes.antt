@@ -1,6 +1,6 @@
 -- The names of nodes, and the actors of names.
 use Rattle.std.specs.Prelude.{◌≡◌, Some, ℕ, Bool, ◌||◌, List, ◌∷◌, ◌++◌, map, flat_map, decimal}
-use Rattle.dpc_model.specs.Lists.{range_with_len}
+use Rattle.dpc_lists.specs.Lists.{range_with_len}
 use Rattle.dpc_model.specs.Words.{Word}
 use Rattle.dpc_model.specs.Actors.{role_of, reads_from, are_peers}
 use Rattle.dpc_model.specs.declared.actors.Role.{Role}

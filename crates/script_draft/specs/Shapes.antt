@@ -1,6 +1,6 @@
 -- What can be told of an operator without its expressions.
 use Rattle.std.specs.Prelude.{⊤, ◌≡◌, ℕ, ◌+◌, ◌≤◌, nat_lt, nat_le, [], ◌∷◌, length, is_some, if◌then◌else◌}
-use Rattle.dpc_model.specs.Lists.{list_all}
+use Rattle.dpc_lists.specs.Lists.{list_all}
 use Rattle.dpc_model.specs.declared.operators.OpKind.{OpKind}
 use Rattle.dpc_model.specs.declared.operators.OpKind.TheVariants as kind
 use Rattle.script_rules.specs.Reasons.{fits_inputs, is_too_large}

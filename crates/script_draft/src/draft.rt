@@ -1,6 +1,6 @@
 //! A script under way.
 ghost use Rattle.std.specs.Prelude.{◌≡◌, None};
-ghost use Rattle.dpc_model.specs.Lists.{nth, last_or};
+ghost use Rattle.dpc_lists.specs.Lists.{nth, last_or};
 ghost use Rattle.std.specs.Option.{option_copied};
 ghost use Rattle.script_rules.specs.Drafts as spec;
 

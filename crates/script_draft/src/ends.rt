@@ -1,6 +1,6 @@
 //! What stands at a place, and what stands last.
 ghost use Rattle.std.specs.Prelude.{◌≡◌, None, map, unwrap_or};
-ghost use Rattle.dpc_model.specs.Lists.{nth, last_or};
+ghost use Rattle.dpc_lists.specs.Lists.{nth, last_or};
 ghost use Rattle.dpc_model.specs.declared.scripts.Phase.{Phase};
 
 use dpc_model::scripts::Phase;

@@ -1,6 +1,6 @@
 //! What fragments have.
 ghost use Rattle.std.specs.Prelude.{◌≡◌, flat_map};
-ghost use Rattle.dpc_model.specs.Lists.{is_nil, list_any};
+ghost use Rattle.dpc_lists.specs.Lists.{is_nil, list_any};
 ghost use Rattle.dpc_model.specs.declared.plans.FragSpec.{FragSpec};
 ghost use Rattle.script_rules.specs.Drafts.{op_names};
 ghost use Rattle.script_rules.specs.Reasons.{is_among};

@@ -2,7 +2,7 @@
 use crate::draft::Draft;
 use crate::name_list::NameList;
 use crate::shape::Shape;
-use dpc_model::faults::NoMemory;
+use dpc_lists::faults::NoMemory;
 use dpc_model::operators::OpKind;
 use dpc_model::scripts::Directive;
 use dpc_model::tuples::Vals;

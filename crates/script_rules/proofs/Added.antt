@@ -2,7 +2,7 @@
 use Rattle.std.proofs.Common.{◌≡◌, ℕ, zero, suc, true, false, List, [], ◌∷◌, ◌++◌, map, refl, sym, ap, ◌∙◌}
 use Rattle.std.specs.Prelude.{flat_map}
 use Rattle.std.proofs.lemmas.List.{append-nil, append_assoc, map_push}
-use Rattle.dpc_model.specs.Lists.{changed, is_nil}
+use Rattle.dpc_lists.specs.Lists.{changed, is_nil}
 use Rattle.dpc_model.specs.Words.{Word}
 use Rattle.dpc_model.specs.declared.operators.OpSpec.{OpSpec}
 use Rattle.dpc_model.specs.declared.plans.SourceSpec.{SourceSpec}

@@ -4,7 +4,7 @@ use Rattle.std.specs.Prelude.{not, ◌||◌, nat_lt, is_none, unwrap_or, option_
 use Rattle.std.proofs.lemmas.Bool.{or_parts, not-false, lt-ltb}
 use Rattle.std.proofs.lemmas.List.{append-nil, append_assoc, length-map}
 use Rattle.std.proofs.lemmas.Grind.{flat_map-append}
-use Rattle.dpc_model.specs.Lists.{list_all, list_any, is_nil}
+use Rattle.dpc_lists.specs.Lists.{list_all, list_any, is_nil}
 use Rattle.dpc_model.specs.Words.{Word}
 use Rattle.dpc_model.specs.Actors.{role_of, are_linked}
 use Rattle.dpc_model.specs.declared.operators.OpKind.{OpKind}

@@ -3,7 +3,7 @@ use Rattle.std.proofs.Common.{◌≡◌, ℕ, zero, suc, ◌+◌, ◌-◌, ◌<�
 use Rattle.std.specs.Prelude.{⊤, not, ◌&&◌, ◌||◌, nat_lt, nat_le, is_none, unwrap_or, option_map}
 use Rattle.std.proofs.lemmas.Bool.{and_parts, or_parts, not-false, ltb-true, lt-ltb, ltb-false, le-leb}
 use Rattle.std.proofs.lemmas.List.{length-append, length-map}
-use Rattle.dpc_model.specs.Lists.{nth, push, changed, list_all, list_any, last_or}
+use Rattle.dpc_lists.specs.Lists.{nth, push, changed, list_all, list_any, last_or}
 use Rattle.dpc_model.specs.Words.{Word}
 use Rattle.dpc_model.specs.Columns.{kind_columns, wire_columns, columns_after, fragment_columns, columns_by, frags_columns, stream_columns}
 use Rattle.dpc_model.specs.ScriptText.{stream_name}

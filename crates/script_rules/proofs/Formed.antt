@@ -3,7 +3,7 @@ use Rattle.std.proofs.Common.{◌≡◌, ℕ, ℤ, ◌+◌, ◌^◌, ◌/◌, �
 use Rattle.std.specs.Prelude.{⊤, not, ◌&&◌, ◌||◌, ◌==◌, nat_lt, unwrap_or}
 use Rattle.std.proofs.lemmas.Bool.{and_parts, or_parts, not-false, not-true, ltb-false, ltb-true}
 use Rattle.std.proofs.lemmas.List.{length-map}
-use Rattle.dpc_model.specs.Lists.{changed, list_all, is_nil, list_any}
+use Rattle.dpc_lists.specs.Lists.{changed, list_all, is_nil, list_any}
 use Rattle.dpc_model.specs.Words.{Word}
 use Rattle.dpc_model.specs.Fragments.{IsSoundKind, AreSoundOps, AreSoundFrags}
 use Rattle.dpc_model.specs.declared.tuples.Tuple.{Tuple}

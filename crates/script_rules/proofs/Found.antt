@@ -2,7 +2,7 @@
 use Rattle.std.proofs.Common.{◌≡◌, ℕ, suc, ◌<◌, true, false, List, [], ◌∷◌, map, length, Option, Some, None, refl, sym, ap, ◌∙◌, arith}
 use Rattle.std.specs.Prelude.{⊤, ◌||◌, if◌then◌else◌, is_none, unwrap_or, option_map, bytes_eq}
 use Rattle.std.proofs.lemmas.Bool.{or_parts, lt-ltb}
-use Rattle.dpc_model.specs.Lists.{nth, list_any, list_all}
+use Rattle.dpc_lists.specs.Lists.{nth, list_any, list_all}
 use Rattle.dpc_model.specs.Words.{Word}
 use Rattle.dpc_model.specs.Actors.{same_stream}
 use Rattle.dpc_model.specs.declared.plans.StreamRef.{StreamRef}

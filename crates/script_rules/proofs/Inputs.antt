@@ -3,7 +3,7 @@ use Rattle.std.proofs.Common.{◌≡◌, ℕ, ◌+◌, true, false, List, [], �
 use Rattle.std.specs.Prelude.{⊤, nat_lt, is_none, flat_map}
 use Rattle.std.proofs.lemmas.Bool.{or_parts, and_parts, ltb-true}
 use Rattle.std.proofs.lemmas.List.{append-nil, append_assoc, length-append, length-map}
-use Rattle.dpc_model.specs.Lists.{nth, list_all, list_any}
+use Rattle.dpc_lists.specs.Lists.{nth, list_all, list_any}
 use Rattle.dpc_model.specs.Words.{Word}
 use Rattle.dpc_model.specs.Fragments.{ReadsBelow, ReadBefore}
 use Rattle.dpc_model.specs.ScriptText.{stream_name}

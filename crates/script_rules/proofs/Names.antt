@@ -3,7 +3,7 @@ use Rattle.std.proofs.Common.{◌≡◌, Bool, true, false, List, [], ◌∷◌,
 use Rattle.std.specs.Prelude.{◌&&◌, ◌||◌, length, flat_map, bytes_eq}
 use Rattle.std.proofs.lemmas.Bool.{and_parts, or_parts, false_from_ne_true}
 use Rattle.std.proofs.lemmas.List.Folds.{list_all-append, list_all-map}
-use Rattle.dpc_model.specs.Lists.{list_all}
+use Rattle.dpc_lists.specs.Lists.{list_all}
 use Rattle.dpc_model.specs.Words.{Word}
 use Rattle.dpc_model.specs.declared.operators.OpSpec.{OpSpec}
 use Rattle.dpc_model.specs.declared.plans.SourceSpec.{SourceSpec}

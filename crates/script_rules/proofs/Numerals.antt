@@ -7,7 +7,7 @@ use Rattle.std.proofs.lemmas.Fmt.{decimal_digit, decimal_nonempty, first_decimal
 use Rattle.std.proofs.lemmas.Grind.{common_steps}
 use Rattle.std.proofs.lemmas.Slice.Eq.{bytes_eq-Decides}
 use Rattle.std.proofs.lemmas.Str.Parse.{IsNumeralModel, numerals_by_fold}
-use Rattle.dpc_model.specs.Lists.{list_all, is_nil}
+use Rattle.dpc_lists.specs.Lists.{list_all, is_nil}
 use Rattle.dpc_model.specs.Words.{Word}
 use Rattle.dpc_model.specs.ScriptText.{column_word}
 use Rattle.dpc_model.specs.Formula as formula

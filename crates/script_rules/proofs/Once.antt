@@ -2,7 +2,7 @@
 use Rattle.std.proofs.Common.{◌≡◌, true, false, List, [], ◌∷◌, map, refl, ap, subst}
 use Rattle.std.specs.Prelude.{◌||◌, flat_map, bytes_eq}
 use Rattle.std.proofs.lemmas.Bool.{or_parts, eqb-true}
-use Rattle.dpc_model.specs.Lists.{list_any, list_all}
+use Rattle.dpc_lists.specs.Lists.{list_any, list_all}
 use Rattle.dpc_model.specs.Words.{Word}
 use Rattle.dpc_model.specs.Actors.{same_stream}
 use Rattle.dpc_model.specs.ScriptText.{stream_name}

@@ -1,7 +1,7 @@
 -- Lists in order of a number, with one more at their end.
 use Rattle.std.proofs.Common.{ℕ, ◌≤◌, List, [], ◌∷◌, ◌++◌, map, None, arith}
 use Rattle.std.specs.Prelude.{unwrap_or}
-use Rattle.dpc_model.specs.Lists.{last_or}
+use Rattle.dpc_lists.specs.Lists.{last_or}
 use Rattle.dpc_model.specs.Streams.{NoneBelow, IsOrdered}
 
 abbrev pub itself : ℕ → ℕ

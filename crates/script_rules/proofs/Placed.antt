@@ -2,7 +2,7 @@
 use Rattle.std.proofs.Common.{◌≡◌, ℕ, zero, suc, ◌-◌, ◌^◌, ◌/◌, ◌%◌, ◌<◌, ◌≤◌, Bool, true, false, List, [], ◌∷◌, ◌++◌, length, Some, refl, ap, subst, arith}
 use Rattle.std.specs.Prelude.{not, ◌&&◌, ◌==◌, nat_lt, nat_le, if◌then◌else◌, replicate, find, option_map, bytes_eq, drop}
 use Rattle.std.proofs.lemmas.Bool.{and_parts, or_parts, not-false, ltb-false, ltb-true, eqb-true, ne_eqb, le-leb}
-use Rattle.dpc_model.specs.Lists.{nth, list_all, list_any, is_nil}
+use Rattle.dpc_lists.specs.Lists.{nth, list_all, list_any, is_nil}
 use Rattle.dpc_model.specs.Words.{Word}
 use Rattle.script_rules.specs.declared.keywords.Keyword.{Keyword}
 use Rattle.script_rules.specs.declared.keywords.Keyword.TheVariants as key

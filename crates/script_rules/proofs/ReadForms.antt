@@ -4,7 +4,7 @@ use Rattle.std.specs.Prelude.{not, ◌||◌, ◌==◌, flat_map, if◌then◌els
 use Rattle.std.proofs.lemmas.Bool.{and_parts, or_parts, eqb-true}
 use Rattle.std.proofs.lemmas.List.{length-map}
 use Rattle.std.proofs.lemmas.List.Folds.{list_all-append}
-use Rattle.dpc_model.specs.Lists.{nth, list_all, list_any, is_nil}
+use Rattle.dpc_lists.specs.Lists.{nth, list_all, list_any, is_nil}
 use Rattle.dpc_model.specs.Words.{Word}
 use Rattle.dpc_model.specs.Columns.{stream_columns}
 use Rattle.dpc_model.specs.declared.plans.FragSpec.{FragSpec}

@@ -3,7 +3,7 @@ use Rattle.std.proofs.Common.{◌≡◌, ℕ, zero, suc, ◌<◌, ◌≤◌, tru
 use Rattle.std.specs.Prelude.{◌||◌, nat_lt, is_none, unwrap_or, option_map, bytes_eq}
 use Rattle.std.proofs.lemmas.Bool.{or_parts, ltb-true, ltb-false}
 use Rattle.std.proofs.lemmas.List.Folds.{list_any-append}
-use Rattle.dpc_model.specs.Lists.{nth, list_any}
+use Rattle.dpc_lists.specs.Lists.{nth, list_any}
 use Rattle.dpc_model.specs.Words.{Word}
 use Rattle.dpc_model.specs.declared.operators.Wire.{Wire}
 use Rattle.dpc_model.specs.declared.operators.Wire.TheVariants.{Port, Op}

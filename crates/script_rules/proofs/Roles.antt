@@ -6,7 +6,7 @@ use Rattle.std.proofs.lemmas.Fmt.{decimal_injective}
 use Rattle.std.proofs.lemmas.Bool.{false_from_ne_true, or_parts, and_parts, ltb-true, ltb-false, eqb-true}
 use Rattle.std.proofs.lemmas.List.{append_assoc, append_cancel_left, map-append, length-append, length-map}
 use Rattle.std.proofs.lemmas.List.Folds.{list_any-append}
-use Rattle.dpc_model.specs.Lists.{nth, list_all, range_with_len}
+use Rattle.dpc_lists.specs.Lists.{nth, list_all, range_with_len}
 use Rattle.dpc_model.specs.Words.{Word}
 use Rattle.dpc_model.specs.Actors.{roles_of, nodes_from, nodes_of}
 use Rattle.dpc_model.specs.ScriptText.{source_name, frag_name, role_name, actor_name}

@@ -5,7 +5,7 @@ use Rattle.std.proofs.lemmas.Bool.{or_parts, and_parts, ltb-true}
 use Rattle.std.proofs.lemmas.List.{append-nil, append_assoc, map-append, length-append, length-map}
 use Rattle.std.proofs.lemmas.Grind.{flat_map-append}
 use Rattle.std.proofs.lemmas.List.Folds.{list_any-append}
-use Rattle.dpc_model.specs.Lists.{nth, list_all, list_any}
+use Rattle.dpc_lists.specs.Lists.{nth, list_all, list_any}
 use Rattle.dpc_model.specs.Words.{Word}
 use Rattle.dpc_model.specs.ScriptText.{stream_name, wire_word}
 use Rattle.dpc_model.specs.declared.operators.Wire.{Wire}

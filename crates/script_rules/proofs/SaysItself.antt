@@ -4,7 +4,7 @@ use Rattle.std.specs.Prelude.{not, ◌||◌, nat_lt, flat_map, is_none, unwrap_o
 use Rattle.std.proofs.lemmas.Bool.{or_parts, lt-ltb}
 use Rattle.std.proofs.lemmas.List.{append-nil, append_assoc, length-map}
 use Rattle.std.proofs.lemmas.List.Folds.{list_all-append}
-use Rattle.dpc_model.specs.Lists.{list_all, list_any, is_nil}
+use Rattle.dpc_lists.specs.Lists.{list_all, list_any, is_nil}
 use Rattle.dpc_model.specs.Actors.{roles_of, role_of, are_linked}
 use Rattle.dpc_model.specs.ScriptText.{source_name, role_name, actor_name}
 use Rattle.dpc_model.specs.declared.plans.SourceSpec.{SourceSpec}

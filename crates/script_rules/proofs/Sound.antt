@@ -1,7 +1,7 @@
 -- The plan of a checked script is sound.
 use Rattle.std.proofs.Common.{◌≡◌, true, List, [], ◌++◌, map, refl, arith}
 use Rattle.std.specs.Prelude.{flat_map, length}
-use Rattle.dpc_model.specs.Lists.{list_all}
+use Rattle.dpc_lists.specs.Lists.{list_all}
 use Rattle.dpc_model.specs.Words.{Word}
 use Rattle.dpc_model.specs.Fragments.{IsSound}
 use Rattle.dpc_model.specs.declared.plans.FragSpec.{FragSpec}

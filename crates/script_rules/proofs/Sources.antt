@@ -4,7 +4,7 @@ use Rattle.std.specs.Prelude.{not, ◌&&◌, ◌==◌, nat_lt, unwrap_or, sum_by
 use Rattle.std.proofs.lemmas.Bool.{or_parts, not-false, ltb-false, ltb-true}
 use Rattle.std.proofs.lemmas.List.{append-nil, append_assoc, map_push, length-append, length-map}
 use Rattle.std.proofs.lemmas.List.Sums.{sum_by-append}
-use Rattle.dpc_model.specs.Lists.{nth, changed, list_all}
+use Rattle.dpc_lists.specs.Lists.{nth, changed, list_all}
 use Rattle.dpc_model.specs.Words.{Word}
 use Rattle.dpc_model.specs.Streams.{IsOrdered}
 use Rattle.dpc_model.specs.declared.tuples.Tuple.{Tuple}

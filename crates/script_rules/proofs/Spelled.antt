@@ -2,7 +2,7 @@
 use Rattle.std.proofs.Common.{◌≡◌, true, List, [], ◌∷◌, map, refl, ◌∙◌}
 use Rattle.std.specs.Prelude.{◌&&◌, flat_map}
 use Rattle.std.proofs.lemmas.Bool.{and_parts, ltb-true}
-use Rattle.dpc_model.specs.Lists.{list_all}
+use Rattle.dpc_lists.specs.Lists.{list_all}
 use Rattle.dpc_model.specs.ScriptText.{formula_words}
 use Rattle.dpc_model.specs.Formula.{Formula, Col, Num, Time, Neg, Not, Bin, If}
 use Rattle.script_rules.specs.Places.{must}

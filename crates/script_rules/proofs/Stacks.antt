@@ -3,7 +3,7 @@ use Rattle.std.proofs.Common.{◌≡◌, ℕ, zero, suc, ◌+◌, Bool, false, L
 use Rattle.std.specs.Prelude.{replicate}
 use Rattle.std.proofs.lemmas.Bool.{or_parts}
 use Rattle.std.proofs.lemmas.List.{replicate-append-replicate}
-use Rattle.dpc_model.specs.Lists.{list_any}
+use Rattle.dpc_lists.specs.Lists.{list_any}
 use Rattle.dpc_model.specs.Words.{Word}
 use Rattle.dpc_model.specs.Formula.{Formula}
 use Rattle.script_rules.specs.Symbols.{Symbol, Whole, One, Two, Three, Foreign, symbol_of, operands, is_foreign_symbol, applied, formulas}

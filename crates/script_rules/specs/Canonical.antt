@@ -1,6 +1,6 @@
 -- The canonical form of a text.
 use Rattle.std.specs.Prelude.{◌≡◌, ℕ, Bool, true, false, ◌&&◌, if◌then◌else◌, List, [], ◌∷◌, map, codes, bytes_eq}
-use Rattle.dpc_model.specs.Lists.{list_any}
+use Rattle.dpc_lists.specs.Lists.{list_any}
 use Rattle.dpc_model.specs.Words.{Word, text_of}
 use Rattle.script_rules.specs.Lines.{lines_of, words_of, is_skipped}
 use Rattle.script_rules.specs.Statements.{word}

@@ -1,6 +1,6 @@
 -- What a script's value must keep: ranges of its names, numbers and counts, and the rules of what is said.
 use Rattle.std.specs.Prelude.{◌≡◌, ℕ, ◌+◌, ◌-◌, ◌^◌, ◌%◌, Bool, true, false, ◌&&◌, ◌||◌, ◌==◌, nat_lt, if◌then◌else◌, List, [], ◌∷◌, ◌++◌, map, length, flat_map, Option, Some, None, unwrap_or}
-use Rattle.dpc_model.specs.Lists.{list_all}
+use Rattle.dpc_lists.specs.Lists.{list_all}
 use Rattle.dpc_model.specs.ScriptText.{source_name, stream_name, actor_name, wire_word}
 use Rattle.dpc_model.specs.Formula.{Formula, Col, Num, Time, Neg, Not, Bin, If}
 use Rattle.dpc_model.specs.declared.tuples.Tuple.{Tuple}

@@ -1,6 +1,6 @@
 -- What the lines of a script say so far.
 use Rattle.std.specs.Prelude.{ℕ, ◌-◌, ◌^◌, Bool, true, false, ◌&&◌, ◌||◌, ◌==◌, if◌then◌else◌, List, [], ◌++◌, map, length, flat_map, Option, Some, None, unwrap_or, option_map, bytes_eq}
-use Rattle.dpc_model.specs.Lists.{nth, push, changed, place_of, last_or}
+use Rattle.dpc_lists.specs.Lists.{nth, push, changed, place_of, last_or}
 use Rattle.dpc_model.specs.Words.{Word}
 use Rattle.dpc_model.specs.Actors.{roles_of}
 use Rattle.dpc_model.specs.ScriptText.{role_name, stream_name}

@@ -1,6 +1,6 @@
 -- The laws that are wanted of these definitions.
 use Rattle.std.specs.Prelude.{◌≡◌, ℕ, ◌+◌, ◌^◌, ◌≤◌, Bool, true, false, ◌&&◌, nat_lt, ◌⊎◌, ◌↔◌, List, ◌∷◌, ◌++◌, map, length, flat_map, fold, Some, None}
-use Rattle.dpc_model.specs.Lists.{list_all}
+use Rattle.dpc_lists.specs.Lists.{list_all}
 use Rattle.dpc_model.specs.Actors.{roles_of, actors_where}
 use Rattle.dpc_model.specs.declared.actors.Role.{Role}
 use Rattle.dpc_model.specs.ScriptText.{script_text, formula_words}

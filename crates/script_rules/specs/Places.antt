@@ -1,6 +1,6 @@
 -- The places of a line, and what stands there.
 use Rattle.std.specs.Prelude.{ℕ, ◌+◌, ◌^◌, ◌%◌, Bool, true, false, not, ◌&&◌, ◌||◌, ◌==◌, nat_le, min, if◌then◌else◌, List, [], ◌∷◌, ◌++◌, map, length, replicate, is_some, codes, bytes_eq}
-use Rattle.dpc_model.specs.Lists.{nth, list_any}
+use Rattle.dpc_lists.specs.Lists.{nth, list_any}
 use Rattle.dpc_model.specs.Words.{Word}
 use Rattle.script_rules.specs.Spelling.{is_numeral, number, is_value, value, is_i64, looks_like_value, is_name, is_node_name, column_of}
 use Rattle.script_rules.specs.Symbols.{symbol_of, is_foreign_symbol, operands, aggregates}

@@ -1,6 +1,6 @@
 -- The reasons to refuse a line, each on what the lines before it say.
 use Rattle.std.specs.Prelude.{ℕ, ◌+◌, ◌*◌, ◌/◌, Bool, true, false, not, ◌&&◌, ◌||◌, ◌==◌, nat_lt, if◌then◌else◌, List, [], ◌∷◌, ◌++◌, map, length, flat_map, Option, Some, None, unwrap_or, is_none, option_map, bytes_eq, drop, fold, sum_by}
-use Rattle.dpc_model.specs.Lists.{nth, is_nil, list_any, list_all, last_or}
+use Rattle.dpc_lists.specs.Lists.{nth, is_nil, list_any, list_all, last_or}
 use Rattle.dpc_model.specs.Words.{Word}
 use Rattle.dpc_model.specs.Actors.{role_of, are_linked}
 use Rattle.dpc_model.specs.declared.actors.Role.{Role}

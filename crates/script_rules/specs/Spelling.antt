@@ -1,6 +1,6 @@
 -- How numbers, values, names and columns are spelled.
 use Rattle.std.specs.Prelude.{ℕ, ◌+◌, ◌-◌, ◌*◌, ◌^◌, ℤ, pos, negsuc, int_le, Bool, false, not, ◌&&◌, ◌||◌, ◌==◌, nat_lt, nat_le, if◌then◌else◌, List, [], ◌∷◌, length, Option, Some, None, codes, bytes_eq}
-use Rattle.dpc_model.specs.Lists.{is_nil, list_all}
+use Rattle.dpc_lists.specs.Lists.{is_nil, list_all}
 use Rattle.dpc_model.specs.Words.{Word}
 use Rattle.script_rules.specs.Lines.{pieces}
 

@@ -1,6 +1,6 @@
 -- The words of expressions and of aggregates.
 use Rattle.std.specs.Prelude.{ℕ, Bool, true, false, if◌then◌else◌, List, [], ◌∷◌, ◌++◌, Option, Some, None, unwrap_or, option_map, option_to_list, codes}
-use Rattle.dpc_model.specs.Lists.{nth}
+use Rattle.dpc_lists.specs.Lists.{nth}
 use Rattle.dpc_model.specs.Words.{Word}
 use Rattle.dpc_model.specs.Formula as formula
 use Rattle.dpc_model.specs.Formula.{Formula}

@@ -3,7 +3,7 @@ use Rattle.std.proofs.Common.{◌≡◌, ℕ, ◌+◌, ◌-◌, ◌*◌, ◌^◌
 use Rattle.std.specs.List.{list_all}
 use Rattle.std.proofs.lemmas.Bool.{and_right, or_right, ne_eqb, le-ltb, lt-ltb}
 use Rattle.std.proofs.lemmas.List.{at_drop_more, at_drop_all}
-use Rattle.dpc_model.specs.Lists.{is_nil}
+use Rattle.dpc_lists.specs.Lists.{is_nil}
 use Rattle.script_rules.specs.Spelling.{is_digit, value_after, is_numeral, number}
 use Rattle.script_words.specs.Options.{given}
 use Rattle.script_words.specs.Numbers.{u64_of}

@@ -3,7 +3,7 @@ use Rattle.std.proofs.Common.{◌≡◌, ℕ, zero, suc, ◌+◌, ◌^◌, ◌%�
 use Rattle.std.specs.Prelude.{nat_lt, nat_le, ◌==◌, replicate, slice_get}
 use Rattle.std.proofs.lemmas.Bool.{or_parts, or_right, and_parts, and_right, eqb-true, leb-true, lt-ltb, ltb-false, le-ltb}
 use Rattle.std.proofs.lemmas.List.{append-nil, drop-drop, replicate-append-replicate}
-use Rattle.dpc_model.specs.Lists.{list_all, list_any}
+use Rattle.dpc_lists.specs.Lists.{list_all, list_any}
 use Rattle.dpc_model.specs.Words.{Word}
 use Rattle.script_rules.specs.Spelling.{is_numeral, number, is_value, value, is_i64, looks_like_value}
 use Rattle.script_rules.specs.Symbols.{symbol_of, operands, formulas}

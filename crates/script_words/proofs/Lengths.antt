@@ -2,7 +2,7 @@
 use Rattle.std.proofs.Common.{◌≡◌, ℕ, ◌+◌, ◌<◌, ◌≤◌, Bool, true, false, ◌&&◌, ◌||◌, max, List, [], ◌∷◌, length, refl, sym, ap, ◌∙◌, arith}
 use Rattle.std.specs.Prelude.{nat_lt, nat_le}
 use Rattle.std.proofs.lemmas.Bool.{lt-ltb, le-ltb, le-leb, lt-leb, ltb-true, ltb-false, leb-true, leb-false}
-use Rattle.dpc_model.specs.Lists.{nth, list_any, list_all}
+use Rattle.dpc_lists.specs.Lists.{nth, list_any, list_all}
 use Rattle.dpc_model.specs.Formula as formula
 use Rattle.dpc_model.specs.Formula.{Formula}
 use Rattle.dpc_model.specs.Values.{reads_below}

@@ -5,7 +5,7 @@ use Rattle.script_rules.specs.Places.{must, header_sorts, places_of}
 use Rattle.script_rules.specs.declared.keywords.Keyword.{Keyword}
 use Rattle.script_rules.specs.declared.keywords.Keyword.TheVariants as key
 use Rattle.script_rules.specs.declared.places.Sort.TheVariants.{Anything}
-use Rattle.dpc_model.specs.Lists.{nth}
+use Rattle.dpc_lists.specs.Lists.{nth}
 use Rattle.script_words.specs.Limits.{HasLimits, draft_with, places_by}
 use Rattle.script_words.specs.declared.places.Limits.{Limits}
 

@@ -3,7 +3,7 @@ use Rattle.std.proofs.Common.{◌≡◌, true, not, ◌&&◌, ◌||◌, List, []
 use Rattle.std.specs.Prelude.{ℤ, pos}
 use Rattle.std.specs.Option.{unwrap_or}
 use Rattle.std.proofs.lemmas.Bool.{and_parts}
-use Rattle.dpc_model.specs.Lists.{list_all}
+use Rattle.dpc_lists.specs.Lists.{list_all}
 use Rattle.dpc_model.specs.Words.{Word}
 use Rattle.dpc_model.specs.Formula as formula
 use Rattle.dpc_model.specs.Formula.{Formula}

@@ -6,7 +6,7 @@ use Rattle.std.proofs.lemmas.Bool.{and_parts, and_right, eqb-true, ne_eqb, le-le
 use Rattle.std.proofs.Math.Dec.{eqb-suc-zero}
 use Rattle.std.proofs.lemmas.Grind.{common_steps}
 use Rattle.std.proofs.lemmas.List.Elements.{recursion_from_All}
-use Rattle.dpc_model.specs.Lists.{is_nil}
+use Rattle.dpc_lists.specs.Lists.{is_nil}
 use Rattle.dpc_model.specs.Words.{Word}
 use Rattle.script_rules.specs.Lines.{in_front, pieces}
 use Rattle.script_rules.specs.Spelling.{is_digit, is_numeral, number, is_i64, is_name, are_name_and_numeral, is_node_name}

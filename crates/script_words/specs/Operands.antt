@@ -1,6 +1,6 @@
 -- Values and numbers that words say.
 use Rattle.std.specs.Prelude.{ℕ, ◌^◌, Bool, ◌&&◌, nat_lt, List, Option, map}
-use Rattle.dpc_model.specs.Lists.{list_all}
+use Rattle.dpc_lists.specs.Lists.{list_all}
 use Rattle.dpc_model.specs.Words.{Word}
 use Rattle.script_rules.specs.Spelling.{is_numeral, number, is_value, value, is_i64}
 use Rattle.script_rules.specs.Statements.{pairs}

@@ -1,6 +1,6 @@
 -- Words at places, seen one after another.
 use Rattle.std.specs.Prelude.{◌≡◌, ℕ, Bool, ◌||◌, List, [], ◌∷◌, ◌++◌, drop, replicate, Option}
-use Rattle.dpc_model.specs.Lists.{list_any}
+use Rattle.dpc_lists.specs.Lists.{list_any}
 use Rattle.dpc_model.specs.Words.{Word}
 use Rattle.script_rules.specs.Places.{must, may, opened, placed, leaves_over, is_foreign, is_no_number, is_out_of_range}
 use Rattle.script_rules.specs.Reasons.{first_of_tests}

@@ -8,8 +8,8 @@ ghost use Rattle.script_words.specs.Spans.{with_word, own_columns, IsColumnThere
 
 use crate::symbols::{Symbol, symbol_of};
 use crate::words::Words;
+use dpc_lists::faults::NoMemory;
 use dpc_model::expressions::{Expr, ExprNode};
-use dpc_model::faults::NoMemory;
 use std::alloc::Global;
 
 /// The expressions that words are, one behind another. An expression is as deep as it has words: `longest_expression`

@@ -1,6 +1,6 @@
 //! The places of a line, and the reasons 2 to 5 to refuse it.
 ghost use Rattle.std.specs.Prelude.{◌≡◌, ◌∷◌, []};
-ghost use Rattle.dpc_model.specs.Lists.{nth};
+ghost use Rattle.dpc_lists.specs.Lists.{nth};
 ghost use Rattle.script_rules.specs.Drafts.{Draft, greatest_end};
 ghost use Rattle.script_rules.specs.Places as spec;
 ghost use Rattle.script_rules.specs.Reasons.{first_of_tests, has_foreign_word, has_wrong_length, lacks_number, is_past_range};

@@ -1,6 +1,6 @@
 //! Words at the places of their line, one after another.
 ghost use Rattle.std.specs.Prelude.{⊤, ◌≡◌, ◌⊎◌, ◌||◌, ◌+◌, ◌^◌, ◌<◌, ◌≤◌, ◌++◌, ◌∷◌, List, [], drop, replicate, MatchOption};
-ghost use Rattle.dpc_model.specs.Lists.{list_any};
+ghost use Rattle.dpc_lists.specs.Lists.{list_any};
 ghost use Rattle.script_rules.specs.Places.{leaves_over};
 ghost use Rattle.script_rules.specs.declared.places.Place as place;
 ghost use Rattle.script_rules.specs.Reasons.{first_of_tests};

@@ -1,6 +1,6 @@
 //! How numbers, values, names and columns are spelled.
 ghost use Rattle.std.specs.Prelude.{◌≡◌, ◌≢◌, ◌<◌, ◌∷◌, ◌++◌, All, IfSome, MatchOption};
-ghost use Rattle.dpc_model.specs.Lists.{list_all};
+ghost use Rattle.dpc_lists.specs.Lists.{list_all};
 ghost use Rattle.script_rules.specs.Spelling as spec;
 ghost use Rattle.script_words.specs.Numbers.{u64_of, i64_of, below_zero, i64_by_digits};
 

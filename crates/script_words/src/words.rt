@@ -1,6 +1,6 @@
 //! The words of a line.
 ghost use Rattle.std.specs.Prelude.{◌≡◌, ◌≢◌, ◌^◌, ◌<◌, ◌≤◌, [], ◌∷◌, ◌++◌, take, drop, length, slice_index, All, MatchOption};
-ghost use Rattle.dpc_model.specs.Lists.{is_nil};
+ghost use Rattle.dpc_lists.specs.Lists.{is_nil};
 ghost use Rattle.script_rules.specs.Lines as spec;
 ghost use Rattle.script_words.specs.Ends.{BeginsWord, EndsInWord};
 

@@ -2,7 +2,7 @@
 use Rattle.std.proofs.Common.{◌≡◌, ℕ, zero, suc, ◌+◌, ◌-◌, ◌≤◌, ◌<◌, true, false, List, [], ◌∷◌, map, take, drop, length, refl, sym, arith, slice_index_or, nat_le, min}
 use Rattle.std.proofs.lemmas.Grind.{common_steps}
 use Rattle.std.proofs.lemmas.List.{drop-take, length-take}
-use Rattle.dpc_model.specs.Lists.{nth}
+use Rattle.dpc_lists.specs.Lists.{nth}
 use Rattle.dpc_model.specs.declared.plans.SourceSpec.{SourceSpec}
 
 pub log-at : (sources : List SourceSpec) (s : ℕ) (d : SourceSpec) → s < length sources → (slice_index_or sources s d).log ≡ nth [] (map (λ (x : SourceSpec). x.log) sources) s

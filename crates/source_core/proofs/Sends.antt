@@ -4,7 +4,7 @@ use Rattle.std.specs.Prelude.{not, is_none, if◌then◌else◌}
 use Rattle.std.proofs.lemmas.Grind.{common_steps}
 use Rattle.std.proofs.lemmas.List.{map-append, append_assoc}
 use Rattle.std.specs.List.{zip}
-use Rattle.dpc_model.specs.Lists.{nth, is_nil}
+use Rattle.dpc_lists.specs.Lists.{nth, is_nil}
 use Rattle.dpc_model.specs.Sessions.{stable_items, boundary_item, given_items, with_batch, with_batches, batches_of, link_of}
 use Rattle.dpc_model.specs.Fragments.{log_of}
 use Rattle.dpc_model.specs.declared.plans.Plan.{Plan}

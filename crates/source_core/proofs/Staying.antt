@@ -1,6 +1,6 @@
 -- A source stays one of its plan at each step.
 use Rattle.std.proofs.Common.{ℕ, ◌≤◌, length, refl, arith, Option, Some, None, ◌==◌}
-use Rattle.dpc_model.specs.Lists.{place_of}
+use Rattle.dpc_lists.specs.Lists.{place_of}
 use Rattle.dpc_model.specs.Fragments.{log_of}
 use Rattle.dpc_model.specs.Streams.{count_below}
 use Rattle.dpc_model.specs.declared.messages.Subscribe.{Subscribe}

@@ -1,7 +1,7 @@
 -- A subscription at a source: the session that it leaves, and its answer.
 use Rattle.std.proofs.Common.{◌≡◌, ℕ, Bool, ◌<◌, length, slice_index_or, ◌∙◌, ◌==◌, true, false, List, [], ◌∷◌, refl, sym, ap, arith, Option, Some, None, nat_lt}
 use Rattle.std.proofs.lemmas.Bool.{le-ltb}
-use Rattle.dpc_model.specs.Lists.{nth, changed, place_of}
+use Rattle.dpc_lists.specs.Lists.{nth, changed, place_of}
 use Rattle.dpc_model.specs.Sessions.{no_session, is_newer_than_kept, first_batch, Shown, Answered, answer_to}
 use Rattle.dpc_model.specs.declared.tuples.Item.{Item}
 use Rattle.dpc_model.specs.declared.messages.Subscribe.{Subscribe}

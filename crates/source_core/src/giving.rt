@@ -1,6 +1,6 @@
 //! What a source sends.
 ghost use Rattle.std.specs.Prelude.{◌≡◌, ◌≤◌, ℕ, not, map, zip, length, IfOk};
-ghost use Rattle.dpc_model.specs.Lists.{nth};
+ghost use Rattle.dpc_lists.specs.Lists.{nth};
 ghost use Rattle.dpc_model.specs.Sessions.{given_items, batches_of, link_of};
 ghost use Rattle.dpc_model.specs.declared.sessions.Sub.{Sub};
 ghost use Rattle.node_model.specs.Mails.{mail, mails, to_readers};
@@ -8,7 +8,7 @@ ghost use Rattle.node_model.specs.Sources.{source_beat};
 ghost use Rattle.source_core.specs.Emitting.{given_upto, is_nothing};
 
 use actor_lists::lists::actor_at;
-use dpc_model::faults::NoMemory;
+use dpc_lists::faults::NoMemory;
 use dpc_model::messages::{Beat, Message, NodeState, Out, Sess};
 use dpc_model::sessions::Sub;
 use dpc_model::tuples::{Item, Tuple};

@@ -9,7 +9,7 @@ ghost use Rattle.source_core.specs.Emitting.{IsSourceOf, HasRoom, opening_source
 use crate::giving::beats;
 use crate::log::bound_past;
 use actor_lists::lists::{place_of, readers_of};
-use dpc_model::faults::NoMemory;
+use dpc_lists::faults::NoMemory;
 use dpc_model::messages::{Message, Out, Sess};
 use dpc_model::plans::{Plan, StreamRef};
 use dpc_model::sessions::Sub;

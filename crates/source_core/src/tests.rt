@@ -5,9 +5,9 @@ ghost use Rattle.dpc_model.specs.Fragments.{log_of};
 ghost use Rattle.source_core.specs.Emitting.{IsSourceOf};
 
 use crate::source::SourceNode;
-use dpc_model::exact::Exact;
-use dpc_model::faults::NoMemory;
-use dpc_model::lists::{Listed, Name};
+use dpc_lists::exact::Exact;
+use dpc_lists::faults::NoMemory;
+use dpc_lists::lists::{Listed, Name};
 use dpc_model::messages::{Message, Out, Sess, Subscribe};
 use dpc_model::plans::{ClientSpec, Plan, SourceSpec, StreamRef};
 use dpc_model::tuples::{Item, Tuple, Tuples, Vals};

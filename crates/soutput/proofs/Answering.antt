@@ -1,7 +1,7 @@
 -- A subscription: the session that it leaves and its answer, case by case.
 use Rattle.std.proofs.Common.{◌≡◌, ℕ, zero, suc, ◌≤◌, ◌<◌, Bool, true, false, List, [], ◌∷◌, length, refl, sym, ap, arith, Some, None, slice_index_or}
 use Rattle.std.proofs.lemmas.Bool.{lt-ltb, le-ltb}
-use Rattle.dpc_model.specs.Lists.{nth, changed}
+use Rattle.dpc_lists.specs.Lists.{nth, changed}
 use Rattle.dpc_model.specs.Parts.{shown_of}
 use Rattle.dpc_model.specs.PartStands.{OutputValue}
 use Rattle.dpc_model.specs.Sessions.{no_session, is_newer_than_kept, first_batch}

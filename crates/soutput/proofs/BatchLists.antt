@@ -2,7 +2,7 @@
 use Rattle.std.proofs.Common.{◌≡◌, ℕ, zero, suc, ◌+◌, ◌<◌, true, false, List, [], ◌∷◌, ◌++◌, map, take, drop, length, refl, ap, ◌∙◌, arith, Option, Some, None, slice_index_or, slice_set}
 use Rattle.std.specs.Prelude.{◌^◌, nat_lt}
 use Rattle.std.proofs.lemmas.Bool.{and_parts, or_parts, ltb-true}
-use Rattle.dpc_model.specs.Lists.{list_all, list_any}
+use Rattle.dpc_lists.specs.Lists.{list_all, list_any}
 use Rattle.dpc_model.specs.Sessions.{link_of, with_batch, batches_from, batches_of}
 use Rattle.dpc_model.specs.declared.tuples.Item.{Item}
 use Rattle.dpc_model.specs.declared.messages.Sess.{Sess}

@@ -1,7 +1,7 @@
 -- Whether there is an item to give.
 use Rattle.std.proofs.Common.{◌≡◌, ℕ, Bool, true, false, ◌&&◌, List, [], ◌∷◌, ◌++◌, map, refl, ◌∙◌, Option, Some, None}
 use Rattle.std.specs.Prelude.{not, is_none}
-use Rattle.dpc_model.specs.Lists.{is_nil}
+use Rattle.dpc_lists.specs.Lists.{is_nil}
 use Rattle.dpc_model.specs.PartStands.{OutputValue}
 use Rattle.dpc_model.specs.Sessions.{stable_items, boundary_item, tentative_items, passed_item, item_if, given_items, with_batch, with_batches}
 use Rattle.dpc_model.specs.declared.tuples.Tuple.{Tuple}

@@ -2,7 +2,7 @@
 use Rattle.std.proofs.Common.{◌≡◌, ℕ, ◌+◌, ◌-◌, ◌≤◌, Bool, List, [], ◌∷◌, ◌++◌, take, drop, length, refl, sym, ap, subst, ◌∙◌, arith, max, min, length-append, Option, Some, None}
 use Rattle.std.specs.Prelude.{unwrap_or}
 use Rattle.std.proofs.lemmas.List.{drop-drop, length-take-le, drop-append-le, take-append-drop}
-use Rattle.dpc_model.specs.Lists.{nth, changed}
+use Rattle.dpc_lists.specs.Lists.{nth, changed}
 use Rattle.dpc_model.specs.Parts.{Stream, Outputs, shown_of}
 use Rattle.dpc_model.specs.PartStands.{OutputValue, StandsForOutput}
 use Rattle.dpc_model.specs.Sessions.{Acked, no_session, base_after, after_ack, given_items, batches_of, with_batches, Answered, answer_to, view_items}

@@ -1,6 +1,6 @@
 -- What an output gives its readers, on what contracts see of it.
 use Rattle.std.specs.Prelude.{◌≡◌, ℕ, ◌+◌, ◌-◌, ◌^◌, ◌<◌, Bool, true, false, not, ◌&&◌, is_none, nat_lt, List, [], ◌∷◌, ◌++◌, length, drop, Option, Some, None, unwrap_or, option_map, map, replicate}
-use Rattle.dpc_model.specs.Lists.{nth, changed, list_all, is_nil}
+use Rattle.dpc_lists.specs.Lists.{nth, changed, list_all, is_nil}
 use Rattle.dpc_model.specs.Parts.{Stream, shown_of}
 use Rattle.dpc_model.specs.PartStands.{OutputValue}
 use Rattle.dpc_model.specs.Sessions.{no_session, with_session_shut, base_after, Given, given_items, with_batches, Answered, answer_to}

@@ -1,6 +1,6 @@
 -- How an output that forgets goes on to stand for the plain one.
 use Rattle.std.specs.Prelude.{◌≡◌, ℕ, Bool, [], ◌∷◌, ◌++◌, length, Option, Some, None, unwrap_or}
-use Rattle.dpc_model.specs.Lists.{nth, changed}
+use Rattle.dpc_lists.specs.Lists.{nth, changed}
 use Rattle.dpc_model.specs.Parts.{Stream, Outputs, shown_of}
 use Rattle.dpc_model.specs.PartStands.{OutputValue, StandsForOutput}
 use Rattle.dpc_model.specs.Sessions.{no_session, base_after, after_ack, given_items, batches_of, with_batches, answer_to}

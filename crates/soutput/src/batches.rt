@@ -1,14 +1,14 @@
 //! The sessions of all readers, and a batch to each.
 ghost use Rattle.std.specs.Prelude.{◌≡◌, ◌+◌, ◌^◌, ◌<◌, ◌++◌, true, nat_lt, map, IfOk, OnOk};
-ghost use Rattle.dpc_model.specs.Lists.{list_all, list_any};
+ghost use Rattle.dpc_lists.specs.Lists.{list_all, list_any};
 ghost use Rattle.dpc_model.specs.Sessions.{opening_session, with_batch, with_session_shut, link_of, batches_of};
 ghost use Rattle.dpc_model.specs.declared.sessions.Sub.{Sub};
 ghost use Rattle.soutput.specs.Giving.{batch_to};
 
-use dpc_model::faults::NoMemory;
+use dpc_lists::faults::NoMemory;
+use dpc_lists::shared::Shared;
 use dpc_model::messages::{Message, Sess};
 use dpc_model::sessions::Sub;
-use dpc_model::shared::Shared;
 use dpc_model::tuples::Item;
 use std::alloc::Global;
 

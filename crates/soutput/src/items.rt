@@ -5,7 +5,7 @@ ghost use Rattle.dpc_model.specs.Sessions.{stable_items, tentative_items, bounda
 ghost use Rattle.soutput.specs.Giving.{given_behind};
 
 use crate::fresh::Fresh;
-use dpc_model::exact::Exact;
+use dpc_lists::exact::Exact;
 use dpc_model::messages::{NodeState, Subscribe};
 use dpc_model::tuples::{Item, Tuple};
 use std::alloc::{AllocError, Global};

@@ -7,8 +7,8 @@ ghost use Rattle.soutput.specs.Giving.{new_output, with_base_after, fresh_items,
 use crate::batches::{Sends, any_open, batches, count_batches};
 use crate::fresh::Fresh;
 use crate::items::items_of;
-use dpc_model::faults::NoMemory;
-use dpc_model::lists::Listed;
+use dpc_lists::faults::NoMemory;
+use dpc_lists::lists::Listed;
 use dpc_model::sessions::Sub;
 use dpc_model::tuples::{Item, Tuple, Tuples};
 use output_buffer::buffer::OutputBuffer;

@@ -2,9 +2,9 @@
 use crate::batches::Sends;
 use crate::fresh::Fresh;
 use crate::output::SOutput;
-use dpc_model::exact::Exact;
-use dpc_model::faults::NoMemory;
-use dpc_model::lists::Listed;
+use dpc_lists::exact::Exact;
+use dpc_lists::faults::NoMemory;
+use dpc_lists::lists::Listed;
 use dpc_model::messages::{Message, NodeState, Sess, Subscribe};
 use dpc_model::tuples::{Item, Tuple, Tuples, Vals};
 use std::alloc::{AllocError, Global};

@@ -5,7 +5,7 @@ use Rattle.std.proofs.lemmas.Bool.{ltb-true, ltb-false}
 use Rattle.std.proofs.lemmas.List.Elements.{All-head, All-tail, All-cons, All-nil, All-weaker}
 use Rattle.std.specs.List.{All, AllZip}
 use Rattle.std.specs.Prelude.{if◌then◌else◌}
-use Rattle.dpc_model.specs.Lists.{nth, changed, push}
+use Rattle.dpc_lists.specs.Lists.{nth, changed, push}
 use Rattle.dpc_model.specs.Due.{Stamps, stamp_of, with_stamp, with_stamps}
 use Rattle.dpc_model.specs.Reading.{Reader, Reading, NoReading, Skipped, Folded, reading, fold_items, taken_first, tuples_in}
 use Rattle.dpc_model.specs.Reading.{Taken as IsTakenAs}
@@ -18,7 +18,7 @@ use Rattle.dpc_model.specs.declared.tuples.Item.TheVariants.{Stable, Tentative, 
 use Rattle.dpc_model.specs.declared.batches.Taken.{Taken}
 use Rattle.dpc_model.specs.declared.batches.Taken.TheVariants as taken_as
 use Rattle.dpc_model.specs.declared.messages.Sess.{Sess}
-use Rattle.dpc_model.proofs.Elements.{length-changed}
+use Rattle.dpc_lists.proofs.Elements.{length-changed}
 use Rattle.inlet.specs.Forgotten.{IsTaken, times_of}
 use Rattle.inlet.specs.declared.inlet.Absorbed.{Absorbed}
 use Rattle.inlet.specs.declared.inlet.Absorbed.TheVariants as absorbed

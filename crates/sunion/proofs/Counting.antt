@@ -4,7 +4,7 @@ use Rattle.std.proofs.lemmas.Bool.{ltb-true, ltb-false, lt-ltb, le-leb, leb-true
 use Rattle.std.proofs.lemmas.Grind.{common_steps}
 use Rattle.std.proofs.Math.Nat.{le-div_iff_mul-le}
 use Rattle.std.proofs.lemmas.Nat.{le-div}
-use Rattle.dpc_model.specs.Lists.{last_below, list_all}
+use Rattle.dpc_lists.specs.Lists.{last_below, list_all}
 use Rattle.dpc_model.specs.Due.{reach, is_passed}
 use Rattle.dpc_model.specs.Inlets.{restarted_inlet}
 use Rattle.dpc_model.specs.Reading.{Reader, stable_reader}

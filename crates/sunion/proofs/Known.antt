@@ -4,7 +4,7 @@ use Rattle.std.proofs.lemmas.Grind.{common_steps}
 use Rattle.std.proofs.lemmas.Bool.{lt-ltb}
 use Rattle.std.proofs.lemmas.List.Elements.{All-head, All-tail, filter-append}
 use Rattle.std.specs.List.{All, AllZip}
-use Rattle.dpc_model.specs.Lists.{least, list_all, is_nil, last_below}
+use Rattle.dpc_lists.specs.Lists.{least, list_all, is_nil, last_below}
 use Rattle.dpc_model.specs.Streams.{InOrder, is_below}
 use Rattle.dpc_model.specs.Reading.{Reader}
 use Rattle.dpc_model.specs.Operators.{between}

@@ -11,7 +11,7 @@ use Rattle.inlet.proofs.Standing.{new-stands, start_at-stands, reopen-stands, he
 use Rattle.sunion.specs.Laws.{inlets_anew, StartStands, RestartingStands, ClosingStands, UndoingStands, SessionsStand, HearingTells}
 use Rattle.sunion.specs.Ports.{at_opening, behind_snapshot, begun_anew}
 use Rattle.sunion.specs.Unions.{bucket_in, no_inlet, no_value}
-use Rattle.dpc_model.specs.Lists.{nth}
+use Rattle.dpc_lists.specs.Lists.{nth}
 use Rattle.sunion.proofs.Standing.{stands-at, stands-changed}
 
 new-each : (b inc n : ℕ) → AllZip (StandsForInlet b) (replicate n (at_opening inc)) (replicate n (new_inlet inc))

@@ -5,7 +5,7 @@ use Rattle.std.proofs.lemmas.List.Elements.{All-append, All-weaker}
 use Rattle.std.proofs.lemmas.Grind.{common_steps}
 use Rattle.std.specs.List.{All}
 use Rattle.std.specs.Prelude.{is_some}
-use Rattle.dpc_model.specs.Lists.{nth, changed, last_below}
+use Rattle.dpc_lists.specs.Lists.{nth, changed, last_below}
 use Rattle.dpc_model.specs.Due.{Stamps, waited_long}
 use Rattle.dpc_model.specs.Reading.{tuples_in}
 use Rattle.dpc_model.specs.declared.tuples.Tuple.{Tuple}

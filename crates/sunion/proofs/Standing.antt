@@ -6,9 +6,9 @@ use Rattle.std.proofs.lemmas.List.Elements.{All-nil, All-cons, All-head, All-tai
 use Rattle.std.specs.List.{All, AllZip, filter}
 use Rattle.std.specs.Prelude.{unwrap_or, if◌then◌else◌}
 use Rattle.dpc_model.specs.Streams.{InOrder, NoneBelow, time_of}
-use Rattle.dpc_model.proofs.Elements.{get-drop}
+use Rattle.dpc_lists.proofs.Elements.{get-drop}
 use Rattle.inlet.proofs.Dropping.{drop_below-past}
-use Rattle.dpc_model.specs.Lists.{nth, changed}
+use Rattle.dpc_lists.specs.Lists.{nth, changed}
 use Rattle.dpc_model.specs.Due.{Stamps, stamp_of}
 use Rattle.dpc_model.specs.Inlets.{InletState, with_next_session, asked_by}
 use Rattle.dpc_model.specs.Parts.{Inputs}

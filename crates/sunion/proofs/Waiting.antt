@@ -2,7 +2,7 @@
 use Rattle.std.proofs.Common.{◌≡◌, ℕ, zero, suc, ◌+◌, ◌-◌, ◌<◌, ◌≤◌, Bool, true, false, nat_le, ◌&&◌, ◌==◌, min, inl, inr, List, [], ◌∷◌, length, refl, sym, ap, ◌∙◌, arith, Option, Some, None}
 use Rattle.std.proofs.lemmas.Grind.{common_steps}
 use Rattle.std.proofs.lemmas.Bool.{cases_order}
-use Rattle.dpc_model.specs.Lists.{nth, last_below}
+use Rattle.dpc_lists.specs.Lists.{nth, last_below}
 use Rattle.dpc_model.specs.Due.{stamp_of, waited_long}
 use Rattle.sunion.specs.Clocks.{stamps_from}
 use Rattle.sunion.proofs.Stamping.{is_waiting}

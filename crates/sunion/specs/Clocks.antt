@@ -1,6 +1,6 @@
 -- When the first tuple of each bucket came, from a bucket on.
 use Rattle.std.specs.Prelude.{ℕ, ◌+◌, ◌-◌, ◌/◌, nat_lt, if◌then◌else◌, List, [], ◌∷◌, Option, Some, None}
-use Rattle.dpc_model.specs.Lists.{changed}
+use Rattle.dpc_lists.specs.Lists.{changed}
 use Rattle.dpc_model.specs.Due.{Stamps}
 
 -- what a place for each bucket from k on says

@@ -1,6 +1,6 @@
 -- How the inputs go on to stand for the plain ones, where a call's clause gives the new value.
 use Rattle.std.specs.Prelude.{◌≡◌, ℕ, ◌+◌, ◌*◌, ◌<◌, List, [], ◌∷◌, length, replicate, map, All, Option}
-use Rattle.dpc_model.specs.Lists.{nth, changed}
+use Rattle.dpc_lists.specs.Lists.{nth, changed}
 use Rattle.dpc_model.specs.Inlets.{InletState, new_inlet, restarted_inlet, sess_of, with_next_session, after_link, shows_loss}
 use Rattle.dpc_model.specs.Parts.{Inputs}
 use Rattle.dpc_model.specs.Reading.{stable_reader}

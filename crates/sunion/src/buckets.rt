@@ -5,8 +5,8 @@ ghost use Rattle.dpc_model.specs.Operators.{between};
 ghost use Rattle.dpc_model.specs.Fragments.{tag, tagged_from, serial};
 ghost use Rattle.sunion.specs.Ports.{bucket_of, KeptInOrder};
 
-use dpc_model::exact::Exact;
-use dpc_model::faults::NoMemory;
+use dpc_lists::exact::Exact;
+use dpc_lists::faults::NoMemory;
 use dpc_model::streams::count_below;
 use dpc_model::tuples::{Tagged, Tuple};
 use inlet::inlet::Inlet;

@@ -1,12 +1,12 @@
 //! When the first tuple of each bucket came: a place for each bucket, from the cursor's on.
 ghost use Rattle.std.specs.Prelude.{◌≡◌, ◌≤◌, ◌<◌, ◌-◌, ◌/◌, ℕ, length, drop, OnOk, All, [], ◌∷◌, nat_le, ◌&&◌, None};
-ghost use Rattle.dpc_model.specs.Lists.{changed, last_below, nth};
+ghost use Rattle.dpc_lists.specs.Lists.{changed, last_below, nth};
 ghost use Rattle.dpc_model.specs.Due.{waited_long};
 ghost use Rattle.dpc_model.specs.Reading.{tuples_in};
 ghost use Rattle.dpc_model.specs.declared.tuples.Tuple.{Tuple};
 ghost use Rattle.sunion.specs.Clocks.{stamps_from, first_stamp, stamped};
 
-use dpc_model::faults::NoMemory;
+use dpc_lists::faults::NoMemory;
 use dpc_model::tuples::Item;
 use std::collections::VecDeque;
 

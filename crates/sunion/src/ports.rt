@@ -2,7 +2,7 @@
 ghost use Rattle.std.specs.Prelude.{◌≡◌, map, replicate, length, IfOk};
 ghost use Rattle.sunion.specs.Ports.{at_opening, behind_snapshot, begun_anew, forgetting};
 
-use dpc_model::faults::NoMemory;
+use dpc_lists::faults::NoMemory;
 use dpc_model::messages::Sess;
 use inlet::inlet::Inlet;
 use std::alloc::Global;

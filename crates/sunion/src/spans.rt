@@ -1,7 +1,7 @@
 //! How many buckets are complete, or passed, at every port.
 ghost use Rattle.std.specs.Prelude.{◌≡◌, ◌<◌};
 ghost use Rattle.dpc_model.specs.Due.{is_passed};
-ghost use Rattle.dpc_model.specs.Lists.{last_below};
+ghost use Rattle.dpc_lists.specs.Lists.{last_below};
 ghost use Rattle.sunion.specs.Ports.{least_over, complete_at, passed_at, passing_view};
 
 use inlet::inlet::Inlet;

@@ -1,6 +1,6 @@
 //! The inputs of a node by port, in buckets of time.
 ghost use Rattle.std.specs.Prelude.{◌≡◌, ◌↔◌, ◌+◌, ◌-◌, ◌*◌, ◌/◌, ◌^◌, ◌<◌, ◌≤◌, ℕ, List, [], true, false, length, IfOk, OnOk, OnErr};
-ghost use Rattle.dpc_model.specs.Lists.{nth, changed};
+ghost use Rattle.dpc_lists.specs.Lists.{nth, changed};
 ghost use Rattle.dpc_model.specs.Inlets.{InletState, with_next_session, after_link, shows_loss, asked_by, sess_of};
 ghost use Rattle.dpc_model.specs.Parts.{Inputs, view_of};
 ghost use Rattle.dpc_model.specs.PartStands.{UnionValue, InletValue};
@@ -11,7 +11,7 @@ use crate::buckets::bucket;
 use crate::clocks::{Clocks, drop_places, farthest, last_waiting, make_places, stamp};
 use crate::ports::{drop_below, new_ports, restarted_ports};
 use crate::spans::{count_complete, last_passed};
-use dpc_model::faults::NoMemory;
+use dpc_lists::faults::NoMemory;
 use dpc_model::messages::{Sess, Subscribe};
 use dpc_model::tuples::{Item, Tagged};
 use inlet::inlet::{Absorbed, Inlet};

@@ -2,7 +2,7 @@
 use Rattle.std.proofs.Common.{◌≡◌, ℕ, zero, suc, ◌+◌, ◌<◌, List, [], ◌∷◌, ◌++◌, map, length, take, get_or, refl, ap, arith, Option, Some, None, unwrap_or, ℤ, append_assoc, append-nil, ◌∙◌}
 use Rattle.std.specs.List.{flat_map, range_with_len}
 use Rattle.std.proofs.lemmas.List.Concat.{flat_map-append}
-use Rattle.dpc_model.specs.Lists.{push, last_or}
+use Rattle.dpc_lists.specs.Lists.{push, last_or}
 use Rattle.dpc_model.specs.Operators.{output_of}
 use Rattle.dpc_model.specs.Fragments.{serial, read_wire, outputs_after, fragment_value, stream_upto, fragments_upto, IsSoundKind, AreSoundOps, AreSoundFrags}
 use Rattle.dpc_model.specs.declared.tuples.Tuple.{Tuple}

@@ -3,7 +3,7 @@ use Rattle.std.proofs.Common.{◌≡◌, ℕ, zero, suc, ◌+◌, ◌<◌, ◌�
 use Rattle.std.proofs.lemmas.List.Elements.{recursion_from_All, All-from_recursion}
 use Rattle.std.proofs.lemmas.List.Sorted.{IsNonDecreasingBy-from_all_adjacent}
 use Rattle.std.specs.List.{AllByRecursion}
-use Rattle.dpc_model.specs.Lists.{nth}
+use Rattle.dpc_lists.specs.Lists.{nth}
 use Rattle.dpc_model.specs.Streams.{time_of, InOrder}
 use Rattle.dpc_model.specs.Fragments.{IsSound, IsSoundKind, AreSoundOps, AreSoundFrags, ReadsBelow, ReadBefore}
 use Rattle.dpc_model.specs.declared.tuples.Tuple.{Tuple}

@@ -2,7 +2,7 @@
 #![tactic(auto)]
 
 ghost use Rattle.std.specs.Prelude.{◌≡◌, [], map, IfOk, All};
-ghost use Rattle.dpc_model.specs.Lists.{nth};
+ghost use Rattle.dpc_lists.specs.Lists.{nth};
 ghost use Rattle.dpc_model.specs.Streams.{InOrder};
 ghost use Rattle.dpc_model.specs.Operators.{output_of};
 ghost use Rattle.dpc_model.specs.Fragments.{IsSound, IsSoundKind, AreSoundOps, serial, read_wire, fragment_value, stream_upto, ideal_upto};
@@ -11,9 +11,9 @@ pub mod operators;
 pub mod sound;
 pub mod windows;
 
-use dpc_model::exact::Exact;
-use dpc_model::faults::NoMemory;
-use dpc_model::lists::Listed;
+use dpc_lists::exact::Exact;
+use dpc_lists::faults::NoMemory;
+use dpc_lists::lists::Listed;
 use dpc_model::operators::{OpKind, OpSpec, Wire};
 use dpc_model::plans::{Plan, StreamRef};
 use dpc_model::tuples::{Tuple, Tuples};

@@ -1,13 +1,13 @@
 //! The operators without windows, over whole lists.
 ghost use Rattle.std.specs.Prelude.{◌≡◌, ◌++◌, IfOk, OnOk};
-ghost use Rattle.dpc_model.specs.Lists.{sort_by};
+ghost use Rattle.dpc_lists.specs.Lists.{sort_by};
 ghost use Rattle.dpc_model.specs.Streams.{time_of, cut as cut_list};
 ghost use Rattle.dpc_model.specs.Operators.{filtered, mapped, united, joined, is_within, keys_agree, paired, pairs_with};
 
-use dpc_model::exact::Exact;
+use dpc_lists::exact::Exact;
+use dpc_lists::faults::NoMemory;
+use dpc_lists::lists::Listed;
 use dpc_model::expressions::Expr;
-use dpc_model::faults::NoMemory;
-use dpc_model::lists::Listed;
 use dpc_model::tuples::{Tuple, Tuples};
 use ops_stateless::eval;
 use ops_stateless::map::mapped_one;

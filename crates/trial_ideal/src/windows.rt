@@ -4,9 +4,9 @@ ghost use Rattle.dpc_model.specs.Values.{clamp};
 ghost use Rattle.dpc_model.specs.Operators.{between as between_list, window_count, group_rows, total_of, sum_of, least_value, greatest_value, distinct_values, aggregated};
 ghost use Rattle.trial_ideal.specs.Rows.{column_values, with_value, group_row};
 
-use dpc_model::exact::Exact;
-use dpc_model::faults::NoMemory;
-use dpc_model::lists::Listed;
+use dpc_lists::exact::Exact;
+use dpc_lists::faults::NoMemory;
+use dpc_lists::lists::Listed;
 use dpc_model::operators::Agg;
 use dpc_model::tuples::{Tuple, Tuples, Vals};
 use std::alloc::Global;

@@ -1,7 +1,7 @@
 //! Fragments of one operator and of several, and streams for them.
+use dpc_lists::faults::NoMemory;
+use dpc_lists::lists::{Listed, Name};
 use dpc_model::expressions::{BinOp, Expr, ExprNode};
-use dpc_model::faults::NoMemory;
-use dpc_model::lists::{Listed, Name};
 use dpc_model::operators::{Agg, OpKind, OpSpec, Wire};
 use dpc_model::plans::{FragSpec, Plan, SourceSpec, StreamRef};
 use dpc_model::tuples::{Tuple, Tuples, Vals};

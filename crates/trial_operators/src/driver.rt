@@ -1,14 +1,15 @@
 //! A fragment over whole streams, bucket by bucket.
 ghost use Rattle.std.specs.Prelude.{◌≤◌, length};
 
+use dpc_lists::exact::Exact;
+use dpc_lists::faults::NoMemory;
 use dpc_model::engines::{Engine, fits_bucket};
-use dpc_model::exact::Exact;
-use dpc_model::faults::{NoMemory, StepFault};
+use dpc_model::faults::StepFault;
 use dpc_model::plans::Plan;
 use dpc_model::tuples::{Tagged, Tuple};
 use fragment_mill::mill::FragMill;
-use trial_ideal::sound::is_sound;
 use std::alloc::{AllocError, AllocFailed, Global};
+use trial_ideal::sound::is_sound;
 
 /// Why a plan could not be milled.
 #[derive(Clone, Copy, PartialEq, Eq, Debug)]

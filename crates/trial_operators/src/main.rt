@@ -9,7 +9,7 @@ mod tests;
 
 use crate::diagrams::Diagram;
 use crate::driver::{Miller, Trouble, milled};
-use dpc_model::faults::NoMemory;
+use dpc_lists::faults::NoMemory;
 use dpc_model::tuples::Tuple;
 use std::alloc::Global;
 use std::env;

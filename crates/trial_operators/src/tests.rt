@@ -2,19 +2,19 @@
 //! the plain program over whole lists.
 use crate::diagrams::{Diagram, binary, generated, leaf, operator, plan};
 use crate::driver::{Miller, Trouble, milled};
+use dpc_lists::exact::Exact;
+use dpc_lists::faults::NoMemory;
+use dpc_lists::lists::Listed;
 use dpc_model::engines::{Engine, fits_bucket};
-use dpc_model::exact::Exact;
 use dpc_model::expressions::{BinOp, ExprNode};
-use dpc_model::faults::NoMemory;
-use dpc_model::lists::Listed;
 use dpc_model::operators::{Agg, OpKind, OpSpec, Wire};
 use dpc_model::plans::{Plan, StreamRef};
 use dpc_model::tuples::{Tuple, Tuples, Vals};
 use fragment_mill::mill::FragMill;
-use trial_ideal::ideal;
-use trial_ideal::sound::is_sound;
 use std::alloc::Global;
 use std::test::Fail;
+use trial_ideal::ideal;
+use trial_ideal::sound::is_sound;
 
 /// A time and values.
 type Row = (u64, &'static [i64]);

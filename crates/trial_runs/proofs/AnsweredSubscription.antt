@@ -3,7 +3,7 @@
 -- no reading of what was sent to the other. And a session that a subscription opened, so that the law speaks of some.
 use Rattle.std.proofs.Common.{◌≡◌, ℕ, zero, suc, true, false, pos, List, [], ◌∷◌, refl, arith, Option, Some, None, slice_get}
 use Rattle.std.specs.Prelude.{codes}
-use Rattle.dpc_model.specs.Lists.{list_all}
+use Rattle.dpc_lists.specs.Lists.{list_all}
 use Rattle.dpc_model.specs.Streams.{InOrder}
 use Rattle.dpc_model.specs.Fragments.{log_of}
 use Rattle.dpc_model.specs.Formula as formula

@@ -1,6 +1,6 @@
 -- A plan with one fragment and one client is checked where a few tests hold.
 use Rattle.std.proofs.Common.{◌≡◌, ℕ, zero, suc, ◌<◌, true, length, arith}
-use Rattle.dpc_model.specs.Lists.{list_all}
+use Rattle.dpc_lists.specs.Lists.{list_all}
 use Rattle.dpc_model.specs.declared.plans.Plan.{Plan}
 use Rattle.node_model.specs.Clients.{client_stream}
 use Rattle.law_safety.specs.Plans.{IsChecked, IsCheckedPlan, inputs_at, has_senders}

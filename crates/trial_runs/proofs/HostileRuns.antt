@@ -1,6 +1,6 @@
 -- The laws of every run, at runs that crashes, restarts and repeats cut into.
 use Rattle.std.proofs.Common.{◌≡◌, ℕ, zero, suc, ◌+◌, true, List, length, arith, refl}
-use Rattle.dpc_model.specs.Lists.{list_all}
+use Rattle.dpc_lists.specs.Lists.{list_all}
 use Rattle.dpc_model.specs.Streams.{InOrder}
 use Rattle.dpc_model.specs.Fragments.{log_of}
 use Rattle.dpc_model.specs.Actors.{nodes_of}

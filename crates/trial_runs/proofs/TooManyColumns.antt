@@ -2,7 +2,7 @@
 -- node sends a tuple with too many columns.
 use Rattle.std.proofs.Common.{◌≡◌, ℕ, ◌+◌, Bool, true, false, ◌&&◌, ◌==◌, nat_lt, nat_le, pos, List, [], ◌∷◌, map, length, refl, arith, None}
 use Rattle.std.specs.Prelude.{codes}
-use Rattle.dpc_model.specs.Lists.{list_all, numbered}
+use Rattle.dpc_lists.specs.Lists.{list_all, numbered}
 use Rattle.dpc_model.specs.Actors.{senders_of}
 use Rattle.dpc_model.specs.Fragments.{ideal, ideal_upto, log_of}
 use Rattle.dpc_model.specs.Inlets.{sess_of}

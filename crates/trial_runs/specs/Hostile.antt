@@ -1,7 +1,7 @@
 -- Runs that a crash and a restart cut into, and journals that are not live.
 use Rattle.std.specs.Prelude.{◌≡◌, ℕ, Bool, true, false, not, ◌&&◌, List, [], ◌∷◌, ◌++◌, map, length, take, drop, reverse, refl}
 use Rattle.std.specs.List.{list_all, list_any}
-use Rattle.dpc_model.specs.Lists.{range_with_len, is_nil}
+use Rattle.dpc_lists.specs.Lists.{range_with_len, is_nil}
 use Rattle.dpc_model.specs.declared.tuples.Item.{Item}
 use Rattle.dpc_model.specs.declared.tuples.Item.TheVariants.{Stable, Tentative, Passed, Boundary, Undo, RecDone}
 use Rattle.dpc_model.specs.declared.messages.Event.{Event}

@@ -1,7 +1,7 @@
 -- Open sessions that carried items, so that the session law speaks of some.
 use Rattle.std.specs.Prelude.{◌≡◌, ℕ, true, nat_le, [], ◌∷◌, length, take, Some, None, refl}
 use Rattle.std.specs.List.{list_all}
-use Rattle.dpc_model.specs.Lists.{nth}
+use Rattle.dpc_lists.specs.Lists.{nth}
 use Rattle.dpc_model.specs.declared.scripts.Script.{Script}
 use Rattle.dpc_model.specs.Sessions.{no_session, link_of}
 use Rattle.world_model.specs.Worlds.{new_world, run, node_at}

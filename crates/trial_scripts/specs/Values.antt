@@ -1,6 +1,6 @@
 -- Trials of a script's value beside its text.
 use Rattle.std.specs.Prelude.{ℕ, Bool, true, false, not, ◌&&◌, ◌==◌, List, [], Option, Some, None, is_none, fold, flat_map, option_map, unwrap_or, bytes_eq, map}
-use Rattle.dpc_model.specs.Lists.{list_all, list_any}
+use Rattle.dpc_lists.specs.Lists.{list_all, list_any}
 use Rattle.dpc_model.specs.Words.{text_of}
 use Rattle.dpc_model.specs.ScriptText.{script_text}
 use Rattle.dpc_model.specs.declared.plans.ClientSpec.{ClientSpec}

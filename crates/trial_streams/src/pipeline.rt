@@ -1,7 +1,7 @@
 //! A node without operators: batches go through an inlet, its buckets, and an output with two readers.
-use dpc_model::exact::Exact;
-use dpc_model::faults::NoMemory;
-use dpc_model::lists::Listed;
+use dpc_lists::exact::Exact;
+use dpc_lists::faults::NoMemory;
+use dpc_lists::lists::Listed;
 use dpc_model::messages::{NodeState, Sess, Subscribe};
 use dpc_model::tuples::{Item, Tuple, Vals};
 use soutput::fresh::Fresh;

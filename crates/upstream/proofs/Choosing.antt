@@ -1,10 +1,10 @@
 -- The replica that is chosen is one of the replicas.
 use Rattle.std.proofs.Common.{◌≡◌, ℕ, ◌<◌, true, false, cond, ◌==◌, ap, List, map, length, Option, Some, None, unwrap_or, refl, arith}
 use Rattle.std.proofs.lemmas.List.{length-map}
-use Rattle.dpc_model.specs.Lists.{nth, least, place_of}
+use Rattle.dpc_lists.specs.Lists.{nth, least, place_of}
 use Rattle.dpc_model.specs.Replicas.{Watch, rank_of, rank_order, choose}
 use Rattle.dpc_model.specs.declared.messages.Rank.{Rank}
-use Rattle.dpc_model.proofs.Places.{place-within}
+use Rattle.dpc_lists.proofs.Places.{place-within}
 
 or-within : (current n : ℕ) (o : Option ℕ) → ((i : ℕ) → o ≡ Some i → i < n) → current < n → unwrap_or o current < n
 or-within current n None h low = low

@@ -1,6 +1,6 @@
 -- The place of an actor among the senders, and a list of what is known at first.
 use Rattle.std.proofs.Common.{◌≡◌, ℕ, true, refl, Some, Bool}
-use Rattle.dpc_model.specs.Lists.{nth}
+use Rattle.dpc_lists.specs.Lists.{nth}
 use Rattle.dpc_model.specs.Ports.{choice_at, must_reopen}
 use Rattle.upstream.specs.Upstreams.{UpstreamValue, port_by, asked_actor}
 

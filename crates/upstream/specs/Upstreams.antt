@@ -1,6 +1,6 @@
 -- What a reader knows of the senders of its stream, and what each call makes of it.
 use Rattle.std.specs.Prelude.{ℕ, ◌+◌, Bool, min, if◌then◌else◌, List, map, Option, Some, None}
-use Rattle.dpc_model.specs.Lists.{nth, changed}
+use Rattle.dpc_lists.specs.Lists.{nth, changed}
 use Rattle.dpc_model.specs.Inlets.{new_inlet}
 use Rattle.dpc_model.specs.Replicas.{new_watch, after_beat, after_tick, with_mark, after_count}
 use Rattle.dpc_model.specs.Ports.{Port, choice_at, must_reopen}

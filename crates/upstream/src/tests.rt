@@ -5,8 +5,8 @@ ghost use Rattle.dpc_model.specs.declared.plans.StreamRef.TheVariants.{Frag};
 ghost use Rattle.upstream.specs.Upstreams.{new_upstream};
 
 use crate::upstream::Upstream;
-use dpc_model::faults::NoMemory;
-use dpc_model::lists::Listed;
+use dpc_lists::faults::NoMemory;
+use dpc_lists::lists::Listed;
 use dpc_model::messages::{Beat, NodeState};
 use dpc_model::plans::{FragSpec, Plan, SourceSpec, StreamRef};
 use std::alloc::{AllocError, Global};

@@ -1,13 +1,13 @@
 //! What a reader knows of the replicas that send its stream.
 ghost use Rattle.std.specs.Prelude.{◌≡◌, ◌<◌, ◌≤◌, ◌==◌, ℕ, false, length, position, IfOk};
-ghost use Rattle.dpc_model.specs.Lists.{place_of};
+ghost use Rattle.dpc_lists.specs.Lists.{place_of};
 ghost use Rattle.dpc_model.specs.Actors.{senders_of};
 ghost use Rattle.dpc_model.specs.Ports.{all_truncated};
 ghost use Rattle.dpc_model.specs.declared.plans.TheConstants.{MOST_REPLICAS};
 ghost use Rattle.upstream.specs.Upstreams.{new_upstream, with_marks_ended, with_beat, with_truncation, with_tick, with_no_tick, port_by, with_choice, asked_actor};
 
 use actor_lists::lists::{place_of, senders_of};
-use dpc_model::faults::NoMemory;
+use dpc_lists::faults::NoMemory;
 use dpc_model::messages::Beat;
 use dpc_model::plans::{Plan, StreamRef};
 use input_monitor::monitor::Monitor;

@@ -5,7 +5,7 @@ ghost use Rattle.world_core.specs.Runs.{fault_of};
 ghost use Rattle.world_core.specs.declared.faults.ApplyFault.TheVariants as apply_fault;
 ghost use Rattle.world_core.specs.declared.faults.CommitFault.TheVariants as commit_fault;
 
-use dpc_model::faults::NoMemory;
+use dpc_lists::faults::NoMemory;
 use node_core::faults::Point;
 use std::alloc::{AllocError, AllocFailed};
 use world_parts::faults::{CommitFault as PartFault, EventFault};

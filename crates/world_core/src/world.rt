@@ -8,7 +8,7 @@ ghost use Rattle.world_core.specs.Runs.{world_of, WouldReach};
 ghost use Rattle.world_core.specs.declared.faults.ApplyFault.TheVariants as fault;
 
 use crate::faults::ApplyFault;
-use dpc_model::faults::NoMemory;
+use dpc_lists::faults::NoMemory;
 use dpc_model::messages::Event;
 use dpc_model::plans::Plan;
 use std::alloc::Global;

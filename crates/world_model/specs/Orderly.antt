@@ -1,6 +1,6 @@
 -- What every event keeps beside what is safe: without it a step could break what is safe.
 use Rattle.std.specs.Prelude.{◌≡◌, ℕ, ◌+◌, Bool, true, false, not, ◌&&◌, ◌||◌, ◌==◌, nat_lt, nat_le, min, if◌then◌else◌, List, [], ◌∷◌, length, map, IfSome}
-use Rattle.dpc_model.specs.Lists.{nth, is_nil, least, list_all, numbered}
+use Rattle.dpc_lists.specs.Lists.{nth, is_nil, least, list_all, numbered}
 use Rattle.dpc_model.specs.Streams.{count_below}
 use Rattle.dpc_model.specs.Fragments.{log_of}
 use Rattle.dpc_model.specs.Columns.{stream_columns}

@@ -1,7 +1,7 @@
 -- What holds of every run: what is sent is true, what readers hold is a beginning of the failure-free output, and buckets don't wait too long.
 use Rattle.std.specs.Prelude.{◌≡◌, ◌≢◌, ⊤, ℕ, ◌+◌, ◌*◌, ◌≤◌, Bool, true, false, IsTrue, nat_lt, List, [], ◌∷◌, map, length, drop, take, Contains, Some, None, IfSome, IsSomeAnd, slice_get}
 use Rattle.dpc_model.specs.Actors.{nodes_of}
-use Rattle.dpc_model.specs.Lists.{nth, IsPrefixOf}
+use Rattle.dpc_lists.specs.Lists.{nth, IsPrefixOf}
 use Rattle.dpc_model.specs.Fragments.{ideal, ideal_upto}
 use Rattle.dpc_model.specs.Reading.{Reader, empty_reader, is_sure, Folded, fold_items}
 use Rattle.dpc_model.specs.Actors.{role_of}

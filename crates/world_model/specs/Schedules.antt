@@ -1,6 +1,6 @@
 -- Which events a script lets come next, and the one-thread journal of a script.
 use Rattle.std.specs.Prelude.{ℕ, zero, suc, ◌+◌, ◌-◌, ◌*◌, ◌/◌, ◌%◌, Bool, true, false, not, ◌&&◌, ◌||◌, ◌==◌, nat_lt, nat_le, max, if◌then◌else◌, List, [], ◌∷◌, ◌++◌, map, length, filter, flat_map, fold, drop, reverse, replicate, Option, Some, None, slice_get}
-use Rattle.dpc_model.specs.Lists.{nth, range_with_len, list_any, list_all, has, place_of, is_nil}
+use Rattle.dpc_lists.specs.Lists.{nth, range_with_len, list_any, list_all, has, place_of, is_nil}
 use Rattle.dpc_model.specs.Limits.{most_milled, may_be_milled}
 use Rattle.dpc_model.specs.Actors.{roles_of, nodes_of}
 use Rattle.dpc_model.specs.declared.messages.Event.{Event}

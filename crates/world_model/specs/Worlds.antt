@@ -1,6 +1,6 @@
 -- The world: all actors, the links, and every envelope that was sent; and what each event makes of it.
 use Rattle.std.specs.Prelude.{ℕ, ◌+◌, ◌-◌, ◌^◌, Bool, true, false, not, ◌&&◌, ◌||◌, ◌==◌, nat_lt, nat_le, if◌then◌else◌, List, [], ◌∷◌, ◌++◌, map, length, filter, drop, Option, Some, None, slice_get, is_some}
-use Rattle.dpc_model.specs.Lists.{nth, changed, range_with_len, list_any, push}
+use Rattle.dpc_lists.specs.Lists.{nth, changed, range_with_len, list_any, push}
 use Rattle.dpc_model.specs.Limits.{most_envelopes, most_items, may_be_milled}
 use Rattle.dpc_model.specs.Actors.{role_of, nodes_of, are_linked}
 use Rattle.dpc_model.specs.declared.actors.Role.{Role}

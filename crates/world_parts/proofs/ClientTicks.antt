@@ -1,6 +1,6 @@
 -- A client ticks, where its clock does not fall.
 use Rattle.std.proofs.Common.{◌≡◌, ℕ, ◌+◌, Bool, true, false, cond, List, map, sym, ap, subst, ◌∙◌, arith, Some, Option, slice_get, slice_set, unwrap_or}
-use Rattle.dpc_model.specs.Lists.{changed}
+use Rattle.dpc_lists.specs.Lists.{changed}
 use Rattle.dpc_model.specs.Actors.{role_of}
 use Rattle.dpc_model.specs.declared.actors.Role.{Role}
 use Rattle.dpc_model.specs.declared.actors.Role.TheVariants.{Client as IsClient}

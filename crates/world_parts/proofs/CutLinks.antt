@@ -1,6 +1,6 @@
 -- A link is cut, and is up again.
 use Rattle.std.proofs.Common.{◌≡◌, ℕ, Bool, true, false, not, cond, List, filter, refl, sym, ap, subst}
-use Rattle.dpc_model.specs.Lists.{push}
+use Rattle.dpc_lists.specs.Lists.{push}
 use Rattle.dpc_model.specs.declared.messages.Event.TheVariants.{Cut, Heal}
 use Rattle.dpc_model.specs.declared.plans.Plan.{Plan}
 use Rattle.world_model.specs.Worlds.{World, same_pair, link_up}

@@ -3,7 +3,7 @@ use Rattle.std.proofs.Common.{◌≡◌, ℕ, zero, suc, ◌+◌, ◌<◌, ◌�
 use Rattle.std.specs.List.{AllZip}
 use Rattle.std.proofs.lemmas.List.{append-nil}
 use Rattle.std.proofs.lemmas.List.FromFn.{map-range_with_len_more}
-use Rattle.dpc_model.specs.Lists.{nth, range_with_len}
+use Rattle.dpc_lists.specs.Lists.{nth, range_with_len}
 use Rattle.dpc_model.specs.Actors.{nodes_from, nodes_of, senders_of}
 use Rattle.dpc_model.specs.Fragments.{LogsInOrder}
 use Rattle.dpc_model.specs.declared.plans.FragSpec.{FragSpec}

@@ -1,7 +1,7 @@
 -- What an event makes of a world whose node it reaches.
 use Rattle.std.proofs.Common.{◌≡◌, ℕ, zero, suc, Bool, true, false, cond, ◌&&◌, List, [], ◌∷◌, refl, sym, ap, ◌∙◌, append-nil, Option, Some, None, slice_get}
 use Rattle.std.specs.Prelude.{is_some}
-use Rattle.dpc_model.specs.Lists.{changed}
+use Rattle.dpc_lists.specs.Lists.{changed}
 use Rattle.dpc_model.specs.Actors.{role_of}
 use Rattle.dpc_model.specs.declared.actors.Role.{Role}
 use Rattle.dpc_model.specs.declared.actors.Role.TheVariants.{Source as IsSource, Node as IsNode, Client as IsClient, Nobody}

@@ -1,6 +1,6 @@
 -- What the step of one source makes of what stands for a world.
 use Rattle.std.proofs.Common.{◌≡◌, ℕ, zero, suc, ◌+◌, ◌<◌, ◌≤◌, List, [], ◌∷◌, ◌++◌, map, length, refl, sym, ap, subst, ◌∙◌, arith, slice_index_or, slice_set, inl, inr, Result, Ok, Err, OnOk}
-use Rattle.dpc_model.specs.Lists.{nth, changed, range_with_len}
+use Rattle.dpc_lists.specs.Lists.{nth, changed, range_with_len}
 use Rattle.dpc_model.specs.Actors.{role_of, nodes_of}
 use Rattle.dpc_model.specs.declared.actors.Role.{Role}
 use Rattle.dpc_model.specs.declared.actors.Role.TheVariants.{Source as IsSource, Node as IsNode, Client as IsClient, Nobody}

@@ -2,7 +2,7 @@
 use Rattle.std.specs.Prelude.{◌≡◌, ℕ, true, false, min, length, Option, Some, None}
 use Rattle.dpc_model.specs.Actors.{role_of}
 use Rattle.dpc_model.specs.Limits.{most_milled}
-use Rattle.dpc_model.specs.Lists.{nth}
+use Rattle.dpc_lists.specs.Lists.{nth}
 use Rattle.dpc_model.specs.declared.actors.Role.{Role}
 use Rattle.dpc_model.specs.declared.actors.Role.TheVariants.{Source as IsSource, Node as IsNode, Client as IsClient, Nobody}
 use Rattle.dpc_model.specs.declared.plans.Plan.{Plan}

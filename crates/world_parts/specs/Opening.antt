@@ -1,7 +1,7 @@
 -- What there is at the opening.
 use Rattle.std.specs.Prelude.{ℕ, List, Some, map}
 use Rattle.std.specs.List.{AllZip}
-use Rattle.dpc_model.specs.Lists.{range_with_len}
+use Rattle.dpc_lists.specs.Lists.{range_with_len}
 use Rattle.dpc_model.specs.declared.plans.Plan.{Plan}
 use Rattle.node_model.specs.Nodes.{new_node}
 use Rattle.node_model.specs.Clients.{new_client}

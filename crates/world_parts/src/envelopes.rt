@@ -4,8 +4,8 @@ ghost use Rattle.dpc_model.specs.declared.messages.Out.{Out};
 ghost use Rattle.node_core.specs.declared.packets.Packet.TheVariants as packet;
 ghost use Rattle.world_parts.specs.Counting.{items_carried, all_carried, posted};
 
+use dpc_lists::faults::NoMemory;
 use dpc_model::actors::narrow;
-use dpc_model::faults::NoMemory;
 use dpc_model::messages::{Message, Out};
 use node_core::packets::{Mail, Packet};
 use std::alloc::Global;

@@ -3,7 +3,8 @@ ghost use Rattle.std.specs.Prelude.{◌≡◌};
 ghost use Rattle.world_parts.specs.Handing.{fault_of_node, fault_of_event};
 ghost use Rattle.world_parts.specs.declared.faults.EventFault.TheVariants as event_fault;
 
-use dpc_model::faults::{NoMemory, StepFault};
+use dpc_lists::faults::NoMemory;
+use dpc_model::faults::StepFault;
 use node_core::faults::{CommitFault as NodeFault, Point};
 use std::alloc::{AllocError, AllocFailed};
 

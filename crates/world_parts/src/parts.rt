@@ -1,7 +1,7 @@
 //! All actors, links and envelopes of a run.
 ghost use Rattle.std.specs.Prelude.{◌≡◌, ℕ, ◌<◌, List, ◌++◌, map, length, IfOk, OnOk};
 ghost use Rattle.dpc_model.specs.Actors.{nodes_of};
-ghost use Rattle.dpc_model.specs.Lists.{nth, range_with_len};
+ghost use Rattle.dpc_lists.specs.Lists.{nth, range_with_len};
 ghost use Rattle.dpc_model.specs.declared.plans.Plan.{Plan};
 ghost use Rattle.node_model.specs.Nodes.{no_fragment};
 ghost use Rattle.source_core.specs.Emitting.{opening_source};
@@ -13,7 +13,7 @@ ghost use Rattle.world_parts.specs.Opening.{IsNewSlot, AreNewSlots, replicas_bel
 use crate::envelopes::Envelope;
 use crate::slots::Slot;
 use client_fold::client::Client;
-use dpc_model::faults::NoMemory;
+use dpc_lists::faults::NoMemory;
 use dpc_model::plans::Plan;
 use node_core::node::Node;
 use source_core::source::SourceNode;

@@ -12,7 +12,8 @@ ghost use Rattle.world_parts.specs.Parts.{StandsForSlot};
 ghost use Rattle.world_parts.specs.Slots.{CanStep, CanCome, IsStepped, slot_mills, slot_takes, slot_ticks};
 
 use crate::parts::is_clock;
-use dpc_model::faults::{NoMemory, StepFault};
+use dpc_lists::faults::NoMemory;
+use dpc_model::faults::StepFault;
 use dpc_model::plans::Plan;
 use fragment_mill::mill::FragMill;
 use mill_work::milling::Milled;

@@ -6,10 +6,10 @@ ghost use Rattle.node_model.specs.Mails.{Plain};
 ghost use Rattle.client_fold.specs.Folding.{Follows, IsFolded};
 
 use crate::client::Client;
+use dpc_lists::faults::NoMemory;
+use dpc_lists::shared::Shared;
 use dpc_model::batches::Taken;
-use dpc_model::faults::NoMemory;
 use dpc_model::messages::{Beat, Message, Sess};
-use dpc_model::shared::Shared;
 use dpc_model::tuples::Item;
 use std::alloc::Global;
 

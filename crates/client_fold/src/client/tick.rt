@@ -4,7 +4,7 @@ ghost use Rattle.node_model.specs.Clients.{client_tick_step};
 ghost use Rattle.client_fold.specs.Folding.{Follows, Sends, IsAsked, acks_of};
 
 use crate::client::Client;
-use dpc_model::faults::NoMemory;
+use dpc_lists::faults::NoMemory;
 use dpc_model::messages::{Message, Out};
 use std::alloc::Global;
 

@@ -1,6 +1,6 @@
 //! What a node tells its neighbours at the end of a tick.
 ghost use Rattle.std.specs.Prelude.{◌≡◌, ℕ, ◌<◌, length, IfOk};
-ghost use Rattle.dpc_model.specs.Lists.{nth};
+ghost use Rattle.dpc_lists.specs.Lists.{nth};
 ghost use Rattle.dpc_model.specs.Ports.{no_port};
 ghost use Rattle.node_model.specs.Nodes.{Home, PlainNode, streams_of};
 ghost use Rattle.node_model.specs.NodeSteps.{announcing_step, done_at, acks_from, beats};
@@ -12,7 +12,7 @@ ghost use Rattle.node_core.specs.Stepping.{IsSound, Steps, beat_with};
 use crate::node::Node;
 use crate::packets::Mail;
 use crate::sending::{in_actor_order, mail, push_acks};
-use dpc_model::faults::NoMemory;
+use dpc_lists::faults::NoMemory;
 use dpc_model::messages::{Beat, Message, Sess};
 use std::alloc::Global;
 

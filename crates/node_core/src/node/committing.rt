@@ -14,7 +14,7 @@ use crate::faults::{CommitFault, Point};
 use crate::node::Node;
 use crate::packets::Mail;
 use crate::sending::to_readers;
-use dpc_model::faults::NoMemory;
+use dpc_lists::faults::NoMemory;
 use dpc_model::tuples::Tuples;
 use fragment_mill::mill::FragMill;
 use mill_work::milling::Milled;

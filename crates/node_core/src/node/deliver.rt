@@ -12,7 +12,7 @@ use crate::node::Node;
 use crate::packets::{Mail, Packet};
 use crate::sending::one;
 use actor_lists::lists::place_of;
-use dpc_model::faults::NoMemory;
+use dpc_lists::faults::NoMemory;
 use dpc_model::messages::{Beat, Message, NodeState, Sess, Subscribe};
 use dpc_model::tuples::Item;
 use pipeline::snapshots::Snapshot;

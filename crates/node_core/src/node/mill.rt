@@ -8,7 +8,7 @@ ghost use Rattle.node_core.specs.Milling.{CanMill, CanMillNode, MillSteps, corre
 use crate::node::Node;
 use crate::packets::Mail;
 use crate::sending::to_readers;
-use dpc_model::faults::NoMemory;
+use dpc_lists::faults::NoMemory;
 use dpc_model::messages::NodeState;
 use std::alloc::Global;
 

@@ -9,7 +9,7 @@ ghost use Rattle.node_core.specs.Stepping.{IsSound, Follows, Steps, taken_back, 
 use crate::node::Node;
 use crate::packets::Mail;
 use crate::sending::to_readers;
-use dpc_model::faults::NoMemory;
+use dpc_lists::faults::NoMemory;
 use dpc_model::messages::NodeState;
 use pipeline::snapshots::Snapshot;
 use std::alloc::Global;

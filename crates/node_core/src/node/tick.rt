@@ -11,7 +11,7 @@ ghost use Rattle.node_core.specs.Standing.{StandsForNode};
 use crate::node::Node;
 use crate::packets::Mail;
 use crate::sending::{Request, in_actor_order, mail, to_each, to_readers};
-use dpc_model::faults::NoMemory;
+use dpc_lists::faults::NoMemory;
 use dpc_model::messages::{Message, NodeState};
 use node_links::links::Asked;
 use std::alloc::Global;

@@ -1,6 +1,6 @@
 //! What comes to single ports, what goes to single readers, and what a node needs to know of both.
 ghost use Rattle.std.specs.Prelude.{◌≡◌, ◌*◌, ◌<◌, Bool, List, length, IfOk, OnErr};
-ghost use Rattle.dpc_model.specs.Lists.{nth, changed};
+ghost use Rattle.dpc_lists.specs.Lists.{nth, changed};
 ghost use Rattle.dpc_model.specs.Inlets.{InletState, after_link};
 ghost use Rattle.dpc_model.specs.NodeStates.{is_stable};
 ghost use Rattle.dpc_model.specs.Parts.{Inputs, Outputs, shown_of};
@@ -15,7 +15,7 @@ ghost use Rattle.pipeline.specs.Messages.{IsTakenAt, IsReopened, HasAnswered};
 
 use crate::inlets::count_done;
 use crate::pipeline::Pipeline;
-use dpc_model::faults::NoMemory;
+use dpc_lists::faults::NoMemory;
 use dpc_model::messages::{Message, NodeState, Sess, Subscribe};
 use dpc_model::tuples::{Item, Items};
 use std::alloc::Global;

@@ -1,8 +1,8 @@
 //! A batch to a port, and a subscription of a reader.
 use crate::pipeline::Pipeline;
 use crate::tests::{milled, row};
-use dpc_model::exact::Exact;
-use dpc_model::faults::NoMemory;
+use dpc_lists::exact::Exact;
+use dpc_lists::faults::NoMemory;
 use dpc_model::messages::{Message, NodeState, Sess, Subscribe};
 use dpc_model::tuples::Item;
 use std::alloc::Global;

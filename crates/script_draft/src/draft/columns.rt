@@ -1,13 +1,13 @@
 //! How many columns streams and operators have.
 ghost use Rattle.std.specs.Prelude.{◌≡◌, ◌≤◌, ◌∷◌, [], None, map, option_map, unwrap_or, IfOk, IfSome};
-ghost use Rattle.dpc_model.specs.Lists.{nth, last_or};
+ghost use Rattle.dpc_lists.specs.Lists.{nth, last_or};
 ghost use Rattle.dpc_model.specs.Columns.{kind_columns, wire_columns};
 ghost use Rattle.script_rules.specs.Drafts as spec;
 ghost use Rattle.script_draft.specs.Columns.{columns_in, source_columns, outputs_behind, ports_of, outs_of};
 
 use crate::draft::Draft;
 use crate::ends::{last_number, number_at};
-use dpc_model::faults::NoMemory;
+use dpc_lists::faults::NoMemory;
 use dpc_model::operators::{OpKind, Wire};
 use dpc_model::plans::{SourceSpec, StreamRef};
 use std::alloc::Global;

@@ -1,6 +1,6 @@
 //! Lines of fragments.
 ghost use Rattle.std.specs.Prelude.{◌≡◌, ◌<◌, ◌≤◌, ℕ, [], true, length, None, map, is_none, unwrap_or, IfOk, OnOk, OnErr};
-ghost use Rattle.dpc_model.specs.Lists.{push, list_any, list_all};
+ghost use Rattle.dpc_lists.specs.Lists.{push, list_any, list_all};
 ghost use Rattle.dpc_model.specs.declared.plans.StreamRef.TheVariants.{Source};
 ghost use Rattle.script_rules.specs.Statements.{FragmentLine, PatienceLine};
 ghost use Rattle.script_rules.specs.Drafts as spec;
@@ -13,8 +13,8 @@ use crate::draft::columns::port_columns;
 use crate::draft::sources::name_of_bytes;
 use crate::limits::MOST_FRAGMENTS;
 use crate::name_list::NameList;
-use dpc_model::faults::NoMemory;
-use dpc_model::lists::Listed;
+use dpc_lists::faults::NoMemory;
+use dpc_lists::lists::Listed;
 use dpc_model::plans::{FragSpec, StreamRef};
 use std::alloc::Global;
 

@@ -1,6 +1,6 @@
 //! Lines of operators.
 ghost use Rattle.std.specs.Prelude.{◌≡◌, ◌+◌, ◌≤◌, ◌==◌, not, ◌||◌, nat_le, nat_lt, false, None, map, is_none, unwrap_or, IfOk, OnOk, OnErr};
-ghost use Rattle.dpc_model.specs.Lists.{nth, is_nil, list_any, list_all};
+ghost use Rattle.dpc_lists.specs.Lists.{nth, is_nil, list_any, list_all};
 ghost use Rattle.dpc_model.specs.Words.{Word};
 ghost use Rattle.dpc_model.specs.declared.operators.OpKind.{OpKind};
 ghost use Rattle.dpc_model.specs.declared.operators.Wire.TheVariants.{Port};
@@ -18,8 +18,8 @@ use crate::draft::sources::name_of_bytes;
 use crate::limits::{MOST_COLUMNS, MOST_OPERATORS};
 use crate::name_list::NameList;
 use crate::shape::Shape;
-use dpc_model::faults::NoMemory;
-use dpc_model::lists::Listed;
+use dpc_lists::faults::NoMemory;
+use dpc_lists::lists::Listed;
 use dpc_model::operators::{OpKind, OpSpec, Wire};
 use dpc_model::plans::FragSpec;
 use std::alloc::Global;

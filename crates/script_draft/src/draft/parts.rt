@@ -1,6 +1,6 @@
 //! Which lines stand in their part of a script.
 ghost use Rattle.std.specs.Prelude.{◌≡◌, not, ◌&&◌};
-ghost use Rattle.dpc_model.specs.Lists.{is_nil};
+ghost use Rattle.dpc_lists.specs.Lists.{is_nil};
 ghost use Rattle.script_rules.specs.Reasons as reason;
 
 use crate::draft::Draft;

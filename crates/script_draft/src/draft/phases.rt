@@ -1,7 +1,7 @@
 //! Lines from `begin` on.
 ghost use Rattle.std.specs.Prelude.{◌≡◌, ℕ, Some, None, false, fold, filter, not, ◌==◌, map, unwrap_or, IfOk, OnOk, OnErr};
 ghost use Rattle.dpc_model.specs.Words.{Word};
-ghost use Rattle.dpc_model.specs.Lists.{is_nil, list_any, last_or};
+ghost use Rattle.dpc_lists.specs.Lists.{is_nil, list_any, last_or};
 ghost use Rattle.dpc_model.specs.declared.plans.FragSpec.{FragSpec};
 ghost use Rattle.dpc_model.specs.declared.scripts.Directive.{Directive};
 ghost use Rattle.dpc_model.specs.declared.scripts.Phase.{Phase};
@@ -15,8 +15,8 @@ use crate::draft::actors::is_node;
 use crate::ends::clock_of;
 use crate::fragments::has_empty;
 use crate::limits::MOST_PHASES;
-use dpc_model::faults::NoMemory;
-use dpc_model::lists::Listed;
+use dpc_lists::faults::NoMemory;
+use dpc_lists::lists::Listed;
 use dpc_model::scripts::{Directive, Phase};
 use std::alloc::Global;
 use std::mem;

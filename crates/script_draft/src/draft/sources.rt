@@ -1,7 +1,7 @@
 //! Lines of the header, of sources, and of their logs.
 ghost use Rattle.std.specs.Prelude.{◌≡◌, ◌<◌, ◌≤◌, true, ℕ, ℤ, List, length, Some, None, MatchOption, IfOk, OnOk, OnErr, nat_lt, not, ◌||◌};
 ghost use Rattle.dpc_model.specs.Words.{Word};
-ghost use Rattle.dpc_model.specs.Lists.{is_nil};
+ghost use Rattle.dpc_lists.specs.Lists.{is_nil};
 ghost use Rattle.script_rules.specs.Statements.{HeaderLine, SourceLine, LogLine};
 ghost use Rattle.script_rules.specs.Drafts as spec;
 ghost use Rattle.script_rules.specs.Reasons.{first_of_tests, tests_said, last_time, log_entries};
@@ -9,8 +9,8 @@ ghost use Rattle.script_draft.specs.Caches.{fault_in, StandsFor, IsSourceAt};
 
 use crate::draft::Draft;
 use crate::limits::{MOST_BUCKETS, MOST_ENTRIES, MOST_SOURCES};
-use dpc_model::faults::NoMemory;
-use dpc_model::lists::{Listed, Name};
+use dpc_lists::faults::NoMemory;
+use dpc_lists::lists::{Listed, Name};
 use dpc_model::plans::SourceSpec;
 use dpc_model::tuples::{Tuple, Vals};
 use std::alloc::Global;

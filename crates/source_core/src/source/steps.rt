@@ -8,11 +8,11 @@ ghost use Rattle.source_core.specs.Emitting.{IsSourceOf, HasRoom, after_step, wi
 use crate::giving::{addressed, batches_upto, gives_items};
 use crate::log::{bound_at, log_of};
 use crate::source::SourceNode;
-use dpc_model::faults::NoMemory;
+use dpc_lists::faults::NoMemory;
+use dpc_lists::shared::Shared;
 use dpc_model::messages::{Message, NodeState, Out, Subscribe};
 use dpc_model::plans::Plan;
 use dpc_model::sessions::Sub;
-use dpc_model::shared::Shared;
 use dpc_model::streams::count_below;
 use dpc_model::tuples::{Item, Tuple};
 use soutput::batches::count_batches;

@@ -13,8 +13,8 @@ ghost use Rattle.world_core.specs.declared.faults.CommitFault.TheVariants as fau
 
 use crate::faults::{ApplyFault, CommitFault};
 use crate::world::World;
+use dpc_lists::faults::NoMemory;
 use dpc_model::actors::narrow;
-use dpc_model::faults::NoMemory;
 use dpc_model::messages::Event;
 use fragment_mill::mill::FragMill;
 use mill_work::milling::Milled;

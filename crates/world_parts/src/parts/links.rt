@@ -1,6 +1,6 @@
 //! Links that are cut and healed.
 ghost use Rattle.std.specs.Prelude.{◌≡◌, not, filter, OnOk};
-ghost use Rattle.dpc_model.specs.Lists.{list_any};
+ghost use Rattle.dpc_lists.specs.Lists.{list_any};
 ghost use Rattle.world_model.specs.Worlds.{World, same_pair, link_up};
 ghost use Rattle.world_parts.specs.Parts.{StandsForWorld};
 ghost use Rattle.dpc_model.specs.declared.messages.Event.TheVariants as event;
@@ -8,8 +8,8 @@ ghost use Rattle.law_fit.specs.Fits.{CanRun};
 ghost use Rattle.world_parts.specs.Events.{IsSomeWorld, Happened};
 
 use crate::parts::Parts;
+use dpc_lists::faults::NoMemory;
 use dpc_model::actors::are_linked;
-use dpc_model::faults::NoMemory;
 use dpc_model::plans::Plan;
 
 /// Whether these are the same two actors, in either order.

@@ -6,8 +6,8 @@ ghost use Rattle.law_fit.specs.Fits.{CanRun};
 ghost use Rattle.world_parts.specs.Events.{IsSomeWorld, Happened};
 
 use crate::parts::Parts;
+use dpc_lists::faults::NoMemory;
 use dpc_model::actors::{Role, role_of};
-use dpc_model::faults::NoMemory;
 use dpc_model::plans::Plan;
 use std::alloc::Global;
 

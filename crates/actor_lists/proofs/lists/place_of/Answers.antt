@@ -1,5 +1,5 @@
 use Rattle.std.proofs.Common.{◌∙◌}
-use Rattle.dpc_model.proofs.Places.{position-place}
+use Rattle.dpc_lists.proofs.Places.{position-place}
 use Rattle.actor_lists.proofs.lists.place_of.Goals as goal
 
 pub returns : goal.returns

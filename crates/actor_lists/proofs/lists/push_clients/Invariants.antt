@@ -1,5 +1,5 @@
 use Rattle.std.proofs.Common.{◌≡◌, ◌++◌, map}
-use Rattle.dpc_model.specs.Lists.{range_with_len}
+use Rattle.dpc_lists.specs.Lists.{range_with_len}
 use Rattle.dpc_model.specs.declared.actors.Role.TheVariants.{Client as IsClient}
 use Rattle.actor_lists.proofs.lists.push_clients.Given as goal
 

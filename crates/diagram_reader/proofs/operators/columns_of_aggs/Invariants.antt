@@ -1,6 +1,6 @@
 use Rattle.std.proofs.Common.{◌≡◌, ℕ, ◌≤◌, take}
 use Rattle.std.specs.Prelude.{nat_le}
-use Rattle.dpc_model.specs.Lists.{list_all}
+use Rattle.dpc_lists.specs.Lists.{list_all}
 use Rattle.script_rules.specs.Reasons.{agg_reads_below}
 use Rattle.diagram_reader.proofs.operators.columns_of_aggs.Given as goal
 

@@ -1,6 +1,6 @@
 use Rattle.std.proofs.Common.{◌≡◌, drop, sym, ap, ◌∙◌}
 use Rattle.dpc_model.specs.Formula as formula
-use Rattle.dpc_model.specs.Lists.{nth}
+use Rattle.dpc_lists.specs.Lists.{nth}
 use Rattle.dpc_model.specs.declared.operators.OpKind.TheVariants.{Filter}
 use Rattle.script_rules.specs.Symbols.{formula_of}
 use Rattle.script_words.specs.Cursors.{words_left}

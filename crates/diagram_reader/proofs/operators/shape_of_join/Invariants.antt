@@ -1,6 +1,6 @@
 use Rattle.std.proofs.Common.{◌≡◌, ℕ, ◌≤◌, true, map, length, ◌&&◌}
 use Rattle.std.specs.Prelude.{nat_le, nat_lt}
-use Rattle.dpc_model.specs.Lists.{list_all}
+use Rattle.dpc_lists.specs.Lists.{list_all}
 use Rattle.script_rules.specs.Spelling.{is_numeral, number}
 use Rattle.script_rules.specs.Statements.{pairs}
 use Rattle.script_words.specs.Cursors.{words_left}

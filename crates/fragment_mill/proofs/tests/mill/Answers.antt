@@ -1,5 +1,5 @@
 use Rattle.std.proofs.Common.{◌≡◌, ℕ, List, [], ◌∷◌, Ok, Err, Some, Result, IfOk, slice_get, refl, ◌∙◌, ap}
-use Rattle.dpc_model.specs.declared.faults.NoMemory.{NoMemory}
+use Rattle.dpc_lists.specs.declared.faults.NoMemory.{NoMemory}
 use Rattle.dpc_model.specs.declared.plans.FragSpec.{FragSpec}
 use Rattle.fragment_mill.specs.Mills.{MillState, new_mill}
 use Rattle.fragment_mill.proofs.tests.mill.Goals as goal

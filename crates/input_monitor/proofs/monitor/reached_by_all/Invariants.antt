@@ -1,6 +1,6 @@
 use Rattle.std.proofs.Common.{◌≡◌}
 use Rattle.dpc_model.specs.Replicas.{after_count}
-use Rattle.dpc_model.proofs.Mapped.{mapped_to}
+use Rattle.dpc_lists.proofs.Mapped.{mapped_to}
 use Rattle.input_monitor.proofs.monitor.reached_by_all.Given as goal
 
 abbrev pub invariant-loop-watch : goal.invariant-loop-watch

@@ -1,6 +1,6 @@
 use Rattle.std.proofs.Common.{◌∙◌, ap, List, slice_set, slice_index_or}
 use Rattle.dpc_model.specs.Replicas.{Watch, after_tick}
-use Rattle.dpc_model.proofs.Mapped.{mapped-more}
+use Rattle.dpc_lists.proofs.Mapped.{mapped-more}
 use Rattle.input_monitor.proofs.monitor.tick_all.Goals as goal
 
 pub loop-watch-preserved : goal.loop-watch-preserved

@@ -1,6 +1,6 @@
 use Rattle.std.proofs.Common.{◌≡◌, ◌++◌}
 use Rattle.std.specs.Prelude.{flat_map}
-use Rattle.dpc_model.specs.Lists.{range_with_len}
+use Rattle.dpc_lists.specs.Lists.{range_with_len}
 use Rattle.world_model.specs.Worlds.{ready_at}
 use Rattle.world_model.specs.Schedules.{mill_events}
 use Rattle.world_core.specs.Runs.{world_of}

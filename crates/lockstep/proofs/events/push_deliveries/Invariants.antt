@@ -1,6 +1,6 @@
 use Rattle.std.proofs.Common.{◌≡◌, ◌-◌, ◌≤◌, ◌++◌, replicate}
 use Rattle.std.specs.Prelude.{flat_map}
-use Rattle.dpc_model.specs.Lists.{range_with_len}
+use Rattle.dpc_lists.specs.Lists.{range_with_len}
 use Rattle.dpc_model.specs.declared.messages.Event.TheVariants.{Deliver}
 use Rattle.world_model.specs.Schedules.{deliveries_of}
 use Rattle.world_core.specs.Runs.{world_of}

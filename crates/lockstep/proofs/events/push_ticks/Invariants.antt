@@ -1,6 +1,6 @@
 use Rattle.std.proofs.Common.{◌≡◌, ◌++◌, map}
 use Rattle.std.specs.Prelude.{filter}
-use Rattle.dpc_model.specs.Lists.{range_with_len}
+use Rattle.dpc_lists.specs.Lists.{range_with_len}
 use Rattle.dpc_model.specs.declared.messages.Event.TheVariants.{Tick}
 use Rattle.world_model.specs.Worlds.{is_up}
 use Rattle.world_core.specs.Runs.{world_of}

@@ -1,5 +1,5 @@
 use Rattle.std.proofs.Common.{◌≡◌, ◌∙◌, ◌++◌, ◌∷◌, List, ℕ, map, ap, sym}
-use Rattle.dpc_model.specs.Lists.{nth}
+use Rattle.dpc_lists.specs.Lists.{nth}
 use Rattle.dpc_model.specs.declared.messages.Message.{Message}
 use Rattle.node_core.specs.declared.packets.Mail.{Mail}
 use Rattle.node_core.specs.Stepping.{plain_mail}

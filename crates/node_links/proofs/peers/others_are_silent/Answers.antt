@@ -1,6 +1,6 @@
 use Rattle.std.proofs.Common.{◌≡◌, ◌==◌, ◌||◌, true, false, sym, arith}
 use Rattle.std.proofs.lemmas.Grind.{common_steps}
-use Rattle.dpc_model.specs.Lists.{nth}
+use Rattle.dpc_lists.specs.Lists.{nth}
 use Rattle.dpc_model.specs.Replicas.{new_watch, is_silent}
 use Rattle.node_links.proofs.Looping.{one-passes, one-fails}
 use Rattle.node_links.proofs.peers.others_are_silent.Goals.{else-r-me-via-then-r-me+else-not-is_silent, else-r-me-via-else-r-me}

@@ -1,6 +1,6 @@
 use Rattle.std.proofs.Common.{◌≡◌, ◌==◌, ◌||◌, true, false, sym, arith, Bool}
 use Rattle.std.proofs.lemmas.Grind.{common_steps}
-use Rattle.dpc_model.specs.Lists.{nth}
+use Rattle.dpc_lists.specs.Lists.{nth}
 use Rattle.dpc_model.specs.Replicas.{Watch, new_watch, is_silent, says_recovering}
 use Rattle.node_links.proofs.Looping.{one-passes, one-fails}
 use Rattle.node_links.proofs.peers.others_cannot_help.Goals.{else-r-me-via-then-r-me+then-not-is_silent+else-not-says_recovering, else-r-me-via-then-r-me+else-not-is_silent, else-r-me-via-else-r-me}

@@ -1,7 +1,7 @@
 use Rattle.std.proofs.Common.{arith}
 use Rattle.std.proofs.lemmas.Grind.{common_steps}
 use Rattle.dpc_model.specs.Replicas.{new_watch, is_silent}
-use Rattle.dpc_model.proofs.Mapped.{noted-more}
+use Rattle.dpc_lists.proofs.Mapped.{noted-more}
 use Rattle.node_links.proofs.peers.silences.Goals as goal
 
 pub loop-r-preserved : goal.loop-r-preserved

@@ -1,7 +1,7 @@
 use Rattle.std.proofs.Common.{◌∙◌, ap, List, slice_set, slice_index_or}
 use Rattle.upstream.specs.Upstreams.{UpstreamValue, with_no_tick}
 use Rattle.node_links.specs.Linking.{seen_otherwise}
-use Rattle.dpc_model.proofs.Mapped.{mapped-more}
+use Rattle.dpc_lists.proofs.Mapped.{mapped-more}
 use Rattle.node_links.proofs.ports.forget_sessions.Goals as goal
 
 pub loop-port-preserved : goal.loop-port-preserved

@@ -1,7 +1,7 @@
 use Rattle.std.proofs.Common.{◌≡◌}
 use Rattle.upstream.specs.Upstreams.{with_tick}
 use Rattle.node_links.specs.Linking.{seen_otherwise}
-use Rattle.dpc_model.proofs.Mapped.{mapped_to}
+use Rattle.dpc_lists.proofs.Mapped.{mapped_to}
 use Rattle.node_links.proofs.ports.tick_ports.Given as goal
 
 -- so many ports

@@ -1,6 +1,6 @@
 use Rattle.std.proofs.Common.{◌≡◌, false, map, take}
 use Rattle.std.specs.Prelude.{is_none}
-use Rattle.dpc_model.specs.Lists.{list_any}
+use Rattle.dpc_lists.specs.Lists.{list_any}
 use Rattle.dpc_model.specs.ScriptText.{stream_name}
 use Rattle.script_check.specs.Locals.{stream_of}
 use Rattle.script_check.proofs.fragments.reads_ahead.Given as goal

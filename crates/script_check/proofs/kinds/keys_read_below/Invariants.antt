@@ -1,5 +1,5 @@
 use Rattle.std.proofs.Common.{◌≡◌, true, take, ℕ, ◌&&◌}
-use Rattle.dpc_model.specs.Lists.{list_all}
+use Rattle.dpc_lists.specs.Lists.{list_all}
 use Rattle.std.specs.Prelude.{nat_lt}
 use Rattle.script_check.proofs.kinds.keys_read_below.Given as goal
 

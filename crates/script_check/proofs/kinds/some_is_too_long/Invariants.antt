@@ -1,5 +1,5 @@
 use Rattle.std.proofs.Common.{◌≡◌, false, take}
-use Rattle.dpc_model.specs.Lists.{list_any}
+use Rattle.dpc_lists.specs.Lists.{list_any}
 use Rattle.script_rules.specs.Reasons.{is_too_long}
 use Rattle.script_check.proofs.kinds.some_is_too_long.Given as goal
 

@@ -1,5 +1,5 @@
 use Rattle.std.proofs.Common.{◌≡◌, true, take}
-use Rattle.dpc_model.specs.Lists.{list_all}
+use Rattle.dpc_lists.specs.Lists.{list_all}
 use Rattle.script_rules.specs.Reasons.{agg_reads_below}
 use Rattle.script_check.proofs.operator_ranges.all_read_below.Given as goal
 

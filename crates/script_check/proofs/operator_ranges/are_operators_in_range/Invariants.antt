@@ -1,5 +1,5 @@
 use Rattle.std.proofs.Common.{◌≡◌, true, take}
-use Rattle.dpc_model.specs.Lists.{list_all}
+use Rattle.dpc_lists.specs.Lists.{list_all}
 use Rattle.script_rules.specs.Checking.{is_op_in_range}
 use Rattle.script_check.proofs.operator_ranges.are_operators_in_range.Given as goal
 

@@ -1,5 +1,5 @@
 use Rattle.std.proofs.Common.{◌≡◌, true, take}
-use Rattle.dpc_model.specs.Lists.{list_all}
+use Rattle.dpc_lists.specs.Lists.{list_all}
 use Rattle.script_rules.specs.Spelling.{is_i64}
 use Rattle.script_check.proofs.ranges.are_values_in_range.Given as goal
 

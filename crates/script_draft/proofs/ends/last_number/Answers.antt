@@ -1,5 +1,5 @@
 use Rattle.std.proofs.Common.{◌≡◌, ◌∙◌, Some, None, refl, sym}
-use Rattle.dpc_model.specs.Lists.{last_or}
+use Rattle.dpc_lists.specs.Lists.{last_or}
 use Rattle.script_draft.proofs.Lasts.{last-get}
 use Rattle.script_draft.proofs.ends.last_number.Goals as goal
 

@@ -1,5 +1,5 @@
 use Rattle.std.proofs.Common.{◌≡◌, false, take}
-use Rattle.dpc_model.specs.Lists.{is_nil, list_any}
+use Rattle.dpc_lists.specs.Lists.{is_nil, list_any}
 use Rattle.dpc_model.specs.declared.plans.FragSpec.{FragSpec}
 use Rattle.script_draft.proofs.fragments.has_empty.Given as goal
 

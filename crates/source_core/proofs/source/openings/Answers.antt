@@ -1,6 +1,6 @@
 use Rattle.std.proofs.Common.{rules, ◌≡◌, ◌∙◌, length, replicate}
 use Rattle.dpc_model.specs.Sessions.{opening_session}
-use Rattle.dpc_model.proofs.Places.{same-each}
+use Rattle.dpc_lists.proofs.Places.{same-each}
 use Rattle.source_core.proofs.source.openings.Goals as goal
 
 pub returns : goal.returns

@@ -1,7 +1,7 @@
 use Rattle.std.proofs.Common.{rules, ◌≡◌, ◌∙◌, ◌++◌, ◌+◌, ◌*◌, ap, sym, subst, map, List}
 use Rattle.std.proofs.lemmas.List.{take_all}
 use Rattle.std.proofs.lemmas.List.Sorted.{IsNonDecreasingBy-from_sort_by_key, answers_always}
-use Rattle.dpc_model.specs.Lists.{sort_by}
+use Rattle.dpc_lists.specs.Lists.{sort_by}
 use Rattle.dpc_model.specs.Streams.{InOrder}
 use Rattle.dpc_model.specs.Operators.{between}
 use Rattle.dpc_model.specs.Fragments.{tag, tagged_from}

@@ -1,5 +1,5 @@
 use Rattle.std.proofs.Common.{◌≡◌, ◌≤◌, ◌-◌, length}
-use Rattle.dpc_model.specs.Lists.{last_below}
+use Rattle.dpc_lists.specs.Lists.{last_below}
 use Rattle.sunion.proofs.Stamping.{is_waiting}
 use Rattle.sunion.proofs.clocks.last_waiting.Given as goal
 

@@ -1,6 +1,6 @@
 use Rattle.std.proofs.Common.{rules, ◌≡◌, ◌<◌, ◌≤◌, length, None, sym, slice_index_or}
 use Rattle.sunion.specs.Clocks.{first_stamp}
-use Rattle.dpc_model.proofs.Elements.{set-changed}
+use Rattle.dpc_lists.proofs.Elements.{set-changed}
 use Rattle.sunion.proofs.Stamping.{changed-past, changed-fixed, no_stamp, stamp-kept}
 use Rattle.sunion.proofs.clocks.stamp_place.Goals as goal
 

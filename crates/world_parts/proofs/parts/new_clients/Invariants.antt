@@ -1,4 +1,4 @@
-use Rattle.dpc_model.specs.Lists.{range_with_len}
+use Rattle.dpc_lists.specs.Lists.{range_with_len}
 use Rattle.world_parts.specs.Opening.{AreNewClients}
 use Rattle.world_parts.proofs.parts.new_clients.Given as goal
 

@@ -1,5 +1,5 @@
 use Rattle.std.proofs.Common.{◌≡◌, map}
-use Rattle.dpc_model.specs.Lists.{range_with_len}
+use Rattle.dpc_lists.specs.Lists.{range_with_len}
 use Rattle.source_core.specs.Emitting.{opening_source}
 use Rattle.world_parts.proofs.parts.new_sources.Given as goal
 

@@ -1,5 +1,5 @@
 use Rattle.std.proofs.Common.{◌∙◌, ◌==◌, sym, ap, subst, ℕ}
-use Rattle.dpc_model.specs.Lists.{place_of}
+use Rattle.dpc_lists.specs.Lists.{place_of}
 use Rattle.dpc_model.specs.declared.messages.Message.{Message}
 use Rattle.node_model.specs.Clients.{client_message, client_marks_ended}
 use Rattle.client_fold.specs.Folding.{ClientValue, Follows}

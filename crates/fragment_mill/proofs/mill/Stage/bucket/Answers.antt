@@ -1,5 +1,5 @@
 use Rattle.std.proofs.Common.{List, ap, ◌∙◌}
-use Rattle.dpc_model.specs.Lists.{push}
+use Rattle.dpc_lists.specs.Lists.{push}
 use Rattle.dpc_model.specs.declared.tuples.Tuple.{Tuple}
 use Rattle.fragment_mill.proofs.mill.Stage.bucket.Goals as goal
 

@@ -1,5 +1,5 @@
 use Rattle.std.proofs.Common.{◌<◌, ◌∙◌, ap, sym, subst, List, length}
-use Rattle.dpc_model.specs.Lists.{changed}
+use Rattle.dpc_lists.specs.Lists.{changed}
 use Rattle.dpc_model.specs.Replicas.{Watch, after_beat}
 use Rattle.input_monitor.proofs.Refilled.{refill-changed}
 use Rattle.input_monitor.proofs.monitor.Monitor.note_beat.Goals as goal

@@ -1,7 +1,7 @@
 use Rattle.std.proofs.Common.{arith}
 use Rattle.std.proofs.lemmas.Grind.{common_steps}
 use Rattle.dpc_model.specs.Replicas.{rank_of}
-use Rattle.dpc_model.proofs.Mapped.{set-mapped}
+use Rattle.dpc_lists.proofs.Mapped.{set-mapped}
 use Rattle.input_monitor.proofs.ranks.Ranks.of.Goals as goal
 
 pub loop-r-preserved : goal.loop-r-preserved

@@ -2,7 +2,7 @@ use Rattle.std.proofs.Common.{◌≡◌, ◌+◌, ◌∙◌, List, [], length, s
 use Rattle.node_model.specs.Mails.{in_actor_order}
 use Rattle.node_model.specs.Nodes.{streams_of}
 use Rattle.node_model.specs.NodeSteps.{acks_from}
-use Rattle.dpc_model.specs.Lists.{nth}
+use Rattle.dpc_lists.specs.Lists.{nth}
 use Rattle.node_core.specs.declared.packets.Mail.{Mail}
 use Rattle.node_core.specs.Standing.{NodeValue, AreMails}
 use Rattle.node_core.proofs.Announcing.{HasAcked, more-acked, all-acked}

@@ -1,6 +1,6 @@
 use Rattle.std.proofs.Common.{rules, ◌≡◌, ◌<◌, ◌≤◌, ◌∙◌, ◌++◌, ℕ, List, map, zip, length, sym, ap, subst, arith, None}
 use Rattle.std.proofs.lemmas.List.{take_all}
-use Rattle.dpc_model.specs.Lists.{nth}
+use Rattle.dpc_lists.specs.Lists.{nth}
 use Rattle.dpc_model.specs.Sessions.{no_session, link_of}
 use Rattle.node_links.specs.Linking.{peers_in}
 use Rattle.node_model.specs.Mails.{in_actor_order}

@@ -1,5 +1,5 @@
 use Rattle.std.proofs.Common.{◌≡◌, ◌∙◌, ℕ, List, map, sym, ap, subst}
-use Rattle.dpc_model.specs.Lists.{nth}
+use Rattle.dpc_lists.specs.Lists.{nth}
 use Rattle.dpc_model.specs.declared.messages.Message.{Message}
 use Rattle.node_model.specs.Nodes.{spec_of}
 use Rattle.node_model.specs.Views.{inputs_of, outputs_of}

@@ -1,5 +1,5 @@
 use Rattle.std.proofs.Common.{◌∙◌, ◌==◌, sym, subst, false, true}
-use Rattle.dpc_model.proofs.Places.{place-within}
+use Rattle.dpc_lists.proofs.Places.{place-within}
 use Rattle.node_core.specs.Standing.{NodeValue, StandsForNode}
 use Rattle.node_core.proofs.Answering.{if-ok, steps-by, replica-is, asked-nobody, asked}
 use Rattle.node_core.proofs.node.Node.on_ask.Goals as goal

@@ -1,5 +1,5 @@
 use Rattle.std.proofs.Common.{◌∙◌, ◌==◌, sym, subst, ap, List, ℕ, Some, None}
-use Rattle.dpc_model.specs.Lists.{place_of}
+use Rattle.dpc_lists.specs.Lists.{place_of}
 use Rattle.node_model.specs.Nodes.{spec_of}
 use Rattle.node_model.specs.Views.{inputs_of, outputs_of}
 use Rattle.node_core.specs.Standing.{NodeValue, StandsForNode}

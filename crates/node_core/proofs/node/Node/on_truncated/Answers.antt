@@ -1,5 +1,5 @@
 use Rattle.std.proofs.Common.{◌∙◌, ◌<◌, length, sym, subst, ap, false, true}
-use Rattle.dpc_model.specs.Lists.{nth}
+use Rattle.dpc_lists.specs.Lists.{nth}
 use Rattle.sunion.specs.Unions.{no_value}
 use Rattle.node_model.specs.Nodes.{PlainNode}
 use Rattle.node_core.specs.Standing.{NodeValue, StandsForNode}

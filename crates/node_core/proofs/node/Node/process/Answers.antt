@@ -1,6 +1,6 @@
 use Rattle.std.proofs.Common.{rules, ◌≡◌, ◌==◌, ◌∙◌, ℕ, List, map, sym, ap, subst}
 use Rattle.std.specs.Prelude.{if◌then◌else◌}
-use Rattle.dpc_model.specs.Lists.{nth}
+use Rattle.dpc_lists.specs.Lists.{nth}
 use Rattle.dpc_model.specs.declared.messages.Message.{Message}
 use Rattle.dpc_model.specs.declared.messages.NodeState.TheVariants.{UpFailure, Stabilization}
 use Rattle.sunion.specs.Values.{SUnionValue}

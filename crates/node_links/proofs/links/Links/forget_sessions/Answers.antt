@@ -1,7 +1,7 @@
 use Rattle.std.proofs.Common.{rules, ◌≡◌, ◌∙◌, ap, map, length}
 use Rattle.upstream.specs.Upstreams.{with_no_tick}
 use Rattle.node_links.specs.Linking.{LinksValue, seen_otherwise, with_upstreams}
-use Rattle.dpc_model.proofs.Mapped.{written-back}
+use Rattle.dpc_lists.proofs.Mapped.{written-back}
 use Rattle.node_links.proofs.Viewing.{ports-changed}
 use Rattle.node_links.proofs.links.Links.forget_sessions.Goals as goal
 

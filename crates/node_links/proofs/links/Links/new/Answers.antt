@@ -1,7 +1,7 @@
 use Rattle.std.proofs.Common.{◌≡◌, ◌∙◌, ◌<◌, ◌≤◌, ◌==◌, not, ap, sym, subst, arith, ℕ, List, map, filter, length, replicate, None}
 use Rattle.std.proofs.lemmas.List.{length-replicate}
 use Rattle.std.specs.Prelude.{All}
-use Rattle.dpc_model.specs.Lists.{nth}
+use Rattle.dpc_lists.specs.Lists.{nth}
 use Rattle.dpc_model.specs.Actors.{senders_of, replicas_of}
 use Rattle.dpc_model.specs.Granting.{Grants}
 use Rattle.dpc_model.specs.Replicas.{new_watch}
@@ -9,7 +9,7 @@ use Rattle.dpc_model.specs.declared.plans.StreamRef.{StreamRef}
 use Rattle.dpc_model.specs.declared.plans.TheConstants.{MOST_REPLICAS}
 use Rattle.node_model.specs.Nodes.{Home, spec_of}
 use Rattle.upstream.specs.Upstreams.{new_upstream}
-use Rattle.dpc_model.proofs.Places.{nth-at}
+use Rattle.dpc_lists.proofs.Places.{nth-at}
 use Rattle.node_links.proofs.Viewing.{new-view}
 use Rattle.node_links.proofs.links.Links.new.Goals as goal
 

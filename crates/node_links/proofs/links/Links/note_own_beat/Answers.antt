@@ -1,11 +1,11 @@
 use Rattle.std.proofs.Common.{◌≡◌, ◌∙◌, ◌==◌, ap, sym, arith, ℕ, List, Option, Some, length}
-use Rattle.dpc_model.specs.Lists.{place_of}
+use Rattle.dpc_lists.specs.Lists.{place_of}
 use Rattle.dpc_model.specs.Replicas.{Watch, after_beat}
 use Rattle.dpc_model.specs.Granting.{Grants, later_key, after_peer_beat}
-use Rattle.dpc_model.proofs.Elements.{length-changed}
+use Rattle.dpc_lists.proofs.Elements.{length-changed}
 use Rattle.node_links.specs.Linking.{LinksValue, after_own_beat}
 use Rattle.node_links.proofs.Viewing.{links_of}
-use Rattle.dpc_model.proofs.Places.{place-within}
+use Rattle.dpc_lists.proofs.Places.{place-within}
 use Rattle.node_links.proofs.links.Links.note_own_beat.Goals as goal
 
 pub note_beat-requires : goal.note_beat-requires

@@ -1,5 +1,5 @@
 use Rattle.std.proofs.Common.{length, sym, subst}
-use Rattle.dpc_model.specs.Lists.{changed}
+use Rattle.dpc_lists.specs.Lists.{changed}
 use Rattle.dpc_model.specs.Sessions.{after_ack}
 use Rattle.soutput.specs.Laws.{outputs_at}
 use Rattle.pipeline.specs.Flowing.{PipelineValue, StandsForData, IsSetAs, stream_at}

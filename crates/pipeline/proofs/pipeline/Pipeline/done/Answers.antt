@@ -1,5 +1,5 @@
 use Rattle.std.proofs.Common.{◌<◌, ◌*◌, ◌∙◌, ap, length, sym, subst}
-use Rattle.dpc_model.specs.Lists.{nth}
+use Rattle.dpc_lists.specs.Lists.{nth}
 use Rattle.dpc_model.specs.Streams.{count_below}
 use Rattle.sunion.specs.Unions.{no_inlet}
 use Rattle.pipeline.specs.Flowing.{PipelineValue, StandsForData}

@@ -1,6 +1,6 @@
 use Rattle.std.proofs.Common.{◌≡◌, true, take}
 use Rattle.std.specs.Prelude.{◌==◌}
-use Rattle.dpc_model.specs.Lists.{list_all}
+use Rattle.dpc_lists.specs.Lists.{list_all}
 use Rattle.script_check.specs.Locals.{read_columns, port_columns}
 use Rattle.script_check.proofs.operators.Place.all_have.Given as goal
 

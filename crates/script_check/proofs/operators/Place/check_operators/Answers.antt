@@ -1,6 +1,6 @@
 use Rattle.std.proofs.Common.{◌≡◌, ◌+◌, map, take, Some, None, refl, sym, ap, subst, ◌∙◌}
 use Rattle.std.specs.Prelude.{Ok, Err, unwrap_or}
-use Rattle.dpc_model.specs.Lists.{last_or}
+use Rattle.dpc_lists.specs.Lists.{last_or}
 use Rattle.dpc_model.specs.Columns.{kind_columns}
 use Rattle.script_rules.specs.Checking.{operator_statement}
 use Rattle.script_rules.specs.Reasons.{first_of_tests}

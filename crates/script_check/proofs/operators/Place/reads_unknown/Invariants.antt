@@ -1,6 +1,6 @@
 use Rattle.std.proofs.Common.{◌≡◌, false, take}
 use Rattle.std.specs.Prelude.{is_none}
-use Rattle.dpc_model.specs.Lists.{list_any}
+use Rattle.dpc_lists.specs.Lists.{list_any}
 use Rattle.dpc_model.specs.ScriptText.{wire_word}
 use Rattle.script_check.specs.Locals.{wire_of}
 use Rattle.script_check.proofs.operators.Place.reads_unknown.Given as goal

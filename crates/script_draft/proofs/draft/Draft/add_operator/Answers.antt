@@ -1,5 +1,5 @@
 use Rattle.std.proofs.Common.{◌≡◌, ◌∷◌, [], ◌∙◌, map, sym, ap}
-use Rattle.dpc_model.specs.Lists.{nth}
+use Rattle.dpc_lists.specs.Lists.{nth}
 use Rattle.dpc_model.specs.Columns.{kind_columns, wire_columns}
 use Rattle.script_rules.specs.Drafts.{wire_named}
 use Rattle.script_rules.specs.Reasons.{input_columns}

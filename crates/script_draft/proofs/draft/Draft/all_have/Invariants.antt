@@ -1,6 +1,6 @@
 use Rattle.std.proofs.Common.{◌≡◌, length}
 use Rattle.std.specs.Prelude.{◌==◌}
-use Rattle.dpc_model.specs.Lists.{list_all}
+use Rattle.dpc_lists.specs.Lists.{list_all}
 use Rattle.script_rules.specs.Reasons.{input_columns}
 use Rattle.script_draft.specs.Names.{names_in}
 use Rattle.script_draft.proofs.draft.Draft.all_have.Given as goal

@@ -1,5 +1,5 @@
 use Rattle.std.proofs.Common.{◌≡◌, ◌<◌, [], true, length, map, sym, subst}
-use Rattle.dpc_model.specs.Lists.{list_all}
+use Rattle.dpc_lists.specs.Lists.{list_all}
 use Rattle.script_draft.specs.Columns.{source_columns, outputs_behind, columns_in, is_among_streams, are_few}
 use Rattle.script_draft.specs.contracts.draft.Draft.{the_view}
 use Rattle.script_draft.proofs.Nodes.{few-push}

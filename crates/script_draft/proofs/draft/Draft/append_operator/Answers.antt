@@ -1,5 +1,5 @@
 use Rattle.std.proofs.Common.{◌≡◌, ◌-◌, ◌∙◌, false, length, map, refl, sym, ap, subst}
-use Rattle.dpc_model.specs.Lists.{is_nil}
+use Rattle.dpc_lists.specs.Lists.{is_nil}
 use Rattle.dpc_model.specs.Columns.{kind_columns, wire_columns}
 use Rattle.script_rules.specs.Drafts.{with_op}
 use Rattle.script_draft.specs.Columns.{source_columns, ports_of, outs_of}

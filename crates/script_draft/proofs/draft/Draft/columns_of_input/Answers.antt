@@ -1,6 +1,6 @@
 use Rattle.std.proofs.Common.{◌≡◌, ◌≤◌, ◌∙◌, Some, sym, ap, subst}
 use Rattle.std.specs.Prelude.{option_map}
-use Rattle.dpc_model.specs.Lists.{nth}
+use Rattle.dpc_lists.specs.Lists.{nth}
 use Rattle.dpc_model.specs.Columns.{wire_columns}
 use Rattle.dpc_model.specs.declared.operators.Wire.TheVariants.{Port, Op}
 use Rattle.script_rules.specs.Drafts.{wire_named}

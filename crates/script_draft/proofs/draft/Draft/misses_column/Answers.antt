@@ -1,6 +1,6 @@
 use Rattle.std.proofs.Common.{◌≡◌, ◌+◌, ◌≤◌, ◌∙◌, subst}
 use Rattle.std.specs.Prelude.{not, ◌||◌, nat_le, nat_lt}
-use Rattle.dpc_model.specs.Lists.{nth}
+use Rattle.dpc_lists.specs.Lists.{nth}
 use Rattle.script_rules.specs.Reasons.{input_columns}
 use Rattle.script_draft.specs.Names.{names_in}
 use Rattle.script_draft.specs.Shapes.{HasShape}

@@ -1,6 +1,6 @@
 use Rattle.std.proofs.Common.{◌≡◌, length}
 use Rattle.std.specs.Prelude.{is_none}
-use Rattle.dpc_model.specs.Lists.{list_any}
+use Rattle.dpc_lists.specs.Lists.{list_any}
 use Rattle.script_rules.specs.Drafts.{stream_named}
 use Rattle.script_draft.specs.Names.{names_in}
 use Rattle.script_draft.proofs.draft.Draft.reads_ahead.Given as goal

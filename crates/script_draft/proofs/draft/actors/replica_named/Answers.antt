@@ -2,7 +2,7 @@ use Rattle.std.proofs.Common.{◌≡◌, ◌<◌, ◌∙◌, true, false, sym, l
 use Rattle.std.specs.Prelude.{bytes_eq}
 use Rattle.std.proofs.lemmas.List.{take_all}
 use Rattle.std.proofs.lemmas.List.FromFn.{length-range_with_len}
-use Rattle.dpc_model.specs.Lists.{range_with_len}
+use Rattle.dpc_lists.specs.Lists.{range_with_len}
 use Rattle.script_rules.proofs.Streams.{no_place}
 use Rattle.script_draft.specs.Nodes.{node_name}
 use Rattle.script_draft.proofs.Names.{place-here, none-next}

@@ -1,5 +1,5 @@
 use Rattle.std.proofs.Common.{◌≡◌, false, map, take}
-use Rattle.dpc_model.specs.Lists.{range_with_len}
+use Rattle.dpc_lists.specs.Lists.{range_with_len}
 use Rattle.script_rules.specs.Reasons.{is_among}
 use Rattle.script_draft.specs.Nodes.{node_name}
 use Rattle.script_draft.proofs.draft.actors.replica_named.Given as goal

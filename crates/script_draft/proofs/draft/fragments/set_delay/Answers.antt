@@ -1,5 +1,5 @@
 use Rattle.std.proofs.Common.{◌≡◌, ◌-◌, ◌∙◌, refl, ap, length, arith}
-use Rattle.dpc_model.specs.Lists.{changed}
+use Rattle.dpc_lists.specs.Lists.{changed}
 use Rattle.script_rules.specs.Drafts.{with_delay}
 use Rattle.script_draft.proofs.Changes.{set-changed}
 use Rattle.script_draft.proofs.draft.fragments.set_delay.Goals as goal

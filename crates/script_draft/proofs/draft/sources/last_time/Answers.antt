@@ -1,5 +1,5 @@
 use Rattle.std.proofs.Common.{◌≡◌, ◌∙◌, Some, None, refl, sym}
-use Rattle.dpc_model.specs.Lists.{last_or}
+use Rattle.dpc_lists.specs.Lists.{last_or}
 use Rattle.dpc_model.specs.declared.tuples.Tuple.{Tuple}
 use Rattle.script_draft.proofs.Lasts.{last-get, last-map}
 use Rattle.script_draft.proofs.draft.sources.last_time.Goals as goal

@@ -1,9 +1,9 @@
 use Rattle.std.proofs.Common.{◌≡◌, ◌∙◌, ◌<◌, ◌++◌, ◌∷◌, [], ap, sym, subst, refl, length, true, false, Some, List, arith}
-use Rattle.dpc_model.specs.Lists.{nth, changed}
+use Rattle.dpc_lists.specs.Lists.{nth, changed}
 use Rattle.dpc_model.specs.declared.sessions.Sub.{Sub}
 use Rattle.dpc_model.specs.declared.messages.Message.TheVariants as message
 use Rattle.dpc_model.specs.declared.messages.Out.{Out}
-use Rattle.dpc_model.proofs.Elements.{set-changed}
+use Rattle.dpc_lists.proofs.Elements.{set-changed}
 use Rattle.node_model.specs.Mails.{mails}
 use Rattle.soutput.proofs.Answering.{nth-is}
 use Rattle.source_core.specs.Emitting.{SourceValue}

@@ -4,8 +4,8 @@ use Rattle.dpc_model.specs.declared.messages.Out.{Out}
 use Rattle.node_model.specs.Mails.{mails, Stepped}
 use Rattle.node_model.specs.Sources.{SourceState, source_message, source_subscribed}
 use Rattle.source_core.specs.Emitting.{SourceValue, after_step}
-use Rattle.dpc_model.proofs.Places.{place-within}
-use Rattle.dpc_model.specs.Lists.{place_of}
+use Rattle.dpc_lists.proofs.Places.{place-within}
+use Rattle.dpc_lists.specs.Lists.{place_of}
 use Rattle.source_core.proofs.Subscribed.{at-place}
 use Rattle.source_core.proofs.source.SourceNode.deliver.Goals as goal
 

@@ -1,7 +1,7 @@
 use Rattle.std.proofs.Common.{◌≡◌, ◌<◌, ◌≤◌, ◌-◌, ◌/◌, ◌∙◌, refl, sym, subst, ap, length, List, Option, ℕ, arith, slice_set}
 use Rattle.std.proofs.lemmas.List.Elements.{All-weaker}
-use Rattle.dpc_model.proofs.Elements.{set-changed}
-use Rattle.dpc_model.specs.Lists.{nth}
+use Rattle.dpc_lists.proofs.Elements.{set-changed}
+use Rattle.dpc_lists.specs.Lists.{nth}
 use Rattle.dpc_model.specs.Reading.{tuples_in}
 use Rattle.dpc_model.specs.PartStands.{InletValue}
 use Rattle.dpc_model.specs.declared.tuples.Tuple.{Tuple}

@@ -4,7 +4,7 @@ use Rattle.sunion.specs.Clocks.{stamps_from}
 use Rattle.sunion.specs.Ports.{forgetting}
 use Rattle.sunion.specs.Values.{SUnionValue}
 use Rattle.sunion.specs.Unions.{StandsForInputs, after_advancing, ForgetsBelow}
-use Rattle.dpc_model.proofs.Mapped.{written-back}
+use Rattle.dpc_lists.proofs.Mapped.{written-back}
 use Rattle.sunion.proofs.Standing.{advance-stands, forgetting-forgets}
 use Rattle.sunion.proofs.sunion.SUnion.advance.Goals as goal
 

@@ -1,5 +1,5 @@
 use Rattle.std.proofs.Common.{◌≡◌, ◌∙◌, ◌+◌, sym, subst, ap, ℕ, Option, List, true, false, nat_lt}
-use Rattle.dpc_model.specs.Lists.{last_below}
+use Rattle.dpc_lists.specs.Lists.{last_below}
 use Rattle.dpc_model.specs.Due.{is_passed}
 use Rattle.dpc_model.specs.PartStands.{InletValue}
 use Rattle.sunion.specs.Ports.{passing_view}

@@ -1,6 +1,6 @@
 use Rattle.std.proofs.Common.{◌<◌, ◌∙◌, List, length, ap, sym, subst}
-use Rattle.dpc_model.proofs.Elements.{set-changed}
-use Rattle.dpc_model.specs.Lists.{nth}
+use Rattle.dpc_lists.proofs.Elements.{set-changed}
+use Rattle.dpc_lists.specs.Lists.{nth}
 use Rattle.dpc_model.specs.Inlets.{after_link, shows_loss}
 use Rattle.dpc_model.specs.PartStands.{InletValue}
 use Rattle.sunion.specs.Values.{SUnionValue}

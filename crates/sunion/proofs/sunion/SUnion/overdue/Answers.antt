@@ -1,5 +1,5 @@
 use Rattle.std.proofs.Common.{rules, ◌≡◌, ◌<◌, ◌-◌, ◌∙◌, ◌+◌, ◌^◌, sym, subst, ap, min, length, arith, Some, None, false}
-use Rattle.dpc_model.specs.Lists.{last_below}
+use Rattle.dpc_lists.specs.Lists.{last_below}
 use Rattle.sunion.specs.Values.{SUnionValue}
 use Rattle.sunion.specs.Unions.{StandsForInputs, last_due_in}
 use Rattle.sunion.specs.contracts.sunion.SUnion.{the_view}

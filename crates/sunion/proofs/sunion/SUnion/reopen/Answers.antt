@@ -1,5 +1,5 @@
 use Rattle.std.proofs.Common.{◌<◌, ◌∙◌, List, length, ap, sym, subst}
-use Rattle.dpc_model.proofs.Elements.{set-changed}
+use Rattle.dpc_lists.proofs.Elements.{set-changed}
 use Rattle.dpc_model.specs.Inlets.{with_next_session}
 use Rattle.dpc_model.specs.PartStands.{InletValue}
 use Rattle.sunion.specs.Values.{SUnionValue}

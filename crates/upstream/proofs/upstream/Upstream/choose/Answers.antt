@@ -1,9 +1,9 @@
 use Rattle.std.proofs.Common.{◌≡◌, ◌∙◌, ap, arith, length, true}
 use Rattle.std.proofs.lemmas.Grind.{common_steps}
 use Rattle.upstream.proofs.Choosing.{chosen-within}
-use Rattle.dpc_model.proofs.Places.{nth-at}
+use Rattle.dpc_lists.proofs.Places.{nth-at}
 use Rattle.upstream.proofs.Places.{asked}
-use Rattle.dpc_model.specs.Lists.{nth}
+use Rattle.dpc_lists.specs.Lists.{nth}
 use Rattle.upstream.specs.Upstreams.{UpstreamValue, port_by}
 use Rattle.dpc_model.specs.Ports.{must_reopen, choice_at}
 use Rattle.dpc_model.specs.Replicas.{choose}

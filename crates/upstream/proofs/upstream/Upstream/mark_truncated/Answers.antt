@@ -1,4 +1,4 @@
-use Rattle.dpc_model.proofs.Elements.{length-changed}
+use Rattle.dpc_lists.proofs.Elements.{length-changed}
 use Rattle.dpc_model.specs.Replicas.{with_mark}
 use Rattle.upstream.proofs.upstream.Upstream.mark_truncated.Goals as goal
 

@@ -1,7 +1,7 @@
 use Rattle.std.proofs.Common.{rules, ◌≡◌, ◌∙◌, ap, ℕ, map, List, replicate}
 use Rattle.upstream.specs.Upstreams.{UpstreamValue, new_upstream}
 use Rattle.dpc_model.specs.Replicas.{Watch, new_watch}
-use Rattle.dpc_model.proofs.Places.{same-each}
+use Rattle.dpc_lists.proofs.Places.{same-each}
 use Rattle.upstream.proofs.upstream.Upstream.new.Goals as goal
 
 pub returns : goal.returns

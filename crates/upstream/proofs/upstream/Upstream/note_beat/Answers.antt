@@ -1,4 +1,4 @@
-use Rattle.dpc_model.proofs.Elements.{length-changed}
+use Rattle.dpc_lists.proofs.Elements.{length-changed}
 use Rattle.dpc_model.specs.Replicas.{after_beat}
 use Rattle.upstream.proofs.upstream.Upstream.note_beat.Goals as goal
 

@@ -1,5 +1,5 @@
 use Rattle.std.proofs.Common.{◌≡◌, take}
-use Rattle.dpc_model.proofs.exact.copied.Given as goal
+use Rattle.dpc_lists.proofs.exact.copied.Given as goal
 
 abbrev pub invariant-loop-element : goal.invariant-loop-element
 invariant-loop-element g l = l.copies.items ≡ take l.element-index l.elements

@@ -1,7 +1,7 @@
 -- Where an element stands in a list.
 use Rattle.std.proofs.Common.{◌≡◌, ℕ, zero, suc, ◌<◌, Bool, true, false, cond, ◌==◌, List, [], ◌∷◌, map, length, refl, ap, arith, replicate, position, slice_index_or, Option, Some, None}
 use Rattle.std.proofs.lemmas.Grind.{common_steps}
-use Rattle.dpc_model.specs.Lists.{nth, place_of}
+use Rattle.dpc_lists.specs.Lists.{nth, place_of}
 
 -- the place of a number, however the two are compared
 pub position-place : (a : ℕ) (xs : List ℕ) → position (λ (b : ℕ). b == a) xs ≡ place_of (λ b. a == b) xs

@@ -1,6 +1,6 @@
 -- The elements of a list and of its parts, by number.
 use Rattle.std.proofs.Common.{◌≡◌, ℕ, zero, suc, ◌+◌, ◌<◌, List, [], ◌∷◌, ◌++◌, map, take, drop, length, refl, ap, arith, Some, slice_get, slice_index_or, slice_set, zero-add, suc-add}
-use Rattle.dpc_model.specs.Lists.{changed}
+use Rattle.dpc_lists.specs.Lists.{changed}
 
 pub get-take : {X : Type 0} (m j : ℕ) (xs : List X) (t : X) → slice_get (take m xs) j ≡ Some t → slice_get xs j ≡ Some t
 get-take zero j xs t e = cc

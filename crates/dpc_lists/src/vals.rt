@@ -1,6 +1,6 @@
 //! The values of a tuple.
 ghost use Rattle.std.specs.Prelude.{◌≡◌, ◌≤◌, ◌∷◌, ◌++◌, [], length, take, IfOk, OnOk};
-ghost use Rattle.dpc_model.specs.Held.{values_held, IsHeld};
+ghost use Rattle.dpc_lists.specs.Held.{values_held, IsHeld};
 
 use crate::exact::{Exact, are_same};
 use std::alloc::{AllocError, Global};
@@ -27,7 +27,7 @@ pub struct Vals {
 
 impl Model for Vals {
     ghost use Rattle.std.specs.Prelude.{List, ℤ};
-    ghost use Rattle.dpc_model.specs.Held.{values_held, IsHeld};
+    ghost use Rattle.dpc_lists.specs.Held.{values_held, IsHeld};
 
     ghost Value = { List ℤ };
 
@@ -36,27 +36,14 @@ impl Model for Vals {
     ghost invariant = { λ v. IsHeld v.held };
 }
 
-/// So many of these values and one more.
-#[inline]
-fn with_one_more(
-    alloc: Global,
-    count: u8,
-    mut values: [i64; ROOM],
-    value: i64,
-) -> Result<Held, AllocError>
-    requires { count ≤ 5 }
-    ensures values { IfOk result (λ held. values_held held ≡ take count values ++ value ∷ []) }
-    ensures few { IfOk result IsHeld }
+/// These values and one more, in an allocation.
+fn moved_out(alloc: Global, values: &[i64], value: i64) -> Result<Vec<i64>, AllocError>
+    ensures { IfOk result (λ many. many.items ≡ values.now ++ value ∷ []) }
 {
-    let place = count as usize;
-    if place < ROOM {
-        values[place] = value;
-        return Ok(Held::Few(count + 1, values));
-    }
     let mut many = Vec::with_capacity(alloc, 2 * ROOM)?;
-    many.extend_from_slice(&values)?;
+    many.extend_from_slice(values)?;
     many.push(value)?;
-    Ok(Held::Many(many))
+    Ok(many)
 }
 
 impl Vals {
@@ -119,9 +106,16 @@ impl Vals {
         ensures { OnOk result (self.new ≡ self.old ++ value ∷ []) }
     {
         match self.held {
-            Held::Few(count, values) => self.held = with_one_more(
-                self.alloc, count, values, value,
-            )?,
+            Held::Few(count, ref mut values) if (count as usize) < ROOM => {
+                values[count as usize] = value;
+                if let Held::Few(ref mut count, _) = self.held {
+                    *count += 1;
+                }
+            }
+            Held::Few(count, values) => {
+                let many = moved_out(self.alloc, &values[..count as usize], value)?;
+                self.held = Held::Many(many);
+            }
             Held::Many(ref mut values) => values.push(value)?,
         }
         Ok(())

@@ -1,8 +1,8 @@
 -- The values of a tuple, as they lie in it.
 use Rattle.std.specs.Prelude.{ℤ, ◌≤◌, List, take}
 use Rattle.std.specs.Bool.{⊤}
-use Rattle.dpc_model.specs.declared.vals.Held.{Held}
-use Rattle.dpc_model.specs.declared.vals.Held.TheVariants.{Few, Many}
+use Rattle.dpc_lists.specs.declared.vals.Held.{Held}
+use Rattle.dpc_lists.specs.declared.vals.Held.TheVariants.{Few, Many}
 
 abbrev pub values_held : Held → List ℤ
 values_held (Few count values) = take count values
