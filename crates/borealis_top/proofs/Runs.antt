@@ -14,7 +14,7 @@ use Rattle.law_fit.specs.Fits.{CanRun}
 use Rattle.law_checked_runs.proofs.Plans.{can_run}
 use Rattle.law_safety.proofs.Law.{run-good, run-safe}
 use Rattle.world_model.specs.Worlds.{run, all_settled}
-use Rattle.world_model.specs.Schedules.{lock_of, quiet_limit}
+use Rattle.world_model.specs.Schedules.{lockstep_journal, quiet_limit}
 use Rattle.law_schedules.specs.Journals.{phases_in}
 use Rattle.law_schedules.proofs.Lockstep.{lock-live}
 use Rattle.law_schedules.proofs.Timely.{live-ends}
@@ -44,11 +44,11 @@ none-open true false h = let clash : false ≡ true = h refl in cc
 good-run : (s : Script) → CanRun s.plan → IsChecked s → IsGoodRun s
 good-run s can checked =
     record {
-      safe = run-safe s.plan (lock_of s) can.checked;
+      safe = run-safe s.plan (lockstep_journal s) can.checked;
       live = lock-live s;
       quiet = λ e.
           let both = and_parts s.settle (not (all_settled (run_of s))) e in
-          quiet-so (all_settled (run_of s)) (phases_in (lock_of s)) (length s.phases + quiet_limit s.plan) ((live-ends s (lock_of s) (lock-live s)).1 both.0) both.1;
+          quiet-so (all_settled (run_of s)) (phases_in (lockstep_journal s)) (length s.phases + quiet_limit s.plan) ((live-ends s (lockstep_journal s) (lock-live s)).1 both.0) both.1;
       settles = λ healed none. none-open s.settle (all_settled (run_of s)) (λ on. crashless-settles s checked on healed none);
       recovers = λ healed calm. none-open s.settle (all_settled (run_of s)) (λ on. healed-settles s checked on healed calm);
     }

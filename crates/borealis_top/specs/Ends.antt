@@ -11,7 +11,7 @@ use Rattle.script_rules.specs.Reading.{read, refusal}
 use Rattle.load_gen.specs.Generated.{generated}
 use Rattle.world_model.specs.Worlds.{World, Sums, run, all_settled}
 use Rattle.world_model.specs.Safe.{IsSafe}
-use Rattle.world_model.specs.Schedules.{lock_of, is_live, quiet_limit}
+use Rattle.world_model.specs.Schedules.{lockstep_journal, is_live, quiet_limit}
 use Rattle.law_schedules.specs.Journals.{phases_in}
 use Rattle.law_healing.specs.Healing.{heals}
 use Rattle.law_lockstep.specs.Calm.{IsCalm}
@@ -38,7 +38,7 @@ IsTold old new text status result = ((result ≡ status) × Took old new text) �
 
 -- the world after the one-thread journal of a script
 abbrev pub run_of : Script → World
-run_of s = run s.plan (lock_of s)
+run_of s = run s.plan (lockstep_journal s)
 
 abbrev pub report_as : Form → World → List ℕ
 report_as Text w = report_text w
@@ -54,7 +54,7 @@ answer_to Ideal s = ideal_text s.plan
 
 -- the numbers that its run would reach, where an event of it would pass a limit
 abbrev pub excess_of : Reading → Script → Option Sums
-excess_of (Run form) s = excess s.plan (lock_of s)
+excess_of (Run form) s = excess s.plan (lockstep_journal s)
 excess_of Check s = None
 excess_of Print s = None
 excess_of Ideal s = None
@@ -69,12 +69,12 @@ leaves_open Ideal s = false
 -- what holds of the one-thread run of a script: it is safe, whatever failed; its journal is one that the script lets
 -- happen, to the end; and where a client is not settled behind settle, all quiet phases went by
 pub record IsGoodRun (s : Script) : Type 0 where
-  pub safe : IsSafe s.plan (lock_of s)
-  pub live : is_live s (lock_of s) ≡ true
-  pub quiet : leaves_open (Run Text) s ≡ true → phases_in (lock_of s) ≡ length s.phases + quiet_limit s.plan
+  pub safe : IsSafe s.plan (lockstep_journal s)
+  pub live : is_live s (lockstep_journal s) ≡ true
+  pub quiet : leaves_open (Run Text) s ≡ true → phases_in (lockstep_journal s) ≡ length s.phases + quiet_limit s.plan
   -- where its directives mend what they break it leaves no client open, if it crashes no node or recoveries end
   pub settles : heals s ≡ true → has_no_crash s ≡ true → leaves_open (Run Text) s ≡ false
-  pub recovers : heals s ≡ true → IsCalm s (lock_of s) → leaves_open (Run Text) s ≡ false
+  pub recovers : heals s ≡ true → IsCalm s (lockstep_journal s) → leaves_open (Run Text) s ≡ false
 
 -- what holds of a script whose answer is written
 abbrev pub Holds : Reading → Script → Type 0

@@ -13,7 +13,7 @@ use Rattle.inlet.specs.Forgotten.{Keeps, IsTaken, from_first}
 use Rattle.inlet.proofs.Standing.{splits}
 use Rattle.upstream.specs.Upstreams.{UpstreamValue, with_marks_ended}
 use Rattle.node_model.specs.Clients.{ClientState, with_taken, client_message, client_marks_ended}
-use Rattle.node_model.specs.Views.{upstream_of}
+use Rattle.node_model.specs.NodeParts.{upstream_of}
 use Rattle.client_fold.specs.Folding.{ClientValue, StandsForClient, Follows, IsFolded, items_of, all_taken}
 
 -- ---- the inlet, and what was taken

@@ -14,7 +14,7 @@ use Rattle.inlet.specs.Forgotten.{Keeps}
 use Rattle.upstream.specs.Upstreams.{UpstreamValue, with_marks_ended, with_tick, with_choice, port_by, asked_actor}
 use Rattle.node_model.specs.Clients.{ClientState, client_stream, client_tick_step}
 use Rattle.node_model.specs.Mails.{Mail, mails, mail}
-use Rattle.node_model.specs.Views.{upstream_of}
+use Rattle.node_model.specs.NodeParts.{upstream_of}
 use Rattle.client_fold.specs.Folding.{ClientValue, StandsForClient, Follows, Sends, IsAsked, acks_of}
 
 -- ---- a session that is opened anew

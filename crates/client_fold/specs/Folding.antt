@@ -17,7 +17,7 @@ use Rattle.inlet.specs.Forgotten.{Keeps}
 use Rattle.upstream.specs.Upstreams.{UpstreamValue}
 use Rattle.node_model.specs.Clients.{ClientState, client_stream, client_tick_step}
 use Rattle.node_model.specs.Mails.{mails}
-use Rattle.node_model.specs.Views.{upstream_of}
+use Rattle.node_model.specs.NodeParts.{upstream_of}
 
 -- the items of several batches in order
 abbrev pub all_taken : List (List Item) → List Item

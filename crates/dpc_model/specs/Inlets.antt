@@ -63,8 +63,8 @@ abbrev pub shows_loss : InletState → Option (Sess × ℕ) → Bool
 shows_loss inlet None = inlet.answered
 shows_loss inlet (Some l) = inlet.answered && (not (same_sess l.0 inlet.sess) || nat_lt inlet.next l.1)
 
-abbrev pub after_link : InletState → Option (Sess × ℕ) → InletState
-after_link inlet link = record inlet { broken = inlet.broken || shows_loss inlet link }
+abbrev pub after_tally : InletState → Option (Sess × ℕ) → InletState
+after_tally inlet tally = record inlet { broken = inlet.broken || shows_loss inlet tally }
 
 -- the next session is asked for
 abbrev pub with_next_session : InletState → InletState

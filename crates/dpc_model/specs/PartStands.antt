@@ -5,7 +5,7 @@ use Rattle.dpc_model.specs.Inlets.{InletState}
 use Rattle.dpc_model.specs.Due.{Stamps, stamp_of}
 use Rattle.dpc_model.specs.Sessions.{Acked}
 use Rattle.dpc_model.specs.declared.sessions.Sub.{Sub}
-use Rattle.dpc_model.specs.Parts.{Inputs, view_of, processed, processed_view, Stream, Outputs, Neighbours}
+use Rattle.dpc_model.specs.Parts.{Inputs, frontier_of, processed, processed_and_closed, Stream, Outputs, Neighbours}
 use Rattle.dpc_model.specs.declared.tuples.Tuple.{Tuple}
 use Rattle.dpc_model.specs.declared.tuples.Tagged.{Tagged}
 
@@ -56,7 +56,7 @@ at_cursor k = elim k.held [ None ↦ k.state | Some m ↦ m ]
 pub record StandsForKeeper {M : Type 0} (after : M → List Tagged → ℕ → Type 0) (width : ℕ) (recovering : Bool) (k : KeeperValue M) (x : Inputs) : Type 0 where
   pub held : IsNone k.held ↔ (x.closed ≡ [])
   pub cursor : recovering ≡ false → after (at_cursor k) (processed width x) x.cursor
-  pub view : recovering ≡ false → after k.state (processed_view width x) (view_of x)
+  pub frontier : recovering ≡ false → after k.state (processed_and_closed width x) (frontier_of x)
 
 -- ---- the output
 

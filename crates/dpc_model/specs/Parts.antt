@@ -25,8 +25,8 @@ pub record Inputs : Type 0 where
   pub closed : List (List Tagged)
 
 -- the first bucket that is neither processed nor closed
-abbrev pub view_of : Inputs → ℕ
-view_of x = x.cursor + length x.closed
+abbrev pub frontier_of : Inputs → ℕ
+frontier_of x = x.cursor + length x.closed
 
 -- the stable tuples below the cursor's bucket, by port
 abbrev pub done_in : ℕ → Inputs → List (List Tuple)
@@ -36,8 +36,8 @@ done_in width x = map (λ (i : InletState). cut i.held.stable (x.cursor * width)
 abbrev pub processed : ℕ → Inputs → List Tagged
 processed width x = serial (done_in width x)
 
-abbrev pub processed_view : ℕ → Inputs → List Tagged
-processed_view width x = processed width x ++ all_of x.closed
+abbrev pub processed_and_closed : ℕ → Inputs → List Tagged
+processed_and_closed width x = processed width x ++ all_of x.closed
 
 -- the tuples of bucket k at one port: the stable ones and then the tentative ones
 abbrev pub bucket_at : ℕ → ℕ → Reader → List Tuple
@@ -63,8 +63,8 @@ stream_by value width passing x =
     record {
       stable = stable;
       bound = x.cursor * width;
-      tentative = drop (length stable) (value (processed_view width x) (view_of x * width));
-      passed = if passing && not (is_nil x.closed) then Some (view_of x * width) else None;
+      tentative = drop (length stable) (value (processed_and_closed width x) (frontier_of x * width));
+      passed = if passing && not (is_nil x.closed) then Some (frontier_of x * width) else None;
     }
 
 -- by reader its session and what it acknowledged; and from which tuple on the sender can send

@@ -4,7 +4,7 @@ use Rattle.dpc_lists.specs.Lists.{nth, least, place_of}
 use Rattle.dpc_model.specs.declared.messages.NodeState.{NodeState}
 use Rattle.dpc_model.specs.declared.messages.NodeState.TheVariants as state
 use Rattle.dpc_model.specs.declared.messages.Rank.{Rank}
-use Rattle.dpc_model.specs.declared.messages.Rank.TheVariants.{Stable, UpFailure, Stabilizing, Silent}
+use Rattle.dpc_model.specs.declared.messages.Rank.TheVariants.{Stable, UpFailure, Stabilizing, Absent}
 
 -- what is known of one replica: the newest incarnation, the lesser of 4 and the ticks since the last beat noted, what that beat said,
 -- and the base of a truncation
@@ -46,11 +46,11 @@ abbrev pub rank_by : Option (NodeState × Bool) → Rank
 rank_by None = Stable
 rank_by (Some s) = if s.1 then Stabilizing else rank_said s.0
 
-abbrev pub is_silent : Watch → Bool
-is_silent w = nat_le 3 w.ticks || is_some w.truncated
+abbrev pub is_absent : Watch → Bool
+is_absent w = nat_le 3 w.ticks || is_some w.truncated
 
 abbrev pub rank_of : Watch → Rank
-rank_of w = if is_silent w then Silent else rank_by w.said
+rank_of w = if is_absent w then Absent else rank_by w.said
 
 -- the last beat noted says recovering
 abbrev pub says_recovering : Watch → Bool
@@ -61,7 +61,7 @@ abbrev pub rank_order : Rank → ℕ
 rank_order Stable = 0
 rank_order UpFailure = 1
 rank_order Stabilizing = 2
-rank_order Silent = 3
+rank_order Absent = 3
 
 -- no replica has a better rank than this one
 abbrev pub has_best_rank : List Rank → ℕ → Bool

@@ -47,7 +47,7 @@ pub struct Beat {
     pub state: NodeState,
     pub recovering: bool,
     pub over: u64,
-    pub link: Option<(Sess, u64)>,
+    pub tally: Option<(Sess, u64)>,
 }
 
 #[derive(Drop)]
@@ -75,7 +75,7 @@ pub enum Rank {
     Stable,
     UpFailure,
     Stabilizing,
-    Silent,
+    Absent,
 }
 
 /// The ranks of the replicas in order.

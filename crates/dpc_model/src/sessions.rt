@@ -12,7 +12,7 @@ pub struct Sub {
 
 impl Sub {
     ghost use Rattle.std.specs.Prelude.{◌≡◌, ◌+◌, ◌^◌, ◌<◌};
-    ghost use Rattle.dpc_model.specs.Sessions.{no_session, link_of, with_batch, is_newer_than_kept};
+    ghost use Rattle.dpc_model.specs.Sessions.{no_session, tally_of, with_batch, is_newer_than_kept};
     ghost use Rattle.std.specs.Prelude.{true, false, Some};
 
     /// No session yet.
@@ -49,8 +49,8 @@ impl Sub {
     }
 
     /// The open session with the number of its batches.
-    pub fn link(&self) -> Option<(Sess, u64)>
-        ensures { result ≡ link_of self.now }
+    pub fn tally(&self) -> Option<(Sess, u64)>
+        ensures { result ≡ tally_of self.now }
     {
         match self.kept {
             Some(sess) => {

@@ -1,6 +1,6 @@
 //! One replica's asks and promises.
 ghost use Rattle.std.specs.Prelude.{◌≡◌, ◌+◌, ◌^◌, ◌<◌, ◌≤◌, is_some, is_none, length, replicate, Some, None, if◌then◌else◌};
-ghost use Rattle.dpc_model.specs.Granting.{new_grants, own_key, promised_other, grants, with_promise, may_enter_by, promise_after, after_peer_beat, after_silence, with_ask, with_ask_over};
+ghost use Rattle.dpc_model.specs.Granting.{new_grants, own_key, promised_other, grants, with_promise, may_enter_by, promise_after, after_peer_beat, after_absence, with_ask, with_ask_over};
 
 use crate::keys::{Key, Promise, greater, is_at_most, is_over_by, later};
 use arrayvec::ArrayVec;
@@ -160,7 +160,7 @@ impl GrantCore {
 
     /// A tick, with whether each replica is silent. A promise to a silent one ends.
     pub fn on_tick(&mut self, silent: &[bool])
-        ensures { self.new ≡ after_silence self.old silent.now }
+        ensures { self.new ≡ after_absence self.old silent.now }
     {
         if let Some(promise) = &self.promise {
             if silent.get(promise.to).copied().unwrap_or(false) {

@@ -6,7 +6,7 @@ use Rattle.dpc_model.specs.declared.tuples.Tuple.{Tuple}
 use Rattle.dpc_model.specs.declared.tuples.Item.{Item}
 use Rattle.dpc_model.specs.declared.tuples.Item.TheVariants.{Stable, Tentative, Passed, Boundary, Undo, RecDone}
 use Rattle.inlet.specs.Drafts.{Began, drafted}
-use Rattle.inlet.specs.declared.draft.Draft.{Draft}
+use Rattle.inlet.specs.declared.draft.BatchDraft.{BatchDraft}
 
 -- these items were taken, before the others
 abbrev pub taken_before : List Item → Option Folded → Option Folded
@@ -14,7 +14,7 @@ taken_before items None = None
 taken_before items (Some f) = Some (record f { taken = items ++ f.taken })
 
 -- so many items were read, and of them these were taken
-pub record IsUnderWay (items : List Item) (i : ℕ) (old now : Draft) (taken : List Item) : Type 0 where
+pub record IsUnderWay (items : List Item) (i : ℕ) (old now : BatchDraft) (taken : List Item) : Type 0 where
   pub folded : (base : Reader) → Began base old → fold_items (drafted base old) items ≡ taken_before taken (fold_items (drafted base now) (drop i items))
   pub first : now.first ≡ old.first
   pub held : now.held ≡ true → old.held ≡ true

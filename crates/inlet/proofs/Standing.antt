@@ -5,7 +5,7 @@ use Rattle.std.proofs.lemmas.List.Elements.{All-nil, All-cons, All-append, All-w
 use Rattle.std.specs.List.{All}
 use Rattle.dpc_model.specs.Streams.{is_below}
 use Rattle.dpc_model.specs.Reading.{stable_reader}
-use Rattle.dpc_model.specs.Inlets.{InletState, sess_of, new_inlet, restarted_inlet, take_batch, shows_loss, after_link, with_next_session, asked_by}
+use Rattle.dpc_model.specs.Inlets.{InletState, sess_of, new_inlet, restarted_inlet, take_batch, shows_loss, after_tally, with_next_session, asked_by}
 use Rattle.dpc_model.specs.PartStands.{InletValue, with_stable, StandsForInlet}
 use Rattle.dpc_model.specs.declared.tuples.Tuple.{Tuple}
 use Rattle.dpc_model.specs.declared.tuples.Item.{Item}
@@ -67,12 +67,12 @@ absorb-tells b sess index items v new answer told x e taken h = e ∙ ap times_o
 
 -- ---- sessions
 
-pub heard-stands : (b : ℕ) (v : InletValue) (x : InletState) (link : Option (Sess × ℕ)) → StandsForInlet b v x →
-    StandsForInlet b (record v { state = after_link v.state link }) (after_link x link)
-heard-stands b v x link h = record { count = h.count; kept = h.kept; rest = ap (λ (y : InletState). after_link y link) h.rest }
+pub heard-stands : (b : ℕ) (v : InletValue) (x : InletState) (tally : Option (Sess × ℕ)) → StandsForInlet b v x →
+    StandsForInlet b (record v { state = after_tally v.state tally }) (after_tally x tally)
+heard-stands b v x tally h = record { count = h.count; kept = h.kept; rest = ap (λ (y : InletState). after_tally y tally) h.rest }
 
-pub heard-tells : (b : ℕ) (v : InletValue) (x : InletState) (link : Option (Sess × ℕ)) → StandsForInlet b v x → shows_loss v.state link ≡ shows_loss x link
-heard-tells b v x link h = ap (λ (y : InletState). shows_loss y link) h.rest
+pub heard-tells : (b : ℕ) (v : InletValue) (x : InletState) (tally : Option (Sess × ℕ)) → StandsForInlet b v x → shows_loss v.state tally ≡ shows_loss x tally
+heard-tells b v x tally h = ap (λ (y : InletState). shows_loss y tally) h.rest
 
 pub reopen-stands : (b : ℕ) (v : InletValue) (x : InletState) → StandsForInlet b v x → StandsForInlet b (record v { state = with_next_session v.state }) (with_next_session x)
 reopen-stands b v x h = record { count = h.count; kept = h.kept; rest = ap with_next_session h.rest }

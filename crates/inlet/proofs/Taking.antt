@@ -14,7 +14,7 @@ use Rattle.std.proofs.lemmas.List.{length-map}
 use Rattle.inlet.proofs.Whole.{whole-taken}
 use Rattle.inlet.specs.Drafts.{Began, drafted, folded_of, IsFold, IsEmpty, committed}
 use Rattle.inlet.specs.Batches.{left_by, IsRead}
-use Rattle.inlet.specs.declared.draft.Draft.{Draft}
+use Rattle.inlet.specs.declared.draft.BatchDraft.{BatchDraft}
 use Rattle.inlet.specs.declared.inlet.Batch.TheVariants as batch
 
 -- the plain inlet of which exactly these tuples were forgotten
@@ -42,22 +42,22 @@ reads-behind sess index items v old behind = record {
 }
 
 -- the draft before the first item stands for the reader itself
-drafted-empty : (gone : List Tuple) (v : InletValue) (d : Draft) → IsEmpty v d → drafted (whole gone v).held d ≡ (whole gone v).held
+drafted-empty : (gone : List Tuple) (v : InletValue) (d : BatchDraft) → IsEmpty v d → drafted (whole gone v).held d ≡ (whole gone v).held
 drafted-empty gone v d h =
-    rw (h.stable, h.bound, h.soft, h.tentative, h.held, append-nil (gone ++ v.state.held.stable), all-held v.state.held.tentative) refl
+    rw (h.stable, h.bound, h.passed, h.tentative, h.held, append-nil (gone ++ v.state.held.stable), all-held v.state.held.tentative) refl
   where
     all-held : (ts : List Tuple) → (if not (is_nil ts) then ts else []) ++ [] ≡ ts
     all-held [] = refl
     all-held (t ∷ ts) = append-nil (t ∷ ts)
 
-began-empty : (gone : List Tuple) (v : InletValue) (d : Draft) → v.count ≡ length (gone ++ v.state.held.stable) → IsEmpty v d → Began (whole gone v).held d
+began-empty : (gone : List Tuple) (v : InletValue) (d : BatchDraft) → v.count ≡ length (gone ++ v.state.held.stable) → IsEmpty v d → Began (whole gone v).held d
 began-empty gone v d count h = record { first = h.first ∙ count; held = λ e. some (is_nil v.state.held.tentative) (sym h.held ∙ e) }
   where
     some : (c : Bool) → not c ≡ true → c ≡ false
     some true e = cc
     some false e = refl
 
-folds-held : (gone : List Tuple) (v : InletValue) (items : List Item) (empty d : Draft) (taken : Option (List Item)) → v.count ≡ length (gone ++ v.state.held.stable) → IsEmpty v empty →
+folds-held : (gone : List Tuple) (v : InletValue) (items : List Item) (empty d : BatchDraft) (taken : Option (List Item)) → v.count ≡ length (gone ++ v.state.held.stable) → IsEmpty v empty →
     IsFold items empty d taken → fold_items (whole gone v).held items ≡ folded_of (whole gone v).held d taken
 folds-held gone v items empty d taken count h f =
     ap (λ (r : Reader). fold_items r items) (sym (drafted-empty gone v empty h)) ∙ f.folded (whole gone v).held (began-empty gone v empty count h)
@@ -65,7 +65,7 @@ folds-held gone v items empty d taken count h f =
 count-whole : (gone : List Tuple) (v : InletValue) (x : InletState) → Keeps gone v x → v.count ≡ length (gone ++ v.state.held.stable)
 count-whole gone v x k = k.count ∙ ap (λ (ts : List Tuple). length ts) k.kept
 
-reads-next : (sess : Sess) (index : ℕ) (items : List Item) (v : InletValue) (empty d : Draft) (taken : Option (List Item)) → is_old v.state sess index ≡ false →
+reads-next : (sess : Sess) (index : ℕ) (items : List Item) (v : InletValue) (empty d : BatchDraft) (taken : Option (List Item)) → is_old v.state sess index ≡ false →
     (v.state.broken || nat_lt v.state.next index) ≡ false → IsEmpty v empty → IsFold items empty d taken →
     (gone : List Tuple) (x : InletState) → Keeps gone v x → take_batch x sess index items ≡ after_next_batch x (folded_of x.held d taken)
 unfolding take_batch
@@ -73,11 +73,11 @@ reads-next sess index items v empty d taken old behind h f gone x k =
     subst (λ (y : InletState). take_batch y sess index items ≡ after_next_batch y (folded_of y.held d taken)) (sym (whole-is gone v x k))
     (rw (old, behind) (ap (λ (o : Option Folded). after_next_batch (whole gone v) o) (folds-held gone v items empty d taken (count-whole gone v x k) h f)))
 
-pub reads-refused : (sess : Sess) (index : ℕ) (items : List Item) (v : InletValue) (empty d : Draft) → is_old v.state sess index ≡ false →
+pub reads-refused : (sess : Sess) (index : ℕ) (items : List Item) (v : InletValue) (empty d : BatchDraft) → is_old v.state sess index ≡ false →
     (v.state.broken || nat_lt v.state.next index) ≡ false → IsEmpty v empty → IsFold items empty d None → IsRead sess index items v batch.Broken
 reads-refused sess index items v empty d old behind h f = record { left = reads-next sess index items v empty d None old behind h f; within = tt; whole = tt }
 
-pub reads-taken : (sess : Sess) (index : ℕ) (items : List Item) (v : InletValue) (empty d : Draft) (taken : Vec (Bor Item) Global) → is_old v.state sess index ≡ false →
+pub reads-taken : (sess : Sess) (index : ℕ) (items : List Item) (v : InletValue) (empty d : BatchDraft) (taken : Vec (Bor Item) Global) → is_old v.state sess index ≡ false →
     (v.state.broken || nat_lt v.state.next index) ≡ false → IsEmpty v empty → IsFold items empty d (Some (map (λ (b : Bor Item). b.now) taken.items)) →
     IsRead sess index items v (batch.Next d taken)
 reads-taken sess index items v empty d taken old behind h f = record {
@@ -87,7 +87,7 @@ reads-taken sess index items v empty d taken old behind h f = record {
 }
 
 -- what the draft adds to the inlet it adds to the plain one
-pub adds-both : (gone : List Tuple) (v : InletValue) (d : Draft) (x : InletState) (taken : List Item) → Keeps gone v x →
+pub adds-both : (gone : List Tuple) (v : InletValue) (d : BatchDraft) (x : InletState) (taken : List Item) → Keeps gone v x →
     Keeps gone (committed v d) (after_next_batch x (Some (record { after = drafted x.held d; taken = taken }))).after
 adds-both gone v d x taken k =
     subst (λ (y : InletState). Keeps gone (committed v d) (after_next_batch y (Some (record { after = drafted y.held d; taken = taken }))).after) (sym (whole-is gone v x k)) (record {
@@ -97,7 +97,7 @@ adds-both gone v d x taken k =
     })
 
 -- a batch that was read as the next one is taken once what it adds is held
-pub takes-next : (sess : Sess) (index : ℕ) (items : List Item) (v new : InletValue) (d : Draft) (taken : Vec (Bor Item) Global) → IsRead sess index items v (batch.Next d taken) →
+pub takes-next : (sess : Sess) (index : ℕ) (items : List Item) (v new : InletValue) (d : BatchDraft) (taken : Vec (Bor Item) Global) → IsRead sess index items v (batch.Next d taken) →
     new ≡ committed v d → IsTaken sess index items v new (taken_as.Used (map (λ (b : Bor Item). b.now) taken.items))
 takes-next sess index items v new d taken h e = record {
   after = λ gone x k.

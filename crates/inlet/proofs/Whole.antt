@@ -5,7 +5,7 @@ use Rattle.dpc_model.specs.Reading.{Reader, NoReading, Skipped, Taken, reading, 
 use Rattle.dpc_model.specs.declared.tuples.Tuple.{Tuple}
 use Rattle.dpc_model.specs.declared.tuples.Item.{Item}
 use Rattle.inlet.specs.Drafts.{Began, drafted, IsFold}
-use Rattle.inlet.specs.declared.draft.Draft.{Draft}
+use Rattle.inlet.specs.declared.draft.BatchDraft.{BatchDraft}
 
 -- those that were taken are no more than there are, and are all of them where they are as many
 record IsPart (items taken : List Item) : Type 0 where
@@ -41,12 +41,12 @@ fold-part r (i ∷ items) =
     ]
 
 -- a reader that a draft may have begun with
-abbrev reader_before : Draft → Reader
-reader_before d = let some : Tuple = record { stime = 0; vals = [] } in record { stable = replicate d.first some; bound = 0; tentative = some ∷ []; soft = 0 }
+abbrev reader_before : BatchDraft → Reader
+reader_before d = let some : Tuple = record { stime = 0; vals = [] } in record { stable = replicate d.first some; bound = 0; tentative = some ∷ []; passed = 0 }
 
-begins : (d : Draft) → Began (reader_before d) d
+begins : (d : BatchDraft) → Began (reader_before d) d
 begins d = let some : Tuple = record { stime = 0; vals = [] } in record { first = sym (length-replicate d.first some); held = λ e. refl }
 
-pub whole-taken : (items : List Item) (old new : Draft) (taken : List Item) → IsFold items old new (Some taken) → length taken ≡ length items → taken ≡ items
+pub whole-taken : (items : List Item) (old new : BatchDraft) (taken : List Item) → IsFold items old new (Some taken) → length taken ≡ length items → taken ≡ items
 whole-taken items old new taken f e =
     let part : IsPart items taken = subst (AreOf items) (f.folded (reader_before old) (begins old)) (fold-part (drafted (reader_before old) old) items) in part.whole e

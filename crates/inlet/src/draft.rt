@@ -13,7 +13,7 @@ use std::alloc::Global;
 
 /// What became of one item.
 #[derive(Clone, Copy, PartialEq, Eq)]
-pub enum Verdict {
+pub enum ItemReading {
     /// It has no reading.
     Refused,
     /// It was read, and changes nothing.
@@ -23,7 +23,7 @@ pub enum Verdict {
 
 /// What the items of a batch add to what is held.
 #[derive(Drop)]
-pub struct Draft {
+pub struct BatchDraft {
     /// How many stable tuples there were before the batch.
     pub first: u64,
     pub stable: Vec<Tuple>,
@@ -31,10 +31,10 @@ pub struct Draft {
     /// Whether tentative tuples were held before the batch, and still are.
     pub held: bool,
     pub tentative: Vec<Tuple>,
-    pub soft: u64,
+    pub passed: u64,
 }
 
-impl Draft {
+impl BatchDraft {
     /// How many stable tuples there are.
     fn count(&self) -> u64
         requires { self.now.first + length self.now.stable.items < 2 ^ 64 }
@@ -47,7 +47,7 @@ impl Draft {
     fn is_sure(&self) -> bool
         ensures { (base : Reader) → Began base self.now → result ≡ is_sure (drafted base self.now) }
     {
-        !self.held && self.tentative.is_empty() && self.soft == 0
+        !self.held && self.tentative.is_empty() && self.passed == 0
     }
 
     fn read_stable(
@@ -55,76 +55,76 @@ impl Draft {
         alloc: Global,
         number: u64,
         tuple: &Tuple,
-    ) -> Result<Verdict, NoMemory>
+    ) -> Result<ItemReading, NoMemory>
         requires { self.old.first + length self.old.stable.items < 2 ^ 64 }
         ensures { IfOk result (Reads (item_of.Stable number tuple.now) self.old self.new) }
     {
         let count = self.count();
         if number < count {
-            return Ok(Verdict::Skipped);
+            return Ok(ItemReading::Skipped);
         }
         if number > count || !self.is_sure() {
-            return Ok(Verdict::Refused);
+            return Ok(ItemReading::Refused);
         }
         self.stable.push(tuple.copy(alloc)?)?;
-        Ok(Verdict::Taken)
+        Ok(ItemReading::Taken)
     }
 
-    fn read_tentative(&mut self, alloc: Global, tuple: &Tuple) -> Result<Verdict, NoMemory>
+    fn read_tentative(&mut self, alloc: Global, tuple: &Tuple) -> Result<ItemReading, NoMemory>
         ensures { IfOk result (Reads (item_of.Tentative tuple.now) self.old self.new) }
     {
         if tuple.stime < self.bound {
-            return Ok(Verdict::Skipped);
+            return Ok(ItemReading::Skipped);
         }
         self.tentative.push(tuple.copy(alloc)?)?;
-        Ok(Verdict::Taken)
+        Ok(ItemReading::Taken)
     }
 
-    fn read_passed(&mut self, upto: u64) -> Verdict
+    fn read_passed(&mut self, upto: u64) -> ItemReading
         ensures { Reads (item_of.Passed upto) self.old self.new result }
     {
-        if upto <= self.bound || upto <= self.soft {
-            return Verdict::Skipped;
+        if upto <= self.bound || upto <= self.passed {
+            return ItemReading::Skipped;
         }
-        self.soft = upto;
-        Verdict::Taken
+        self.passed = upto;
+        ItemReading::Taken
     }
 
-    fn read_boundary(&mut self, bound: u64, count: u64) -> Verdict
+    fn read_boundary(&mut self, bound: u64, count: u64) -> ItemReading
         requires { self.old.first + length self.old.stable.items < 2 ^ 64 }
         ensures { Reads (item_of.Boundary bound count) self.old self.new result }
     {
         if count > self.count() || !self.is_sure() {
-            return Verdict::Refused;
+            return ItemReading::Refused;
         }
         if bound <= self.bound {
-            return Verdict::Skipped;
+            return ItemReading::Skipped;
         }
         self.bound = bound;
-        Verdict::Taken
+        ItemReading::Taken
     }
 
-    fn undo(&mut self, number: u64) -> Verdict
+    fn undo(&mut self, number: u64) -> ItemReading
         ensures { Reads (item_of.Undo number) self.old self.new result }
     {
         self.held = false;
         self.tentative.clear();
-        self.soft = 0;
-        Verdict::Taken
+        self.passed = 0;
+        ItemReading::Taken
     }
 
-    fn end_corrections(&mut self) -> Verdict
+    fn end_corrections(&mut self) -> ItemReading
         ensures { Reads item_of.RecDone self.old self.new result }
     {
         if self.is_sure() {
-            Verdict::Taken
+            ItemReading::Taken
         } else {
-            Verdict::Refused
+            ItemReading::Refused
         }
     }
 
     /// Reads one item.
-    fn read(&mut self, alloc: Global, item: &Item) -> Result<Verdict, NoMemory>
+    fn read(&mut self, alloc: Global, item: &Item) -> Result<ItemReading, NoMemory>
         requires { self.old.first + length self.old.stable.items < 2 ^ 64 }
         ensures { IfOk result (Reads item.now self.old self.new) }
     {
@@ -150,9 +150,9 @@ impl Draft {
         let mut taken = Vec::with_capacity(alloc, items.len())?;
         for item in items {
             match self.read(alloc, item)? {
-                Verdict::Taken => taken.push(item)?,
-                Verdict::Skipped => {}
-                Verdict::Refused => return Ok(None),
+                ItemReading::Taken => taken.push(item)?,
+                ItemReading::Skipped => {}
+                ItemReading::Refused => return Ok(None),
             }
         }
         Ok(Some(taken))

@@ -6,7 +6,7 @@ ghost use Rattle.inlet.specs.Drafts.{IsEmpty, committed};
 ghost use Rattle.inlet.specs.Batches.{IsRead};
 ghost use Rattle.inlet.specs.Forgotten.{HasRoom, IsTaken, times_of};
 
-use crate::draft::Draft;
+use crate::draft::BatchDraft;
 use crate::items::{shared, times};
 use crate::tentative::Tentative;
 use dpc_lists::faults::NoMemory;
@@ -37,7 +37,7 @@ pub enum Absorbed {
 #[derive(Drop)]
 enum Batch<'a> {
     /// What it adds, and the items that were taken.
-    Next(Draft, Vec<&'a Item>),
+    Next(BatchDraft, Vec<&'a Item>),
     Old,
     Broken,
 }
@@ -51,7 +51,7 @@ pub struct Inlet {
     kept: VecDeque<Tuple>,
     bound: u64,
     tentative: Tentative,
-    soft: u64,
+    passed: u64,
     sess: Sess,
     next: u64,
     answered: bool,
@@ -70,7 +70,7 @@ impl Model for Inlet {
     ghost view = { λ i. record {
       count = i.count;
       state = record {
-        held = record { stable = i.kept.items; bound = i.bound; tentative = i.tentative; soft = i.soft };
+        held = record { stable = i.kept.items; bound = i.bound; tentative = i.tentative; passed = i.passed };
         sess = i.sess;
         next = i.next;
         answered = i.answered;
@@ -121,33 +121,33 @@ impl Inlet {
     }
 
     /// What the next batch adds, before its first item is read, with room for so many stable tuples.
-    fn draft(&self, alloc: Global, room: usize) -> Result<Draft, NoMemory>
+    fn draft(&self, alloc: Global, room: usize) -> Result<BatchDraft, NoMemory>
         ensures { IfOk result (IsEmpty self.now) }
     {
-        Ok(Draft {
+        Ok(BatchDraft {
             first: self.count,
             stable: Vec::with_capacity(alloc, room)?,
             bound: self.bound,
             held: !self.tentative.is_empty(),
             tentative: Vec::new(alloc),
-            soft: self.soft,
+            passed: self.passed,
         })
     }
 
     /// Holds what the next batch adds. Want of memory changes nothing.
-    fn commit(&mut self, draft: Draft) -> Result<(), NoMemory>
+    fn commit(&mut self, draft: BatchDraft) -> Result<(), NoMemory>
         requires count { self.old.count + length draft.stable.items < 2 ^ 64 }
         requires next { self.old.state.next + 1 < 2 ^ 64 }
         ensures ok { OnOk result (self.new ≡ committed self.old draft) }
         ensures err { OnErr result (self.new ≡ self.old) }
     {
-        let Draft {
+        let BatchDraft {
             first: _,
             stable,
             bound,
             held,
             tentative,
-            soft,
+            passed,
         } = draft;
         let mut stable = VecDeque::from_vec(stable);
         let count = stable.len() as u64;
@@ -162,7 +162,7 @@ impl Inlet {
         };
         self.count += count;
         self.bound = bound;
-        self.soft = soft;
+        self.passed = passed;
         self.answered = self.answered || self.next == 0;
         self.next += 1;
         Ok(())

@@ -2,7 +2,7 @@
 ghost use Rattle.std.specs.Prelude.{◌≡◌, ◌<◌, ◌≤◌, map, replicate, length};
 ghost use Rattle.dpc_lists.specs.Lists.{nth, changed};
 ghost use Rattle.dpc_model.specs.Ports.{no_port, all_truncated};
-ghost use Rattle.dpc_model.specs.Replicas.{new_watch, after_beat, after_tick, with_mark, after_count, is_silent, rank_of, says_recovering};
+ghost use Rattle.dpc_model.specs.Replicas.{new_watch, after_beat, after_tick, with_mark, after_count, is_absent, rank_of, says_recovering};
 
 use crate::ranks::Ranks;
 use crate::watch::Watch;
@@ -116,11 +116,11 @@ impl Monitor {
     }
 
     /// Whether three ticks brought no beat of a replica, or it truncated what was asked of it.
-    pub fn is_silent(&self, r: usize) -> bool
+    pub fn is_absent(&self, r: usize) -> bool
         requires { r < length self.now }
-        ensures { result ≡ is_silent (nth new_watch self.now r) }
+        ensures { result ≡ is_absent (nth new_watch self.now r) }
     {
-        self.watches[r].is_silent()
+        self.watches[r].is_absent()
     }
 
     /// Whether every replica truncated what was asked of it.

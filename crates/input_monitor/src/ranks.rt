@@ -36,7 +36,7 @@ impl Ranks {
         requires { length watches.now ≤ MOST_REPLICAS }
         ensures { result ≡ map rank_of watches.now }
     {
-        let mut ranks = [Rank::Silent; MOST_REPLICAS];
+        let mut ranks = [Rank::Absent; MOST_REPLICAS];
         for (r, watch) in watches.iter().enumerate() {
             ranks[r] = watch.rank();
         }

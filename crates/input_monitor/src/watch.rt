@@ -1,6 +1,6 @@
 //! What is known of one replica.
 ghost use Rattle.std.specs.Prelude.{◌≡◌, is_some};
-ghost use Rattle.dpc_model.specs.Replicas.{new_watch, after_beat, after_tick, with_mark, after_count, rank_said, rank_by, is_silent, rank_of, says_recovering};
+ghost use Rattle.dpc_model.specs.Replicas.{new_watch, after_beat, after_tick, with_mark, after_count, rank_said, rank_by, is_absent, rank_of, says_recovering};
 
 use dpc_model::messages::{NodeState, Rank};
 use std::marker::Model;
@@ -106,8 +106,8 @@ impl Watch {
     }
 
     /// Whether three ticks brought no beat, or it truncated what was asked for.
-    pub(crate) fn is_silent(&self) -> bool
-        ensures { result ≡ is_silent self.now }
+    pub(crate) fn is_absent(&self) -> bool
+        ensures { result ≡ is_absent self.now }
     {
         self.ticks >= 3 || self.truncated.is_some()
     }
@@ -126,8 +126,8 @@ impl Watch {
     pub(crate) fn rank(&self) -> Rank
         ensures { result ≡ rank_of self.now }
     {
-        if self.is_silent() {
-            return Rank::Silent;
+        if self.is_absent() {
+            return Rank::Absent;
         }
         match self.said {
             None => Rank::Stable,

@@ -5,7 +5,7 @@ use Rattle.dpc_lists.specs.Lists.{is_nil}
 use Rattle.dpc_model.specs.Operators.{all_of}
 use Rattle.dpc_model.specs.Engines.{engine_value}
 use Rattle.dpc_model.specs.Fragments.{AreSoundOps, fragment_value}
-use Rattle.dpc_model.specs.Parts.{Inputs, stream_by, processed, processed_view, view_of}
+use Rattle.dpc_model.specs.Parts.{Inputs, stream_by, processed, processed_and_closed, frontier_of}
 use Rattle.dpc_model.specs.declared.tuples.Tuple.{Tuple}
 use Rattle.dpc_model.specs.declared.tuples.Tagged.{Tagged}
 use Rattle.dpc_model.specs.declared.operators.OpSpec.{OpSpec}
@@ -36,10 +36,10 @@ pub open-stream : (ops : List OpSpec) (w : ℕ) (passing : Bool) (x : Inputs) (t
 open-stream ops w passing x ts none same =
     let zero : x.cursor + 0 ≡ x.cursor = omega arith in
     let value = fragment_value ops in
-    let whole : value (processed_view w x) (view_of x * w) ≡ ts = rw (none, zero, append-nil (processed w x)) same in
-    let nothing : drop (length (value (processed w x) (x.cursor * w))) (value (processed_view w x) (view_of x * w)) ≡ [] =
+    let whole : value (processed_and_closed w x) (frontier_of x * w) ≡ ts = rw (none, zero, append-nil (processed w x)) same in
+    let nothing : drop (length (value (processed w x) (x.cursor * w))) (value (processed_and_closed w x) (frontier_of x * w)) ≡ [] =
     rw (same, whole) (drop-length ts) in
-    let untold : cond (passing && not (is_nil x.closed)) (Some (view_of x * w)) None ≡ None = rw none (by-passing passing) in
+    let untold : cond (passing && not (is_nil x.closed)) (Some (frontier_of x * w)) None ≡ None = rw none (by-passing passing) in
     rw (nothing, same, untold) refl
   where
     by-passing : (b : Bool) → cond (b && false) (Some ((x.cursor + 0) * w)) None ≡ None

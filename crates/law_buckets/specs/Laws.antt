@@ -5,7 +5,7 @@ use Rattle.dpc_model.specs.Streams.{IsOrdered}
 use Rattle.dpc_model.specs.Operators.{all_of}
 use Rattle.dpc_model.specs.Engines.{LiesBelow, engine_value}
 use Rattle.dpc_model.specs.Fragments.{AreSoundOps, fragment_value}
-use Rattle.dpc_model.specs.Parts.{Inputs, view_of, processed, processed_view, Stream, stream_by}
+use Rattle.dpc_model.specs.Parts.{Inputs, frontier_of, processed, processed_and_closed, Stream, stream_by}
 use Rattle.dpc_model.specs.declared.tuples.Tagged.{Tagged}
 use Rattle.dpc_model.specs.declared.operators.OpSpec.{OpSpec}
 use Rattle.checkpoint_redo.specs.Keeping.{AcceptsAll, added_by}
@@ -21,7 +21,7 @@ pub record IsProcessed (width k : ℕ) (xs : List Tagged) : Type 0 where
 abbrev pub ProcessedInOrder : Type 0
 ProcessedInOrder =
     (width : ℕ) (x : Inputs) →
-    IsProcessed width x.cursor (processed width x) × (AcceptsAll (Some width) x.cursor x.closed → IsProcessed width (view_of x) (processed_view width x))
+    IsProcessed width x.cursor (processed width x) × (AcceptsAll (Some width) x.cursor x.closed → IsProcessed width (frontier_of x) (processed_and_closed width x))
 
 -- ready buckets are accepted in their turn; with them processed the inputs go on by theirs, and the stable output by what they add
 pub record Advances (ops : List OpSpec) (width : ℕ) (passing : Bool) (x : Inputs) (count : ℕ) : Type 0 where
@@ -40,14 +40,14 @@ ReadyBucketsAdvance = (ops : List OpSpec) (width : ℕ) (passing : Bool) (x : In
 
 -- buckets that are closed as they stand are accepted in their turn; the inputs go on by theirs, and the tentative output by what they add
 pub record Closes (ops : List OpSpec) (width : ℕ) (passing : Bool) (x : Inputs) (count : ℕ) : Type 0 where
-  pub accepted : AcceptsAll (Some width) (view_of x) (buckets_from width x (view_of x) count)
+  pub accepted : AcceptsAll (Some width) (frontier_of x) (buckets_from width x (frontier_of x) count)
   pub placed : AcceptsAll (Some width) x.cursor (after_closing_all width count x).closed
-  pub inputs : processed_view width (after_closing_all width count x) ≡ processed_view width x ++ all_of (buckets_from width x (view_of x) count)
+  pub inputs : processed_and_closed width (after_closing_all width count x) ≡ processed_and_closed width x ++ all_of (buckets_from width x (frontier_of x) count)
   pub stream : AreSoundOps ops → let s : Stream = stream_by (fragment_value ops) width passing x in
       stream_by (fragment_value ops) width passing (after_closing_all width count x)
       ≡ record s {
-        tentative = s.tentative ++ added_by (engine_value ops) width (processed_view width x) (buckets_from width x (view_of x) count) (view_of x);
-        passed = if passing && not (is_nil (after_closing_all width count x).closed) then Some ((view_of x + count) * width) else None;
+        tentative = s.tentative ++ added_by (engine_value ops) width (processed_and_closed width x) (buckets_from width x (frontier_of x) count) (frontier_of x);
+        passed = if passing && not (is_nil (after_closing_all width count x).closed) then Some ((frontier_of x + count) * width) else None;
       }
 
 abbrev pub BucketsClose : Type 0

@@ -2,7 +2,7 @@
 use Rattle.std.specs.Prelude.{◌≡◌, ℕ, ◌+◌, ◌*◌, ◌^◌, ◌<◌, ◌≤◌, List, [], ◌++◌, map, Some, All}
 use Rattle.dpc_lists.specs.Lists.{range_with_len}
 use Rattle.dpc_model.specs.Inlets.{InletState}
-use Rattle.dpc_model.specs.Parts.{Inputs, view_of}
+use Rattle.dpc_model.specs.Parts.{Inputs, frontier_of}
 use Rattle.dpc_model.specs.declared.tuples.Tuple.{Tuple}
 use Rattle.dpc_model.specs.declared.tuples.Tagged.{Tagged}
 use Rattle.checkpoint_redo.specs.Keeping.{AcceptsAll}
@@ -29,8 +29,8 @@ pub record CanClose (width : ℕ) (x : Inputs) (count : ℕ) : Type 0 where
   pub ordered : AreInOrder x
   -- those that are closed stand in their places
   pub placed : AcceptsAll (Some width) x.cursor x.closed
-  pub end : (view_of x + count) * width < 2 ^ 64
+  pub end : (frontier_of x + count) * width < 2 ^ 64
 
 -- the inputs with so many buckets closed
 abbrev pub after_closing_all : ℕ → ℕ → Inputs → Inputs
-after_closing_all width count x = record x { closed = x.closed ++ buckets_from width x (view_of x) count }
+after_closing_all width count x = record x { closed = x.closed ++ buckets_from width x (frontier_of x) count }

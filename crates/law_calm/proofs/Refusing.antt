@@ -9,7 +9,7 @@ use Rattle.dpc_model.specs.declared.messages.Message.{Message}
 use Rattle.dpc_model.specs.declared.messages.Message.TheVariants as message
 use Rattle.node_model.specs.Mails.{Packet, Plain, SnapFor, Mail, mail, Stepped}
 use Rattle.node_model.specs.Nodes.{Home, PlainNode, streams_of, own_readers, shown}
-use Rattle.node_model.specs.NodeSteps.{silent_step, reader_place, on_subscribe, with_marks_ended, packet_step, mill_step, tick_step}
+use Rattle.node_model.specs.NodeSteps.{idle_step, reader_place, on_subscribe, with_marks_ended, packet_step, mill_step, tick_step}
 use Rattle.dpc_lists.proofs.Places.{place-within}
 use Rattle.law_safety.proofs.Tests.{lt-of}
 use Rattle.law_safety.proofs.Histories.{AreDistinct}
@@ -59,7 +59,7 @@ module _ (home : Home) (x : ℕ) (A : Subscribe → Type 0) where
       record {
         told = λ to m e it. none-refused A m e;
         snapped = λ n to i try h it. tt;
-        batched = λ n k sub l items h there link it. tt;
+        batched = λ n k sub l items h there tally it. tt;
         counted = λ n h. tt;
         shut = λ n h. tt;
         emptied = λ n h. tt;
@@ -123,7 +123,7 @@ module _ (home : Home) (x k : ℕ) (distinct : AreDistinct (own_readers home)) (
   unfolding packet_step
   packet-refuses a (Plain (message.Subscribe asked)) n =
       let m = with_marks_ended n in
-      elim n.recovering as (λ b. Each (RefusesTo x (IsRefused x k a (Plain (message.Subscribe asked)) n)) (cond {A = Stepped PlainNode} b (silent_step m) (on_subscribe home asked (reader_place home a) m)).sends) [
+      elim n.recovering as (λ b. Each (RefusesTo x (IsRefused x k a (Plain (message.Subscribe asked)) n)) (cond {A = Stepped PlainNode} b (idle_step m) (on_subscribe home asked (reader_place home a) m)).sends) [
         | true ↦ tt
         | false ↦ each-weaker (RefusesTo x (IsRefused x k a (Plain (message.Subscribe asked)) m)) (RefusesTo x (IsRefused x k a (Plain (message.Subscribe asked)) n)) (on_subscribe home asked (reader_place home a) m).sends (λ z h mine. unmarked z.packet (h mine))
             (subscribed-refuses a asked (reader_place home a) m refl)

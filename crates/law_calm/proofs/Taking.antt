@@ -2,7 +2,7 @@
 use Rattle.std.proofs.Common.{◌≡◌, ℕ, ◌≤◌, Bool, true, false, cond, not, ◌&&◌, ◌||◌, ◌==◌, nat_lt, List, map, length, refl, sym, ap, subst, ◌∙◌, Option, Some, None, slice_get, unwrap_or, ◌⊎◌, inl, inr}
 use Rattle.dpc_lists.specs.Lists.{nth, changed}
 use Rattle.dpc_model.specs.Reading.{fold_items}
-use Rattle.dpc_model.specs.Inlets.{InletState, same_sess, AfterBatch, after_missing_batch, after_next_batch, take_batch, after_link}
+use Rattle.dpc_model.specs.Inlets.{InletState, same_sess, AfterBatch, after_missing_batch, after_next_batch, take_batch, after_tally}
 use Rattle.dpc_model.specs.Ports.{Port, no_port, sender_at, without_ended_marks, on_beat, on_truncated, all_truncated}
 use Rattle.dpc_model.specs.declared.batches.Taken.TheVariants.{Old}
 use Rattle.dpc_model.specs.declared.tuples.Item.{Item}
@@ -134,7 +134,7 @@ module _ (home : Home) (a : ℕ) (packet : Packet) where
 
   beat-port : (i r : ℕ) (b : Beat) (q : Port) → Took home a packet i q (on_beat r b q)
   beat-port i r b q =
-      elim (r == q.chosen) as (λ c. Took home a packet i q (record { inlet = cond {A = InletState} c (after_link q.inlet b.link) q.inlet; chosen = q.chosen; watches = (on_beat r b q).watches; ticks = q.ticks })) [
+      elim (r == q.chosen) as (λ c. Took home a packet i q (record { inlet = cond {A = InletState} c (after_tally q.inlet b.tally) q.inlet; chosen = q.chosen; watches = (on_beat r b q).watches; ticks = q.ticks })) [
         | true ↦ record { sess = refl; chosen = refl; held = inl refl }
         | false ↦ record { sess = refl; chosen = refl; held = inl refl }
       ]

@@ -3,7 +3,7 @@ use Rattle.std.proofs.Common.{◌≡◌, ℕ, suc, ◌+◌, ◌-◌, min, Bool, 
 use Rattle.std.specs.Prelude.{is_none}
 use Rattle.dpc_lists.specs.Lists.{nth, list_all}
 use Rattle.dpc_model.specs.Granting.{own_key, grants, with_promise, may_enter_by, with_ask}
-use Rattle.dpc_model.specs.Replicas.{is_silent}
+use Rattle.dpc_model.specs.Replicas.{is_absent}
 use Rattle.dpc_model.specs.Actors.{role_of, sends_stream, senders_of, replicas_of}
 use Rattle.dpc_model.specs.Ports.{Port, without_ended_marks, port_after_tick, port_after_choice, subscriptions}
 use Rattle.dpc_model.specs.Sessions.{given_items, no_session, Shown, Answered, first_batch, is_newer_than_kept, answer_to}
@@ -17,8 +17,8 @@ use Rattle.dpc_model.specs.declared.messages.NodeState.TheVariants.{Stabilizatio
 use Rattle.dpc_model.specs.declared.plans.StreamRef.{StreamRef}
 use Rattle.dpc_model.specs.NodeStates.{is_up_failure, is_stabilization}
 use Rattle.node_model.specs.Mails.{Packet, Plain, SnapFor, Mail, mail, mails, in_actor_order, to_each, Stepped}
-use Rattle.node_model.specs.Nodes.{Home, PlainNode, streams_of, own_readers, view_cursor, out_stable, complete_buckets, ready, due_at, wants_to_reconcile, shown}
-use Rattle.node_model.specs.NodeSteps.{silent_step, peers_of, peer_watches, replica_number, reader_place, give, given_by, given_stable, enter_step, on_subscribe, on_ask, on_grant, on_snap_ask, on_message, with_marks_ended, packet_step, after_stable_buckets, after_last_correction, mill_step, after_clock, choice_step, ask_step, with_closed, with_failure, processing_upto, processing_step, done_at, acks_from, beats, announcing_step, serving_step, tick_step}
+use Rattle.node_model.specs.Nodes.{Home, PlainNode, streams_of, own_readers, node_frontier, out_stable, complete_buckets, ready, due_at, wants_to_reconcile, shown}
+use Rattle.node_model.specs.NodeSteps.{idle_step, peers_of, peer_watches, replica_number, reader_place, give, given_by, given_stable, enter_step, on_subscribe, on_ask, on_grant, on_snap_ask, on_message, with_marks_ended, packet_step, after_stable_buckets, after_last_correction, mill_step, after_clock, choice_step, ask_step, with_closed, with_failure, processing_upto, processing_step, done_at, acks_from, beats, announcing_step, serving_step, tick_step}
 use Rattle.law_safety.proofs.Numbering.{actors-pass}
 use Rattle.law_safety.proofs.Tests.{both}
 use Rattle.law_granting.proofs.Each.{Each, each-append, each-sorted, each-to, each-batches, each-subscription, each-beats}
@@ -83,15 +83,15 @@ module _ (home : Home) (z : PlainNode) where
   asked-acks : (i ask : ℕ) (o : Option ℕ) (n : PlainNode) → Each Acks (on_ask home i ask o n).sends
   asked-acks i ask None n = tt
   asked-acks i ask (Some r) n =
-      elim (grants n.grants n.state r (i, ask)) as (λ b. Each Acks (cond {A = Stepped PlainNode} b (record { after = record n { grants = with_promise n.grants r (i, ask) }; sends = mail (nth 0 (replicas_of home.plan home.frag) r) (message.Grant i ask) ∷ [] }) (silent_step n)).sends) [
+      elim (grants n.grants n.state r (i, ask)) as (λ b. Each Acks (cond {A = Stepped PlainNode} b (record { after = record n { grants = with_promise n.grants r (i, ask) }; sends = mail (nth 0 (replicas_of home.plan home.frag) r) (message.Grant i ask) ∷ [] }) (idle_step n)).sends) [
         | true ↦ (tt, tt)
         | false ↦ tt
       ]
 
   granted-acks : (i ask : ℕ) (n : PlainNode) → Each Acks (on_grant home i ask n).sends
-  granted-acks i ask n = elim (is_up_failure n.state && may_enter_by n.grants (i, ask)) as (λ b. Each Acks (cond {A = Stepped PlainNode} b (enter_step home n) (silent_step n)).sends) [ true ↦ entered-acks n | false ↦ tt ]
+  granted-acks i ask n = elim (is_up_failure n.state && may_enter_by n.grants (i, ask)) as (λ b. Each Acks (cond {A = Stepped PlainNode} b (enter_step home n) (idle_step n)).sends) [ true ↦ entered-acks n | false ↦ tt ]
 
-  unless-acks : (b : Bool) (n : PlainNode) (s : Stepped PlainNode) → Each Acks s.sends → Each Acks (cond {A = Stepped PlainNode} b (silent_step n) s).sends
+  unless-acks : (b : Bool) (n : PlainNode) (s : Stepped PlainNode) → Each Acks s.sends → Each Acks (cond {A = Stepped PlainNode} b (idle_step n) s).sends
   unless-acks true n s h = tt
   unless-acks false n s h = h
 
@@ -158,9 +158,9 @@ module _ (home : Home) (z : PlainNode) where
 
   asking-acks : (n : PlainNode) → Each Acks (ask_step home n).sends
   asking-acks n =
-      elim (wants_to_reconcile home n && is_none n.grants.promise) as (λ b. Each Acks (cond {A = Stepped PlainNode} b (cond (list_all is_silent (peer_watches home n)) (enter_step home n)
-      (record { after = record n { grants = with_ask n.grants }; sends = to_each (message.Ask (own_key n.grants).0 (own_key n.grants).1) (peers_of home) })) (silent_step n)).sends) [
-        | true ↦ elim (list_all is_silent (peer_watches home n)) as (λ b. Each Acks (cond {A = Stepped PlainNode} b (enter_step home n)
+      elim (wants_to_reconcile home n && is_none n.grants.promise) as (λ b. Each Acks (cond {A = Stepped PlainNode} b (cond (list_all is_absent (peer_watches home n)) (enter_step home n)
+      (record { after = record n { grants = with_ask n.grants }; sends = to_each (message.Ask (own_key n.grants).0 (own_key n.grants).1) (peers_of home) })) (idle_step n)).sends) [
+        | true ↦ elim (list_all is_absent (peer_watches home n)) as (λ b. Each Acks (cond {A = Stepped PlainNode} b (enter_step home n)
             (record { after = record n { grants = with_ask n.grants }; sends = to_each (message.Ask (own_key n.grants).0 (own_key n.grants).1) (peers_of home) })).sends) [
               | true ↦ entered-acks n
               | false ↦ each-to Acks (message.Ask (own_key n.grants).0 (own_key n.grants).1) (peers_of home) (λ to. tt)
@@ -170,16 +170,16 @@ module _ (home : Home) (z : PlainNode) where
 
   upto-acks : (last : ℕ) (n : PlainNode) → Each Acks (processing_upto home last n).sends
   upto-acks last n =
-      let count = last + 1 - view_cursor n in
+      let count = last + 1 - node_frontier n in
       let r = min count (complete_buckets home n) in
       let new = with_failure (with_closed home (count - r) (after_stable_buckets home r n)) in
       given-acks (given_items (length (out_stable home n)) (given_by home n new (nat_lt 0 r) (nat_lt r count))) new
 
   processing-acks : (n : PlainNode) → Each Acks (processing_step home n).sends
   processing-acks n =
-      elim (is_stabilization n.state) as (λ b. Each Acks (cond {A = Stepped PlainNode} b (silent_step n) (elim (due_at home n n.clock) [ None ↦ silent_step n | Some last ↦ processing_upto home last n ])).sends) [
+      elim (is_stabilization n.state) as (λ b. Each Acks (cond {A = Stepped PlainNode} b (idle_step n) (elim (due_at home n n.clock) [ None ↦ idle_step n | Some last ↦ processing_upto home last n ])).sends) [
         | true ↦ tt
-        | false ↦ elim (due_at home n n.clock) as (λ o. Each Acks (elim o as (λ _. Stepped PlainNode) [ None ↦ silent_step n | Some last ↦ processing_upto home last n ]).sends) [
+        | false ↦ elim (due_at home n n.clock) as (λ o. Each Acks (elim o as (λ _. Stepped PlainNode) [ None ↦ idle_step n | Some last ↦ processing_upto home last n ]).sends) [
           | None ↦ tt
           | Some last ↦ upto-acks last n
         ]

@@ -3,7 +3,7 @@ use Rattle.std.proofs.Common.{◌≡◌, ℕ, zero, suc, Bool, true, false, cond
 use Rattle.std.specs.Prelude.{is_none}
 use Rattle.dpc_lists.specs.Lists.{nth, list_all}
 use Rattle.dpc_model.specs.Inlets.{same_sess, take_batch}
-use Rattle.dpc_model.specs.Replicas.{is_silent}
+use Rattle.dpc_model.specs.Replicas.{is_absent}
 use Rattle.dpc_model.specs.Granting.{own_key, grants, with_promise, may_enter_by, with_ask}
 use Rattle.dpc_model.specs.Actors.{replicas_of}
 use Rattle.dpc_model.specs.Ports.{Port, no_port, sender_at, without_ended_marks, on_truncated, all_truncated}
@@ -18,7 +18,7 @@ use Rattle.dpc_model.specs.declared.messages.Message.TheVariants as message
 use Rattle.dpc_model.specs.NodeStates.{is_up_failure, is_stabilization}
 use Rattle.node_model.specs.Mails.{Packet, Plain, SnapFor, mail, to_each, Stepped}
 use Rattle.node_model.specs.Nodes.{Home, PlainNode, streams_of, due_at, wants_to_reconcile}
-use Rattle.node_model.specs.NodeSteps.{silent_step, then_do, peers_of, peer_watches, replica_number, reader_place, with_port, enter_step, after_loss, after_adoption, after_taking, with_stamps_of, on_batch, on_subscribe, on_truncation, on_upstream_beat, on_peer_beat, on_ack, on_ask, on_grant, on_snap_ask, on_message, with_marks_ended, packet_step, mill_step, after_clock, may_start_afresh, choice_step, ask_step, processing_upto, processing_step, announcing_step, serving_step, snapshot_ask_step, with_fresh_start, tick_step}
+use Rattle.node_model.specs.NodeSteps.{idle_step, then_do, peers_of, peer_watches, replica_number, reader_place, with_port, enter_step, after_loss, after_adoption, after_taking, with_stamps_of, on_batch, on_subscribe, on_truncation, on_upstream_beat, on_peer_beat, on_ack, on_ask, on_grant, on_snap_ask, on_message, with_marks_ended, packet_step, mill_step, after_clock, may_start_afresh, choice_step, ask_step, processing_upto, processing_step, announcing_step, serving_step, snapshot_ask_step, with_fresh_start, tick_step}
 
 -- the packet is no truncation of a port's present session
 abbrev pub IsHarmless : Home → ℕ → Packet → PlainNode → Type 0
@@ -74,7 +74,7 @@ module _ (home : Home) (a : ℕ) where
   ask-whole : (i ask : ℕ) (o : Option ℕ) (n : PlainNode) → (on_ask home i ask o n).after.recovering ≡ n.recovering
   ask-whole i ask None n = refl
   ask-whole i ask (Some r) n =
-      elim (grants n.grants n.state r (i, ask)) as (λ b. (cond {A = Stepped PlainNode} b (record { after = record n { grants = with_promise n.grants r (i, ask) }; sends = mail (nth 0 (replicas_of home.plan home.frag) r) (message.Grant i ask) ∷ [] }) (silent_step n)).after.recovering ≡ n.recovering) [
+      elim (grants n.grants n.state r (i, ask)) as (λ b. (cond {A = Stepped PlainNode} b (record { after = record n { grants = with_promise n.grants r (i, ask) }; sends = mail (nth 0 (replicas_of home.plan home.frag) r) (message.Grant i ask) ∷ [] }) (idle_step n)).after.recovering ≡ n.recovering) [
         | true ↦ refl
         | false ↦ refl
       ]
@@ -85,9 +85,9 @@ module _ (home : Home) (a : ℕ) where
 
   grant-whole : (i ask : ℕ) (n : PlainNode) → (on_grant home i ask n).after.recovering ≡ n.recovering
   grant-whole i ask n =
-      elim (is_up_failure n.state && may_enter_by n.grants (i, ask)) as (λ b. (cond {A = Stepped PlainNode} b (enter_step home n) (silent_step n)).after.recovering ≡ n.recovering) [ true ↦ enter-whole n | false ↦ refl ]
+      elim (is_up_failure n.state && may_enter_by n.grants (i, ask)) as (λ b. (cond {A = Stepped PlainNode} b (enter_step home n) (idle_step n)).after.recovering ≡ n.recovering) [ true ↦ enter-whole n | false ↦ refl ]
 
-  unless-whole : (b : Bool) (n : PlainNode) (s : Stepped PlainNode) → s.after.recovering ≡ n.recovering → (cond {A = Stepped PlainNode} b (silent_step n) s).after.recovering ≡ n.recovering
+  unless-whole : (b : Bool) (n : PlainNode) (s : Stepped PlainNode) → s.after.recovering ≡ n.recovering → (cond {A = Stepped PlainNode} b (idle_step n) s).after.recovering ≡ n.recovering
   unless-whole true n s h = refl
   unless-whole false n s h = h
 
@@ -118,9 +118,9 @@ module _ (home : Home) (a : ℕ) where
 
   asking-whole : (n : PlainNode) → (ask_step home n).after.recovering ≡ n.recovering
   asking-whole n =
-      elim (wants_to_reconcile home n && is_none n.grants.promise) as (λ b. (cond {A = Stepped PlainNode} b (cond (list_all is_silent (peer_watches home n)) (enter_step home n)
-      (record { after = record n { grants = with_ask n.grants }; sends = to_each (message.Ask (own_key n.grants).0 (own_key n.grants).1) (peers_of home) })) (silent_step n)).after.recovering ≡ n.recovering) [
-        | true ↦ elim (list_all is_silent (peer_watches home n)) as (λ b. (cond {A = Stepped PlainNode} b (enter_step home n)
+      elim (wants_to_reconcile home n && is_none n.grants.promise) as (λ b. (cond {A = Stepped PlainNode} b (cond (list_all is_absent (peer_watches home n)) (enter_step home n)
+      (record { after = record n { grants = with_ask n.grants }; sends = to_each (message.Ask (own_key n.grants).0 (own_key n.grants).1) (peers_of home) })) (idle_step n)).after.recovering ≡ n.recovering) [
+        | true ↦ elim (list_all is_absent (peer_watches home n)) as (λ b. (cond {A = Stepped PlainNode} b (enter_step home n)
             (record { after = record n { grants = with_ask n.grants }; sends = to_each (message.Ask (own_key n.grants).0 (own_key n.grants).1) (peers_of home) })).after.recovering ≡ n.recovering) [
               | true ↦ enter-whole n
               | false ↦ refl
@@ -130,9 +130,9 @@ module _ (home : Home) (a : ℕ) where
 
   processing-whole : (n : PlainNode) → (processing_step home n).after.recovering ≡ n.recovering
   processing-whole n =
-      elim (is_stabilization n.state) as (λ b. (cond {A = Stepped PlainNode} b (silent_step n) (elim (due_at home n n.clock) [ None ↦ silent_step n | Some last ↦ processing_upto home last n ])).after.recovering ≡ n.recovering) [
+      elim (is_stabilization n.state) as (λ b. (cond {A = Stepped PlainNode} b (idle_step n) (elim (due_at home n n.clock) [ None ↦ idle_step n | Some last ↦ processing_upto home last n ])).after.recovering ≡ n.recovering) [
         | true ↦ refl
-        | false ↦ elim (due_at home n n.clock) as (λ o. (elim o as (λ _. Stepped PlainNode) [ None ↦ silent_step n | Some last ↦ processing_upto home last n ]).after.recovering ≡ n.recovering) [
+        | false ↦ elim (due_at home n n.clock) as (λ o. (elim o as (λ _. Stepped PlainNode) [ None ↦ idle_step n | Some last ↦ processing_upto home last n ]).after.recovering ≡ n.recovering) [
           | None ↦ refl
           | Some last ↦ refl
         ]

@@ -7,7 +7,7 @@ use Rattle.dpc_model.specs.Reading.{Reader}
 use Rattle.dpc_model.specs.Ports.{held_at}
 use Rattle.dpc_model.specs.Sessions.{Acked}
 use Rattle.node_model.specs.Nodes.{Home, PlainNode, streams_of, held_by, buckets_of}
-use Rattle.node_model.specs.Views.{inputs_of}
+use Rattle.node_model.specs.NodeParts.{inputs_of}
 use Rattle.world_model.specs.Orderly.{port_columns}
 use Rattle.law_safety.specs.Plans.{IsChecked}
 use Rattle.law_safety.proofs.Tests.{both, eq-of}
@@ -42,7 +42,7 @@ inputs-fit home most n checked low g =
       within = inlets-all (λ (r : Reader). r.bound ≤ home.plan.end) n.ports
           (holding-each home.plan (λ (r : Reader). r.bound ≤ home.plan.end) (streams_of home) (held_by n) (λ s r h. h.within) holds);
       placed = placed-accepted home.plan.width (port_columns home) n.cursor 0 n.cursor home.plan.end n.closed (omega arith) low closed.within closed.placed;
-      view = closed.within;
+      frontier = closed.within;
     }
 
 pub good-fit : (home : Home) (most : ℕ) (n : PlainNode) → IsChecked home.plan → home.plan.end < 2 ^ 63 → IsGood home most n → IsFit home n

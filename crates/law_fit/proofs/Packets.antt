@@ -23,7 +23,7 @@ use Rattle.dpc_model.proofs.Order.{ideal_upto-InOrder}
 use Rattle.node_model.specs.Mails.{Snap, Packet, Plain, SnapFor}
 use Rattle.node_model.specs.Nodes.{Home, PlainNode, streams_of}
 use Rattle.node_model.specs.NodeSteps.{after_taking, on_batch, on_message, with_marks_ended, packet_step}
-use Rattle.node_model.specs.Views.{inputs_of}
+use Rattle.node_model.specs.NodeParts.{inputs_of}
 use Rattle.world_model.specs.Safe.{IsTruePacket, IsTrueSnap}
 use Rattle.world_model.specs.Orderly.{packet_way, carries_fitting}
 use Rattle.law_safety.specs.Plans.{IsChecked, IsPlace}

@@ -13,7 +13,7 @@ use Rattle.dpc_model.specs.declared.plans.Plan.{Plan}
 use Rattle.dpc_model.specs.declared.plans.StreamRef.{StreamRef}
 use Rattle.node_model.specs.Nodes.{Home, PlainNode, held_by}
 use Rattle.world_model.specs.Safe.{HoldsOf, EachHolds, EachReaches}
-use Rattle.world_model.specs.Orderly.{is_port_sound, are_ports_sound, is_soft_mark}
+use Rattle.world_model.specs.Orderly.{is_port_sound, are_ports_sound, is_passed_mark}
 use Rattle.law_safety.proofs.Tests.{both, le-of}
 use Rattle.law_safety.proofs.SoundPorts.{port-of}
 use Rattle.law_safety.proofs.Frames.{IsGood}
@@ -71,7 +71,7 @@ IsPast r = All (λ (t : Tuple). r.bound ≤ t.stime) r.tentative
 port-past : (plan : Plan) (s : StreamRef) (i most : ℕ) (p : Port) → is_port_sound plan s i most p ≡ true → IsPast p.inlet.held
 port-past plan s i most p h =
     let r = p.inlet.held in
-    let k = both (list_all (λ (t : Tuple). nat_le r.bound t.stime) r.tentative) (is_soft_mark plan r.bound r.soft) (port-of plan s i most p h).past in
+    let k = both (list_all (λ (t : Tuple). nat_le r.bound t.stime) r.tentative) (is_passed_mark plan r.bound r.passed) (port-of plan s i most p h).past in
     all-of (λ (t : Tuple). nat_le r.bound t.stime) (λ (t : Tuple). r.bound ≤ t.stime) r.tentative (λ t e. le-of r.bound t.stime e) k.0
 
 pub past-each : (plan : Plan) (i most : ℕ) (ss : List StreamRef) (ports : List Port) → are_ports_sound plan i most ss ports ≡ true → AllByRecursion IsPast (map held_at ports)

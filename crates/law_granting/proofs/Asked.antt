@@ -20,7 +20,7 @@ use Rattle.law_safety.proofs.Worlding.{actor-at}
 use Rattle.law_safety.proofs.Happening.{IsFine, node-here, may-mill}
 use Rattle.law_granting.specs.Asking.{IsOver, WasAsked, TellsSo}
 use Rattle.law_granting.proofs.Each.{Each}
-use Rattle.law_granting.proofs.Saying.{PacketSays, Says, told_key, asked_key, Hears, Asks, Ends, Never, FoundSilent, IsOwnStep, own-delivered, own-milled, own-ticked}
+use Rattle.law_granting.proofs.Saying.{PacketSays, Says, told_key, asked_key, Hears, Asks, Ends, Never, FoundAbsent, IsOwnStep, own-delivered, own-milled, own-ticked}
 use Rattle.law_granting.proofs.AtWork.{IsAsking, idle, delivered-asking, ticked-asking, milled-asking}
 use Rattle.law_safety.proofs.EventCases.{AreCases, by-event}
 use Rattle.law_safety.proofs.Promises.{slot-here}
@@ -249,7 +249,7 @@ asking-cases w most fine h =
           subst (λ (x : ℕ). WasAsked (slot_of w x) key) (sym same) (asked-so (slot_of w e.sender) e.packet key asked.1 (h.sent k f q e there (subst (λ (x : ℕ). role_of w.plan x ≡ IsNode f q) same here)))) h;
       node_ticked = λ a now f r n role up clock.
           let home = home_of w.plan (f, r) in
-          step-asking-world Never Never (FoundSilent now n) w most a f r n (tick_step home now n) fine role up (own-ticked home now n)
+          step-asking-world Never Never (FoundAbsent now n) w most a f r n (tick_step home now n) fine role up (own-ticked home now n)
           (ticked-asking home a most now n (actor-at w.plan a f r fine.checked role) (node-here w most a f r n fine role up) (h.nodes a f r n role up).asking) (λ c q key here x. absurd x) (λ c q key here x. absurd x) h;
       node_milled = λ a r f q n role up can.
           let home = home_of w.plan (f, q) in

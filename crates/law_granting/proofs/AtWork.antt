@@ -5,7 +5,7 @@ use Rattle.std.proofs.lemmas.Grind.{common_steps}
 use Rattle.dpc_lists.specs.Lists.{nth, list_all, is_nil}
 use Rattle.dpc_model.specs.Inlets.{take_batch, same_sess}
 use Rattle.dpc_model.specs.Due.{is_complete}
-use Rattle.dpc_model.specs.Replicas.{is_silent}
+use Rattle.dpc_model.specs.Replicas.{is_absent}
 use Rattle.dpc_model.specs.Granting.{Key, key_le, greater_key, Grants, own_key, grants, with_promise, promise_to, over_by, known_over, later_key, after_peer_beat, promise_after, promise_kept, may_enter_by, with_ask, with_ask_over}
 use Rattle.dpc_model.specs.Actors.{role_of, are_peers, replicas_of}
 use Rattle.dpc_model.specs.declared.actors.Role.TheVariants.{Node as IsNode}
@@ -23,8 +23,8 @@ use Rattle.dpc_model.specs.declared.messages.Message.TheVariants as message
 use Rattle.dpc_model.specs.Sessions.{given_items}
 use Rattle.node_model.specs.Mails.{Snap, Packet, Plain, SnapFor, mail, to_each, Stepped}
 use Rattle.dpc_model.specs.NodeStates.{is_stable, is_up_failure, is_stabilization}
-use Rattle.node_model.specs.Nodes.{Home, PlainNode, streams_of, held_by, view_cursor, out_stable, complete_upto, complete_buckets, ready, due_at, wants_to_reconcile}
-use Rattle.node_model.specs.NodeSteps.{silent_step, then_do, peers_of, peer_watches, replica_number, with_port, give, given_stable, enter_step, after_loss, after_adoption, after_taking, with_stamps_of, on_batch, on_subscribe, on_truncation, on_upstream_beat, on_peer_beat, on_ack, on_ask, on_grant, on_snap_ask, on_snap, reader_place, on_message, on_packet, with_marks_ended, packet_step, after_stable_buckets, after_last_correction, mill_step, after_clock, may_start_afresh, choice_step, ask_step, with_closed, with_failure, processing_upto, processing_step, announcing_step, serving_step, snapshot_ask_step, rest_of_tick, with_fresh_start, tick_step}
+use Rattle.node_model.specs.Nodes.{Home, PlainNode, streams_of, held_by, node_frontier, out_stable, complete_upto, complete_buckets, ready, due_at, wants_to_reconcile}
+use Rattle.node_model.specs.NodeSteps.{idle_step, then_do, peers_of, peer_watches, replica_number, with_port, give, given_stable, enter_step, after_loss, after_adoption, after_taking, with_stamps_of, on_batch, on_subscribe, on_truncation, on_upstream_beat, on_peer_beat, on_ack, on_ask, on_grant, on_snap_ask, on_snap, reader_place, on_message, on_packet, with_marks_ended, packet_step, after_stable_buckets, after_last_correction, mill_step, after_clock, may_start_afresh, choice_step, ask_step, with_closed, with_failure, processing_upto, processing_step, announcing_step, serving_step, snapshot_ask_step, rest_of_tick, with_fresh_start, tick_step}
 use Rattle.world_model.specs.Safe.{EachReaches}
 use Rattle.world_model.specs.Orderly.{has_state_of_closed, packet_way}
 use Rattle.law_safety.proofs.Milling.{reaches_least}
@@ -271,7 +271,7 @@ on_ask-asking : (home : Home) (i ask : ℕ) (o : Option ℕ) (n : PlainNode) →
 on_ask-asking home i ask None n me other h = h
 on_ask-asking home i ask (Some r) n me other h =
     (elim (grants n.grants n.state r (i, ask)) as (λ b. grants n.grants n.state r (i, ask) ≡ b → IsAsking home (cond {A = Stepped PlainNode} b
-    (record { after = record n { grants = with_promise n.grants r (i, ask) }; sends = mail (nth 0 (replicas_of home.plan home.frag) r) (message.Grant i ask) ∷ [] }) (silent_step n)).after) [
+    (record { after = record n { grants = with_promise n.grants r (i, ask) }; sends = mail (nth 0 (replicas_of home.plan home.frag) r) (message.Grant i ask) ∷ [] }) (idle_step n)).after) [
       | true ↦ λ e. ask-asking home i ask r n me (other r refl) (granted-of n.grants n.state r (i, ask) e) h
       | false ↦ λ e. h
     ]) refl
@@ -293,8 +293,8 @@ none-of (Some p) e = cc
 
 on_grant-asking : (home : Home) (i ask : ℕ) (n : PlainNode) → IsAsking home n → IsAsking home (on_grant home i ask n).after
 on_grant-asking home i ask n h =
-    (elim (is_up_failure n.state) as (λ c. IsAsking home (cond {A = Stepped PlainNode} (c && may_enter_by n.grants (i, ask)) (enter_step home n) (silent_step n)).after) [
-      | true ↦ (elim (may_enter_by n.grants (i, ask)) as (λ b. may_enter_by n.grants (i, ask) ≡ b → IsAsking home (cond {A = Stepped PlainNode} b (enter_step home n) (silent_step n)).after) [
+    (elim (is_up_failure n.state) as (λ c. IsAsking home (cond {A = Stepped PlainNode} (c && may_enter_by n.grants (i, ask)) (enter_step home n) (idle_step n)).after) [
+      | true ↦ (elim (may_enter_by n.grants (i, ask)) as (λ b. may_enter_by n.grants (i, ask) ≡ b → IsAsking home (cond {A = Stepped PlainNode} b (enter_step home n) (idle_step n)).after) [
         | true ↦ λ e.
             let x = both (n.grants.running && i == n.grants.inc && ask == n.grants.over + 1) (is_none n.grants.promise) e in
             let y = both (n.grants.running && i == n.grants.inc) (ask == n.grants.over + 1) x.0 in
@@ -324,8 +324,8 @@ on_snap-asking home most i try s n g h =
 
 -- ---- any packet
 
-unless-asking : (home : Home) (n : PlainNode) (s : Stepped PlainNode) → IsAsking home n → IsAsking home s.after → IsAsking home (cond n.recovering (silent_step n) s).after
-unless-asking home n s h k = elim n.recovering as (λ b. IsAsking home (cond b (silent_step n) s).after) [ true ↦ h | false ↦ k ]
+unless-asking : (home : Home) (n : PlainNode) (s : Stepped PlainNode) → IsAsking home n → IsAsking home s.after → IsAsking home (cond n.recovering (idle_step n) s).after
+unless-asking home n s h k = elim n.recovering as (λ b. IsAsking home (cond b (idle_step n) s).after) [ true ↦ h | false ↦ k ]
 
 message-asking : (home : Home) (me most a : ℕ) (m : Message) (n : PlainNode) → IsActor home me → packet_way home.plan (role_of home.plan a) (IsNode home.frag home.replica) (Plain m) ≡ true →
     IsGood home most n → IsAsking home n → IsAsking home (on_message home a m n).after
@@ -367,7 +367,7 @@ clocked-asking home now n h =
     }
   where
     silent : List Bool
-    silent = map is_silent (after_clock now n).peers
+    silent = map is_absent (after_clock now n).peers
 
     gone : n.grants.promise ≡ None → promise_kept n.grants.promise silent ≡ None
     gone e = rw e refl
@@ -386,21 +386,21 @@ failure-unstable Stabilization e = refl
 
 reconciling-asking : (home : Home) (n : PlainNode) → n.recovering ≡ false → IsAsking home n → IsAsking home (ask_step home n).after
 reconciling-asking home n up h =
-    (elim (wants_to_reconcile home n) as (λ c. wants_to_reconcile home n ≡ c → IsAsking home (cond {A = Stepped PlainNode} (c && is_none n.grants.promise) (cond (list_all is_silent (peer_watches home n)) (enter_step home n)
-    (record { after = record n { grants = with_ask n.grants }; sends = to_each (message.Ask (own_key n.grants).0 (own_key n.grants).1) (peers_of home) })) (silent_step n)).after) [
+    (elim (wants_to_reconcile home n) as (λ c. wants_to_reconcile home n ≡ c → IsAsking home (cond {A = Stepped PlainNode} (c && is_none n.grants.promise) (cond (list_all is_absent (peer_watches home n)) (enter_step home n)
+    (record { after = record n { grants = with_ask n.grants }; sends = to_each (message.Ask (own_key n.grants).0 (own_key n.grants).1) (peers_of home) })) (idle_step n)).after) [
       | false ↦ λ e. h
-      | true ↦ λ wants. (elim (is_none n.grants.promise) as (λ c. is_none n.grants.promise ≡ c → IsAsking home (cond {A = Stepped PlainNode} c (cond (list_all is_silent (peer_watches home n)) (enter_step home n)
-          (record { after = record n { grants = with_ask n.grants }; sends = to_each (message.Ask (own_key n.grants).0 (own_key n.grants).1) (peers_of home) })) (silent_step n)).after) [
+      | true ↦ λ wants. (elim (is_none n.grants.promise) as (λ c. is_none n.grants.promise ≡ c → IsAsking home (cond {A = Stepped PlainNode} c (cond (list_all is_absent (peer_watches home n)) (enter_step home n)
+          (record { after = record n { grants = with_ask n.grants }; sends = to_each (message.Ask (own_key n.grants).0 (own_key n.grants).1) (peers_of home) })) (idle_step n)).after) [
             | false ↦ λ e. h
             | true ↦ λ none. asks (both (is_up_failure n.state) (is_complete home.plan.width (held_by n) n.cursor) wants) (none-of n.grants.promise none)
           ]) refl
     ]) refl
   where
-    asks : (is_up_failure n.state ≡ true) × (is_complete home.plan.width (held_by n) n.cursor ≡ true) → n.grants.promise ≡ None → IsAsking home (cond {A = Stepped PlainNode} (list_all is_silent (peer_watches home n)) (enter_step home n)
+    asks : (is_up_failure n.state ≡ true) × (is_complete home.plan.width (held_by n) n.cursor ≡ true) → n.grants.promise ≡ None → IsAsking home (cond {A = Stepped PlainNode} (list_all is_absent (peer_watches home n)) (enter_step home n)
         (record { after = record n { grants = with_ask n.grants }; sends = to_each (message.Ask (own_key n.grants).0 (own_key n.grants).1) (peers_of home) })).after
     asks w none =
         let first = complete-reach home.plan.width n.cursor (held_by n) w.1 in
-        elim (list_all is_silent (peer_watches home n)) as (λ b. IsAsking home (cond {A = Stepped PlainNode} b (enter_step home n)
+        elim (list_all is_absent (peer_watches home n)) as (λ b. IsAsking home (cond {A = Stepped PlainNode} b (enter_step home n)
         (record { after = record n { grants = with_ask n.grants }; sends = to_each (message.Ask (own_key n.grants).0 (own_key n.grants).1) (peers_of home) })).after) [
           | true ↦ entered-asking home n up first none
           | false ↦ record {
@@ -431,7 +431,7 @@ failed-closed n up h e = by-value (is_nil n.closed) refl
 -- where buckets are closed, the cursor stays and the node is UP_FAILURE
 processed-asking : (home : Home) (last : ℕ) (n : PlainNode) → n.recovering ≡ false → is_stabilization n.state ≡ false → has_state_of_closed n ≡ true → IsAsking home n → IsAsking home (processing_upto home last n).after
 processed-asking home last n up calm closed h =
-    let count = last + 1 - view_cursor n in
+    let count = last + 1 - node_frontier n in
     let stably = min count (complete_buckets home n) in
     let m = with_closed home (count - stably) (after_stable_buckets home stably n) in
     let after = (processing_upto home last n).after in
@@ -448,7 +448,7 @@ processed-asking home last n up calm closed h =
     }
   where
     m1 : PlainNode
-    m1 = with_closed home (last + 1 - view_cursor n - min (last + 1 - view_cursor n) (complete_buckets home n)) (after_stable_buckets home (min (last + 1 - view_cursor n) (complete_buckets home n)) n)
+    m1 = with_closed home (last + 1 - node_frontier n - min (last + 1 - node_frontier n) (complete_buckets home n)) (after_stable_buckets home (min (last + 1 - node_frontier n) (complete_buckets home n)) n)
 
     unstable : ((with_failure m1).state ≡ n.state) ⊎ ((with_failure m1).state ≡ UpFailure) → is_stable n.state ≡ false → is_stable (with_failure m1).state ≡ false
     unstable (inl e) f = ap is_stable e ∙ f
@@ -463,9 +463,9 @@ IsAskingAfter home s = IsAsking home s.after
 
 processing-asking : (home : Home) (n : PlainNode) → n.recovering ≡ false → has_state_of_closed n ≡ true → IsAsking home n → IsAsking home (processing_step home n).after
 processing-asking home n up closed h =
-    (elim (is_stabilization n.state) as (λ b. is_stabilization n.state ≡ b → IsAskingAfter home (cond b (silent_step n) (elim (due_at home n n.clock) [ None ↦ silent_step n | Some last ↦ processing_upto home last n ]))) [
+    (elim (is_stabilization n.state) as (λ b. is_stabilization n.state ≡ b → IsAskingAfter home (cond b (idle_step n) (elim (due_at home n n.clock) [ None ↦ idle_step n | Some last ↦ processing_upto home last n ]))) [
       | true ↦ λ e. h
-      | false ↦ λ e. elim (due_at home n n.clock) as (λ o. IsAskingAfter home (elim o [ None ↦ silent_step n | Some last ↦ processing_upto home last n ])) [
+      | false ↦ λ e. elim (due_at home n n.clock) as (λ o. IsAskingAfter home (elim o [ None ↦ idle_step n | Some last ↦ processing_upto home last n ])) [
         | None ↦ h
         | Some last ↦ processed-asking home last n up e closed h
       ]

@@ -5,7 +5,7 @@ use Rattle.dpc_lists.specs.Lists.{nth, insert_by}
 use Rattle.dpc_model.specs.Inlets.{with_next_session, asked_by}
 use Rattle.dpc_model.specs.Actors.{senders_of}
 use Rattle.dpc_model.specs.Ports.{Port, choice_at, must_reopen, subscriptions}
-use Rattle.dpc_model.specs.Sessions.{link_of, batches_from, batches_of}
+use Rattle.dpc_model.specs.Sessions.{tally_of, batches_from, batches_of}
 use Rattle.dpc_model.specs.declared.sessions.Sub.{Sub}
 use Rattle.dpc_model.specs.declared.tuples.Item.{Item}
 use Rattle.dpc_model.specs.declared.messages.Sess.{Sess}
@@ -49,7 +49,7 @@ module _ (P : Mail → Type 0) where
   each-from : (readers : List ℕ) (k : ℕ) (items : List Item) (subs : List Sub) → ((to : ℕ) (u : Sess) (index : ℕ) → P (mail to (message.Batch u index items))) → Each P (to_readers readers (batches_from k items subs))
   each-from readers k items [] h = tt
   each-from readers k items (sub ∷ subs) h =
-      elim (link_of sub) as (λ o. Each P (to_readers readers (elim o [ None ↦ batches_from (k + 1) items subs | Some l ↦ (k, message.Batch l.0 l.1 items) ∷ batches_from (k + 1) items subs ]))) [
+      elim (tally_of sub) as (λ o. Each P (to_readers readers (elim o [ None ↦ batches_from (k + 1) items subs | Some l ↦ (k, message.Batch l.0 l.1 items) ∷ batches_from (k + 1) items subs ]))) [
         | None ↦ each-from readers (k + 1) items subs h
         | Some l ↦ (h (nth 0 readers k) l.0 l.1, each-from readers (k + 1) items subs h)
       ]
@@ -84,5 +84,5 @@ module _ (P : Mail → Type 0) where
 
   pub each-beats : (home : Home) (n : PlainNode) → ((to : ℕ) (l : Option (Sess × ℕ)) → P (mail to (beat_of n l))) → Each P (beats home n)
   each-beats home n h =
-      each-append P (to_each (beat_of n None) (peers_of home)) (map (λ (x : ℕ × Sub). mail x.0 (beat_of n (link_of x.1))) (zip (own_readers home) n.subs))
-      (each-to (beat_of n None) (peers_of home) (λ to. h to None)) (each-zipped (λ sub. beat_of n (link_of sub)) (own_readers home) n.subs (λ to sub. h to (link_of sub)))
+      each-append P (to_each (beat_of n None) (peers_of home)) (map (λ (x : ℕ × Sub). mail x.0 (beat_of n (tally_of x.1))) (zip (own_readers home) n.subs))
+      (each-to (beat_of n None) (peers_of home) (λ to. h to None)) (each-zipped (λ sub. beat_of n (tally_of sub)) (own_readers home) n.subs (λ to sub. h to (tally_of sub)))

@@ -2,7 +2,7 @@
 use Rattle.std.proofs.Common.{◌≡◌, ℕ, zero, suc, ◌+◌, ◌<◌, ◌≤◌, Bool, true, false, cond, not, ◌&&◌, ◌==◌, List, [], ◌∷◌, refl, sym, ap, subst, ◌∙◌, arith, Option, Some, None, ◌⊎◌, inl, inr}
 use Rattle.std.proofs.lemmas.Grind.{common_steps}
 use Rattle.dpc_lists.specs.Lists.{nth, changed}
-use Rattle.dpc_model.specs.Granting.{Key, key_le, greater_key, Grants, with_promise, promise_to, after_peer_beat, later_key, promise_after, after_silence, promise_kept, with_ask, with_ask_over, promised_other}
+use Rattle.dpc_model.specs.Granting.{Key, key_le, greater_key, Grants, with_promise, promise_to, after_peer_beat, later_key, promise_after, after_absence, promise_kept, with_ask, with_ask_over, promised_other}
 use Rattle.law_safety.proofs.Tests.{both, eq-of}
 
 -- ---- keys
@@ -184,7 +184,7 @@ module _ (Hears Asks Ends : ℕ → Key → Type 0) where
           ap {B = Option (ℕ × Key)} Some (now ∙ ap (λ (x : ℕ). (x, greater_key key k)) (sym place))
 
   -- a promise to a silent replica ends
-  pub step-silent : (g : Grants) (silent : List Bool) → ((q : ℕ) (key : Key) → nth false silent q ≡ true → Ends q key) → IsAskStep Hears Asks Ends g (after_silence g silent)
+  pub step-silent : (g : Grants) (silent : List Bool) → ((q : ℕ) (key : Key) → nth false silent q ≡ true → Ends q key) → IsAskStep Hears Asks Ends g (after_absence g silent)
   step-silent g silent ends =
       record {
         me = refl;

@@ -4,8 +4,8 @@ use Rattle.std.specs.Prelude.{is_none}
 use Rattle.std.proofs.lemmas.Grind.{common_steps}
 use Rattle.dpc_lists.specs.Lists.{nth, changed, list_all}
 use Rattle.dpc_model.specs.Reading.{Folded, fold_items}
-use Rattle.dpc_model.specs.Inlets.{InletState, AfterBatch, with_next_session, take_batch, same_sess, sess_of, after_missing_batch, after_next_batch, after_link, shows_loss}
-use Rattle.dpc_model.specs.Replicas.{is_silent}
+use Rattle.dpc_model.specs.Inlets.{InletState, AfterBatch, with_next_session, take_batch, same_sess, sess_of, after_missing_batch, after_next_batch, after_tally, shows_loss}
+use Rattle.dpc_model.specs.Replicas.{is_absent}
 use Rattle.dpc_model.specs.Granting.{own_key, with_ask, may_enter_by, grants, with_promise}
 use Rattle.dpc_model.specs.Actors.{replicas_of}
 use Rattle.dpc_model.specs.Ports.{Port, no_port, sender_at, without_ended_marks, on_beat, on_truncated, all_truncated, port_after_tick, port_after_choice, choice_at, must_reopen}
@@ -21,7 +21,7 @@ use Rattle.dpc_model.specs.declared.messages.Message.TheVariants as message
 use Rattle.node_model.specs.Mails.{Snap, Packet, Plain, SnapFor, mail, to_each, Stepped}
 use Rattle.dpc_model.specs.NodeStates.{is_up_failure, is_stabilization}
 use Rattle.node_model.specs.Nodes.{Home, PlainNode, streams_of, due_at, wants_to_reconcile}
-use Rattle.node_model.specs.NodeSteps.{silent_step, then_do, peers_of, peer_watches, replica_number, reader_place, with_port, emptied_port, adopted_ports, enter_step, after_loss, after_adoption, after_taking, with_stamps_of, on_batch, on_subscribe, on_truncation, on_upstream_beat, on_peer_beat, on_ack, on_ask, on_grant, on_snap_ask, on_snap, on_message, on_packet, with_marks_ended, packet_step, mill_step, after_clock, may_start_afresh, choice_step, ask_step, processing_upto, processing_step, announcing_step, serving_step, snapshot_ask_step, rest_of_tick, with_fresh_start, tick_step}
+use Rattle.node_model.specs.NodeSteps.{idle_step, then_do, peers_of, peer_watches, replica_number, reader_place, with_port, emptied_port, adopted_ports, enter_step, after_loss, after_adoption, after_taking, with_stamps_of, on_batch, on_subscribe, on_truncation, on_upstream_beat, on_peer_beat, on_ack, on_ask, on_grant, on_snap_ask, on_snap, on_message, on_packet, with_marks_ended, packet_step, mill_step, after_clock, may_start_afresh, choice_step, ask_step, processing_upto, processing_step, announcing_step, serving_step, snapshot_ask_step, rest_of_tick, with_fresh_start, tick_step}
 use Rattle.law_safety.proofs.Tests.{not-lt, eq-of}
 use Rattle.law_granting.specs.Taken.{index_in}
 use Rattle.law_granting.proofs.AtWork.{nth-there}
@@ -141,8 +141,8 @@ took-moves T q u index items h =
 
 pub beat-moves : (T : ℕ → Sess → ℕ → Type 0) (q : Port) (r : ℕ) (b : Beat) → Moves T q (on_beat r b q)
 beat-moves T q r b =
-    elim (r == q.chosen) as (λ c. Moves T q (record { inlet = cond c (after_link q.inlet b.link) q.inlet; chosen = q.chosen; watches = (on_beat r b q).watches; ticks = q.ticks })) [
-      | true ↦ inl (record { sess = refl; chosen = refl; next = λ e. (first q.inlet.broken (shows_loss q.inlet b.link) e, refl); none = λ e. absurd (omega (arith, e)) })
+    elim (r == q.chosen) as (λ c. Moves T q (record { inlet = cond c (after_tally q.inlet b.tally) q.inlet; chosen = q.chosen; watches = (on_beat r b q).watches; ticks = q.ticks })) [
+      | true ↦ inl (record { sess = refl; chosen = refl; next = λ e. (first q.inlet.broken (shows_loss q.inlet b.tally) e, refl); none = λ e. absurd (omega (arith, e)) })
       | false ↦ inl (record { sess = refl; chosen = refl; next = λ e. (e, refl); none = λ e. absurd (omega (arith, e)) })
     ]
   where
@@ -192,7 +192,7 @@ subscribe-ports home asked (Some k) n = refl
 
 pub ask-ports : (home : Home) (i ask : ℕ) (o : Option ℕ) (n : PlainNode) → (on_ask home i ask o n).after.ports ≡ n.ports
 ask-ports home i ask None n = refl
-ask-ports home i ask (Some r) n = elim (grants n.grants n.state r (i, ask)) as (λ b. (cond {A = Stepped PlainNode} b (record { after = record n { grants = with_promise n.grants r (i, ask) }; sends = mail (nth 0 (replicas_of home.plan home.frag) r) (message.Grant i ask) ∷ [] }) (silent_step n)).after.ports ≡ n.ports) [
+ask-ports home i ask (Some r) n = elim (grants n.grants n.state r (i, ask)) as (λ b. (cond {A = Stepped PlainNode} b (record { after = record n { grants = with_promise n.grants r (i, ask) }; sends = mail (nth 0 (replicas_of home.plan home.frag) r) (message.Grant i ask) ∷ [] }) (idle_step n)).after.ports ≡ n.ports) [
   | true ↦ refl
   | false ↦ refl
 ]
@@ -294,10 +294,10 @@ unfolding enter_step
 entered-ports home n = refl
 
 pub grant-ports : (home : Home) (i ask : ℕ) (n : PlainNode) → (on_grant home i ask n).after.ports ≡ n.ports
-grant-ports home i ask n = elim (is_up_failure n.state && may_enter_by n.grants (i, ask)) as (λ b. (cond {A = Stepped PlainNode} b (enter_step home n) (silent_step n)).after.ports ≡ n.ports) [ true ↦ entered-ports home n | false ↦ refl ]
+grant-ports home i ask n = elim (is_up_failure n.state && may_enter_by n.grants (i, ask)) as (λ b. (cond {A = Stepped PlainNode} b (enter_step home n) (idle_step n)).after.ports ≡ n.ports) [ true ↦ entered-ports home n | false ↦ refl ]
 
-pub unless-ports : (home : Home) (n : PlainNode) (s : Stepped PlainNode) → s.after.ports ≡ n.ports → (cond {A = Stepped PlainNode} n.recovering (silent_step n) s).after.ports ≡ n.ports
-unless-ports home n s h = elim n.recovering as (λ b. (cond {A = Stepped PlainNode} b (silent_step n) s).after.ports ≡ n.ports) [ true ↦ refl | false ↦ h ]
+pub unless-ports : (home : Home) (n : PlainNode) (s : Stepped PlainNode) → s.after.ports ≡ n.ports → (cond {A = Stepped PlainNode} n.recovering (idle_step n) s).after.ports ≡ n.ports
+unless-ports home n s h = elim n.recovering as (λ b. (cond {A = Stepped PlainNode} b (idle_step n) s).after.ports ≡ n.ports) [ true ↦ refl | false ↦ h ]
 
 message-ports : (home : Home) (a : ℕ) (m : Message) (n : PlainNode) → PortsMove (DeliversNext home a (Plain m)) n.ports (on_message home a m n).after.ports
 message-ports home a (message.Batch u index items) n = batch-ports home a (Plain (message.Batch u index items)) u index items (sender_at home.plan (streams_of home) a) n refl refl
@@ -357,9 +357,9 @@ HasPorts ps s = s.after.ports ≡ ps
 
 pub reconciling-ports : (home : Home) (n : PlainNode) → HasPorts n.ports (ask_step home n)
 reconciling-ports home n =
-    elim (wants_to_reconcile home n && is_none n.grants.promise) as (λ b. HasPorts n.ports (cond b (cond (list_all is_silent (peer_watches home n)) (enter_step home n)
-    (record { after = record n { grants = with_ask n.grants }; sends = to_each (message.Ask (own_key n.grants).0 (own_key n.grants).1) (peers_of home) })) (silent_step n))) [
-      | true ↦ elim (list_all is_silent (peer_watches home n)) as (λ b. HasPorts n.ports (cond b (enter_step home n)
+    elim (wants_to_reconcile home n && is_none n.grants.promise) as (λ b. HasPorts n.ports (cond b (cond (list_all is_absent (peer_watches home n)) (enter_step home n)
+    (record { after = record n { grants = with_ask n.grants }; sends = to_each (message.Ask (own_key n.grants).0 (own_key n.grants).1) (peers_of home) })) (idle_step n))) [
+      | true ↦ elim (list_all is_absent (peer_watches home n)) as (λ b. HasPorts n.ports (cond b (enter_step home n)
           (record { after = record n { grants = with_ask n.grants }; sends = to_each (message.Ask (own_key n.grants).0 (own_key n.grants).1) (peers_of home) }))) [
             | true ↦ entered-ports home n
             | false ↦ refl
@@ -369,9 +369,9 @@ reconciling-ports home n =
 
 pub processing-ports : (home : Home) (n : PlainNode) → HasPorts n.ports (processing_step home n)
 processing-ports home n =
-    elim (is_stabilization n.state) as (λ b. HasPorts n.ports (cond b (silent_step n) (elim (due_at home n n.clock) [ None ↦ silent_step n | Some last ↦ processing_upto home last n ]))) [
+    elim (is_stabilization n.state) as (λ b. HasPorts n.ports (cond b (idle_step n) (elim (due_at home n n.clock) [ None ↦ idle_step n | Some last ↦ processing_upto home last n ]))) [
       | true ↦ refl
-      | false ↦ elim (due_at home n n.clock) as (λ o. HasPorts n.ports (elim o [ None ↦ silent_step n | Some last ↦ processing_upto home last n ])) [
+      | false ↦ elim (due_at home n n.clock) as (λ o. HasPorts n.ports (elim o [ None ↦ idle_step n | Some last ↦ processing_upto home last n ])) [
         | None ↦ refl
         | Some last ↦ refl
       ]

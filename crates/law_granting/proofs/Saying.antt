@@ -3,7 +3,7 @@ use Rattle.std.proofs.Common.{◌≡◌, ℕ, ◌+◌, ◌-◌, Bool, true, fals
 use Rattle.std.specs.Prelude.{is_none}
 use Rattle.dpc_lists.specs.Lists.{nth, list_all}
 use Rattle.dpc_model.specs.Inlets.{AfterBatch, take_batch, same_sess}
-use Rattle.dpc_model.specs.Replicas.{is_silent}
+use Rattle.dpc_model.specs.Replicas.{is_absent}
 use Rattle.dpc_model.specs.Granting.{Key, key_le, Grants, own_key, grants, with_promise, promise_to, promised_other, known_over, may_enter_by, with_ask}
 use Rattle.dpc_model.specs.Actors.{replicas_of}
 use Rattle.dpc_model.specs.Ports.{subscriptions, no_port, sender_at, on_truncated, all_truncated}
@@ -22,8 +22,8 @@ use Rattle.dpc_model.specs.declared.messages.Message.{Message}
 use Rattle.dpc_model.specs.declared.messages.Message.TheVariants as message
 use Rattle.node_model.specs.Mails.{Snap, Packet, Plain, SnapFor, Mail, mail, mails, in_actor_order, to_each, Stepped}
 use Rattle.dpc_model.specs.NodeStates.{is_up_failure, is_stabilization}
-use Rattle.node_model.specs.Nodes.{Home, PlainNode, streams_of, own_readers, view_cursor, out_stable, shown, complete_buckets, ready, due_at, wants_to_reconcile}
-use Rattle.node_model.specs.NodeSteps.{silent_step, then_do, peers_of, peer_watches, replica_number, with_port, give, given_by, given_stable, enter_step, after_loss, after_adoption, after_taking, with_stamps_of, on_batch, on_subscribe, on_truncation, on_upstream_beat, on_peer_beat, on_ack, on_ask, on_grant, on_snap_ask, on_snap, reader_place, on_message, on_packet, with_marks_ended, packet_step, after_stable_buckets, after_last_correction, mill_step, after_clock, may_start_afresh, choice_step, ask_step, with_closed, with_failure, processing_upto, processing_step, acks_from, beats, announcing_step, serving_step, snapshot_ask_step, rest_of_tick, with_fresh_start, tick_step}
+use Rattle.node_model.specs.Nodes.{Home, PlainNode, streams_of, own_readers, node_frontier, out_stable, shown, complete_buckets, ready, due_at, wants_to_reconcile}
+use Rattle.node_model.specs.NodeSteps.{idle_step, then_do, peers_of, peer_watches, replica_number, with_port, give, given_by, given_stable, enter_step, after_loss, after_adoption, after_taking, with_stamps_of, on_batch, on_subscribe, on_truncation, on_upstream_beat, on_peer_beat, on_ack, on_ask, on_grant, on_snap_ask, on_snap, reader_place, on_message, on_packet, with_marks_ended, packet_step, after_stable_buckets, after_last_correction, mill_step, after_clock, may_start_afresh, choice_step, ask_step, with_closed, with_failure, processing_upto, processing_step, acks_from, beats, announcing_step, serving_step, snapshot_ask_step, rest_of_tick, with_fresh_start, tick_step}
 use Rattle.law_safety.proofs.Delivered.{place-nth}
 use Rattle.law_granting.proofs.Each.{Each, each-append, each-sorted, each-to, each-batches, each-subscription, each-acks, each-beats}
 use Rattle.law_granting.proofs.Keys.{key-refl, greater-second, IsAskStep, step-same, step-asking, step-finished, step-told, step-granted, step-silent}
@@ -171,7 +171,7 @@ module _ (home : Home) (a : ℕ) (packet : Packet) where
   own n s = IsOwnStep (Hears home a packet) (Asks home a packet) (Ends home a packet) home n s
 
   -- the grants stay
-  own-silent : (n m : PlainNode) → m.grants ≡ n.grants → own n (silent_step m)
+  own-silent : (n m : PlainNode) → m.grants ≡ n.grants → own n (idle_step m)
   own-silent n m e = record { grants = step-same (Hears home a packet) (Asks home a packet) (Ends home a packet) n.grants m.grants e; mails = tt }
 
   own-subscribed : (asked : Subscribe) (o : Option ℕ) (n : PlainNode) → own n (on_subscribe home asked o n)
@@ -182,14 +182,14 @@ module _ (home : Home) (a : ℕ) (packet : Packet) where
         mails = subscribed-says home n.grants k (shown home n) (nth (record { kept = None; is_open = false; batches = 0 }) n.subs k) asked;
       }
 
-  own-truncated : (u : Sess) (base : ℕ) (o : Option (ℕ × ℕ)) (n : PlainNode) → own n (silent_step (on_truncation home u base o n))
+  own-truncated : (u : Sess) (base : ℕ) (o : Option (ℕ × ℕ)) (n : PlainNode) → own n (idle_step (on_truncation home u base o n))
   unfolding after_loss
   own-truncated u base None n = own-silent n n refl
   own-truncated u base (Some pr) n =
       let old = nth no_port n.ports pr.0 in
       let port = on_truncated pr.1 u base old in
       let m = with_port pr.0 (λ _. port) n in
-      elim (same_sess u old.inlet.sess && all_truncated port) as (λ b. own n (silent_step (cond b (after_loss home m) m))) [
+      elim (same_sess u old.inlet.sess && all_truncated port) as (λ b. own n (idle_step (cond b (after_loss home m) m))) [
         | true ↦ record {
           grants = step-finished (Hears home a packet) (Asks home a packet) (Ends home a packet) n.grants n.grants (step-same (Hears home a packet) (Asks home a packet) (Ends home a packet) n.grants n.grants refl);
           mails = tt;
@@ -197,7 +197,7 @@ module _ (home : Home) (a : ℕ) (packet : Packet) where
         | false ↦ own-silent n m refl
       ]
 
-  own-heard : (b : Beat) (o : Option ℕ) (n m : PlainNode) → replica_number home a ≡ o → told_key packet ≡ Some (b.inc, b.over) → m.grants ≡ n.grants → own n (silent_step (on_peer_beat b o m))
+  own-heard : (b : Beat) (o : Option ℕ) (n m : PlainNode) → replica_number home a ≡ o → told_key packet ≡ Some (b.inc, b.over) → m.grants ≡ n.grants → own n (idle_step (on_peer_beat b o m))
   own-heard b None n m e told same = own-silent n m same
   own-heard b (Some r) n m e told same =
       record {
@@ -210,7 +210,7 @@ module _ (home : Home) (a : ℕ) (packet : Packet) where
   own-asked i ask None n e asked = own-silent n n refl
   own-asked i ask (Some r) n e asked =
       (elim (grants n.grants n.state r (i, ask)) as (λ b. grants n.grants n.state r (i, ask) ≡ b → own n (cond b
-      (record { after = record n { grants = with_promise n.grants r (i, ask) }; sends = mail (nth 0 (replicas_of home.plan home.frag) r) (message.Grant i ask) ∷ [] }) (silent_step n))) [
+      (record { after = record n { grants = with_promise n.grants r (i, ask) }; sends = mail (nth 0 (replicas_of home.plan home.frag) r) (message.Grant i ask) ∷ [] }) (idle_step n))) [
         | true ↦ λ h. record {
           grants = step-granted (Hears home a packet) (Asks home a packet) (Ends home a packet) n.grants r (i, ask) (e, asked) (granted-of n.grants n.state r (i, ask) h).same;
           mails = (record { replica = r; more = (promise_to n.grants r (i, ask)).1; number = subst (λ (x : ℕ). replica_number home x ≡ Some r) (sym (place-nth a (replicas_of home.plan home.frag) r e)) e; promise = promise-is n.grants.promise refl; most = most-is n.grants.promise refl }, tt);
@@ -228,7 +228,7 @@ module _ (home : Home) (a : ℕ) (packet : Packet) where
 
   own-granted : (i ask : ℕ) (n : PlainNode) → own n (on_grant home i ask n)
   own-granted i ask n =
-      elim (is_up_failure n.state && may_enter_by n.grants (i, ask)) as (λ b. own n (cond b (enter_step home n) (silent_step n))) [
+      elim (is_up_failure n.state && may_enter_by n.grants (i, ask)) as (λ b. own n (cond b (enter_step home n) (idle_step n))) [
         | true ↦ record {
           grants = subst (λ (g : Grants). IsAskStep (Hears home a packet) (Asks home a packet) (Ends home a packet) n.grants g) (sym (entered-grants home n))
               (step-asking (Hears home a packet) (Asks home a packet) (Ends home a packet) n.grants n.grants (step-same (Hears home a packet) (Asks home a packet) (Ends home a packet) n.grants n.grants refl));
@@ -238,8 +238,8 @@ module _ (home : Home) (a : ℕ) (packet : Packet) where
       ]
 
   -- unless the node recovers
-  own-unless : (n : PlainNode) (s : Stepped PlainNode) → own n s → own n (cond n.recovering (silent_step n) s)
-  own-unless n s h = elim n.recovering as (λ b. own n (cond b (silent_step n) s)) [ true ↦ own-silent n n refl | false ↦ h ]
+  own-unless : (n : PlainNode) (s : Stepped PlainNode) → own n s → own n (cond n.recovering (idle_step n) s)
+  own-unless n s h = elim n.recovering as (λ b. own n (cond b (idle_step n) s)) [ true ↦ own-silent n n refl | false ↦ h ]
 
 own-message : (home : Home) (a : ℕ) (m : Message) (n : PlainNode) → IsOwnStep (Hears home a (Plain m)) (Asks home a (Plain m)) (Ends home a (Plain m)) home n (on_message home a m n)
 own-message home a (message.Batch u index items) n =
@@ -288,8 +288,8 @@ own-milled home r n =
 -- ---- a tick
 
 -- a replica that this tick finds silent
-abbrev pub FoundSilent : ℕ → PlainNode → ℕ → Key → Type 0
-FoundSilent now n q key = nth false (map is_silent (after_clock now n).peers) q ≡ true
+abbrev pub FoundAbsent : ℕ → PlainNode → ℕ → Key → Type 0
+FoundAbsent now n q key = nth false (map is_absent (after_clock now n).peers) q ≡ true
 
 processed-grants : (home : Home) (last : ℕ) (n : PlainNode) → (processing_upto home last n).after.grants ≡ n.grants
 processed-grants home last n = refl
@@ -299,9 +299,9 @@ HasGrants g s = s.after.grants ≡ g
 
 processing-grants : (home : Home) (n : PlainNode) → HasGrants n.grants (processing_step home n)
 processing-grants home n =
-    elim (is_stabilization n.state) as (λ b. HasGrants n.grants (cond b (silent_step n) (elim (due_at home n n.clock) [ None ↦ silent_step n | Some last ↦ processing_upto home last n ]))) [
+    elim (is_stabilization n.state) as (λ b. HasGrants n.grants (cond b (idle_step n) (elim (due_at home n n.clock) [ None ↦ idle_step n | Some last ↦ processing_upto home last n ]))) [
       | true ↦ refl
-      | false ↦ elim (due_at home n n.clock) as (λ o. HasGrants n.grants (elim o [ None ↦ silent_step n | Some last ↦ processing_upto home last n ])) [
+      | false ↦ elim (due_at home n n.clock) as (λ o. HasGrants n.grants (elim o [ None ↦ idle_step n | Some last ↦ processing_upto home last n ])) [
         | None ↦ refl
         | Some last ↦ processed-grants home last n
       ]
@@ -312,9 +312,9 @@ SendsSaying home g s = Each (Says home g) s.sends
 
 processing-says : (home : Home) (g : Grants) (n : PlainNode) → SendsSaying home g (processing_step home n)
 processing-says home g n =
-    elim (is_stabilization n.state) as (λ b. SendsSaying home g (cond b (silent_step n) (elim (due_at home n n.clock) [ None ↦ silent_step n | Some last ↦ processing_upto home last n ]))) [
+    elim (is_stabilization n.state) as (λ b. SendsSaying home g (cond b (idle_step n) (elim (due_at home n n.clock) [ None ↦ idle_step n | Some last ↦ processing_upto home last n ]))) [
       | true ↦ tt
-      | false ↦ elim (due_at home n n.clock) as (λ o. SendsSaying home g (elim o [ None ↦ silent_step n | Some last ↦ processing_upto home last n ])) [
+      | false ↦ elim (due_at home n n.clock) as (λ o. SendsSaying home g (elim o [ None ↦ idle_step n | Some last ↦ processing_upto home last n ])) [
         | None ↦ tt
         | Some last ↦ processed-says last
       ]
@@ -322,7 +322,7 @@ processing-says home g n =
   where
     processed-says : (last : ℕ) → SendsSaying home g (processing_upto home last n)
     processed-says last =
-        let count = last + 1 - view_cursor n in
+        let count = last + 1 - node_frontier n in
         let stably = min count (complete_buckets home n) in
         let new = with_failure (with_closed home (count - stably) (after_stable_buckets home stably n)) in
         give-says home g (given_items (length (out_stable home n)) (given_by home n new (nat_lt 0 stably) (nat_lt stably count))) new
@@ -341,9 +341,9 @@ module _ (H A E : ℕ → Key → Type 0) (home : Home) (g : Grants) where
 
   reconciling-own : (n : PlainNode) → IsAskStep H A E g n.grants → IsReconciling n (ask_step home n)
   reconciling-own n h =
-      elim (wants_to_reconcile home n && is_none n.grants.promise) as (λ b. IsReconciling n (cond b (cond (list_all is_silent (peer_watches home n)) (enter_step home n)
-      (record { after = record n { grants = with_ask n.grants }; sends = to_each (message.Ask (own_key n.grants).0 (own_key n.grants).1) (peers_of home) })) (silent_step n))) [
-        | true ↦ elim (list_all is_silent (peer_watches home n)) as (λ b. IsReconciling n (cond b (enter_step home n)
+      elim (wants_to_reconcile home n && is_none n.grants.promise) as (λ b. IsReconciling n (cond b (cond (list_all is_absent (peer_watches home n)) (enter_step home n)
+      (record { after = record n { grants = with_ask n.grants }; sends = to_each (message.Ask (own_key n.grants).0 (own_key n.grants).1) (peers_of home) })) (idle_step n))) [
+        | true ↦ elim (list_all is_absent (peer_watches home n)) as (λ b. IsReconciling n (cond b (enter_step home n)
             (record { after = record n { grants = with_ask n.grants }; sends = to_each (message.Ask (own_key n.grants).0 (own_key n.grants).1) (peers_of home) }))) [
               | true ↦ record {
                 grants = subst (λ (x : Grants). IsAskStep H A E g x) (sym (entered-grants home n)) (step-asking H A E g n.grants h);
@@ -390,9 +390,9 @@ module _ (H A E : ℕ → Key → Type 0) (home : Home) (g : Grants) where
       afresh : IsReconciling (with_fresh_start n) (serving_step home (with_fresh_start n)) → IsReconciling n (serving_step home (with_fresh_start n))
       afresh k = record { grants = k.grants; mails = k.mails }
 
-pub own-ticked : (home : Home) (now : ℕ) (n : PlainNode) → IsOwnStep Never Never (FoundSilent now n) home n (tick_step home now n)
+pub own-ticked : (home : Home) (now : ℕ) (n : PlainNode) → IsOwnStep Never Never (FoundAbsent now n) home n (tick_step home now n)
 unfolding tick_step
 own-ticked home now n =
-    let k = going_on-own Never Never (FoundSilent now n) home n.grants (after_clock now (with_marks_ended n))
-    (step-silent Never Never (FoundSilent now n) n.grants (map is_silent (after_clock now n).peers) (λ q key e. e)) in
+    let k = going_on-own Never Never (FoundAbsent now n) home n.grants (after_clock now (with_marks_ended n))
+    (step-silent Never Never (FoundAbsent now n) n.grants (map is_absent (after_clock now n).peers) (λ q key e. e)) in
     record { grants = k.grants; mails = k.mails }

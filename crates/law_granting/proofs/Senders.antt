@@ -4,7 +4,7 @@ use Rattle.std.specs.Prelude.{is_none}
 use Rattle.std.proofs.lemmas.List.{length-map}
 use Rattle.dpc_lists.specs.Lists.{nth, changed, list_all}
 use Rattle.dpc_model.specs.Inlets.{same_sess, take_batch, AfterBatch}
-use Rattle.dpc_model.specs.Replicas.{is_silent}
+use Rattle.dpc_model.specs.Replicas.{is_absent}
 use Rattle.dpc_model.specs.Granting.{grants, with_promise, own_key, with_ask, may_enter_by}
 use Rattle.dpc_model.specs.Actors.{replicas_of}
 use Rattle.dpc_model.specs.Ports.{no_port, sender_at, on_truncated, all_truncated, subscriptions}
@@ -22,8 +22,8 @@ use Rattle.dpc_model.specs.declared.messages.Message.TheVariants as message
 use Rattle.dpc_model.specs.declared.messages.NodeState.TheVariants.{Stabilization}
 use Rattle.node_model.specs.Mails.{Snap, Packet, Plain, SnapFor, Mail, mail, mails, in_actor_order, to_each, Stepped}
 use Rattle.dpc_model.specs.NodeStates.{is_up_failure, is_stabilization}
-use Rattle.node_model.specs.Nodes.{Home, PlainNode, streams_of, own_readers, view_cursor, out_stable, shown, complete_buckets, ready, due_at, wants_to_reconcile}
-use Rattle.node_model.specs.NodeSteps.{silent_step, then_do, peers_of, peer_watches, replica_number, reader_place, with_port, give, given_by, given_stable, enter_step, after_loss, after_adoption, after_taking, with_stamps_of, on_batch, on_subscribe, on_truncation, on_upstream_beat, on_peer_beat, on_ack, on_ask, on_grant, on_snap_ask, on_snap, on_message, on_packet, with_marks_ended, packet_step, after_stable_buckets, after_last_correction, mill_step, after_clock, may_start_afresh, choice_step, ask_step, with_closed, with_failure, processing_upto, processing_step, acks_from, beats, announcing_step, serving_step, snapshot_ask_step, rest_of_tick, with_fresh_start, tick_step}
+use Rattle.node_model.specs.Nodes.{Home, PlainNode, streams_of, own_readers, node_frontier, out_stable, shown, complete_buckets, ready, due_at, wants_to_reconcile}
+use Rattle.node_model.specs.NodeSteps.{idle_step, then_do, peers_of, peer_watches, replica_number, reader_place, with_port, give, given_by, given_stable, enter_step, after_loss, after_adoption, after_taking, with_stamps_of, on_batch, on_subscribe, on_truncation, on_upstream_beat, on_peer_beat, on_ack, on_ask, on_grant, on_snap_ask, on_snap, on_message, on_packet, with_marks_ended, packet_step, after_stable_buckets, after_last_correction, mill_step, after_clock, may_start_afresh, choice_step, ask_step, with_closed, with_failure, processing_upto, processing_step, acks_from, beats, announcing_step, serving_step, snapshot_ask_step, rest_of_tick, with_fresh_start, tick_step}
 use Rattle.world_model.specs.Worlds.{Envelope, from}
 use Rattle.world_model.specs.SessionLaw.{Channel}
 use Rattle.law_safety.proofs.Tests.{both-of, eq-of, eq-test}
@@ -69,7 +69,7 @@ module _ (home : Home) (a k : ℕ) (s : Sess) (opens : Bool) (distinct : AreDist
       }
 
   -- all sessions are shut
-  sends-closed : (old : List Sub) (m : PlainNode) → length old ≡ length (own_readers home) → m.subs ≡ map with_session_shut old → Sends old (silent_step m)
+  sends-closed : (old : List Sub) (m : PlainNode) → length old ≡ length (own_readers home) → m.subs ≡ map with_session_shut old → Sends old (idle_step m)
   sends-closed old m many same =
       record {
         many = ap length same ∙ length-map old with_session_shut ∙ many;
@@ -93,7 +93,7 @@ module _ (home : Home) (a k : ℕ) (s : Sess) (opens : Bool) (distinct : AreDist
 
   subscribed-sends : (sender : ℕ) (asked : Subscribe) (o : Option ℕ) (n : PlainNode) → reader_place home sender ≡ o → (sender ≡ nth 0 (own_readers home) k → same_sess asked.sess s ≡ true → opens ≡ true) →
       length n.subs ≡ length (own_readers home) → Sends n.subs (on_subscribe home asked o n)
-  subscribed-sends sender asked None n e told many = sends-quiet n.subs (silent_step n) many refl tt
+  subscribed-sends sender asked None n e told many = sends-quiet n.subs (idle_step n) many refl tt
   subscribed-sends sender asked (Some j) n e told many =
       elim (same-or j k) [
         | inl same ↦ subst (λ (z : ℕ). Sends n.subs (on_subscribe home asked (Some z) n)) (sym same)
@@ -142,26 +142,26 @@ module _ (home : Home) (a k : ℕ) (s : Sess) (opens : Bool) (distinct : AreDist
           answer-is None = refl
           answer-is (Some m) = skip-other line a (mail (nth 0 (own_readers home) j) m) [] (and-false (a == a) (nth 0 (own_readers home) j == nth 0 (own_readers home) k) apart)
 
-  again-sends : (n : PlainNode) (old : List Sub) → n.subs ≡ old → length old ≡ length (own_readers home) → Sends old (silent_step (after_loss home n))
+  again-sends : (n : PlainNode) (old : List Sub) → n.subs ≡ old → length old ≡ length (own_readers home) → Sends old (idle_step (after_loss home n))
   unfolding after_loss
   again-sends n old same many = sends-closed old (after_loss home n) many (ap (λ (z : List Sub). map with_session_shut z) same)
 
-  truncation-sends : (u : Sess) (base : ℕ) (o : Option (ℕ × ℕ)) (n : PlainNode) → length n.subs ≡ length (own_readers home) → Sends n.subs (silent_step (on_truncation home u base o n))
-  truncation-sends u base None n many = sends-quiet n.subs (silent_step n) many refl tt
+  truncation-sends : (u : Sess) (base : ℕ) (o : Option (ℕ × ℕ)) (n : PlainNode) → length n.subs ≡ length (own_readers home) → Sends n.subs (idle_step (on_truncation home u base o n))
+  truncation-sends u base None n many = sends-quiet n.subs (idle_step n) many refl tt
   truncation-sends u base (Some pr) n many =
       let old = nth no_port n.ports pr.0 in
       let port = on_truncated pr.1 u base old in
       let m = with_port pr.0 (λ _. port) n in
-      elim (same_sess u old.inlet.sess && all_truncated port) as (λ b. Sends n.subs (silent_step (cond b (after_loss home m) m))) [
+      elim (same_sess u old.inlet.sess && all_truncated port) as (λ b. Sends n.subs (idle_step (cond b (after_loss home m) m))) [
         | true ↦ again-sends m n.subs refl many
-        | false ↦ sends-quiet n.subs (silent_step m) many refl tt
+        | false ↦ sends-quiet n.subs (idle_step m) many refl tt
       ]
 
-  snap-sends : (i try : ℕ) (x : Snap) (n : PlainNode) → length n.subs ≡ length (own_readers home) → Sends n.subs (silent_step (on_snap home i try x n))
+  snap-sends : (i try : ℕ) (x : Snap) (n : PlainNode) → length n.subs ≡ length (own_readers home) → Sends n.subs (idle_step (on_snap home i try x n))
   unfolding after_adoption
-  snap-sends i try x n many = elim (n.recovering && i == n.grants.inc && try == n.tries) as (λ b. Sends n.subs (silent_step (cond b (after_adoption home x n) n))) [
+  snap-sends i try x n many = elim (n.recovering && i == n.grants.inc && try == n.tries) as (λ b. Sends n.subs (idle_step (cond b (after_adoption home x n) n))) [
     | true ↦ sends-closed n.subs (after_adoption home x n) many refl
-    | false ↦ sends-quiet n.subs (silent_step n) many refl tt
+    | false ↦ sends-quiet n.subs (idle_step n) many refl tt
   ]
 
   entered-sends : (n : PlainNode) → length n.subs ≡ length (own_readers home) → Sends n.subs (enter_step home n)
@@ -169,17 +169,17 @@ module _ (home : Home) (a k : ℕ) (s : Sess) (opens : Bool) (distinct : AreDist
   entered-sends n many = sends-give (item.Undo (length (out_stable home n)) ∷ []) (record n { closed = []; state = Stabilization; grants = with_ask n.grants }) many
 
   grant-sends : (i ask : ℕ) (n : PlainNode) → length n.subs ≡ length (own_readers home) → Sends n.subs (on_grant home i ask n)
-  grant-sends i ask n many = elim (is_up_failure n.state && may_enter_by n.grants (i, ask)) as (λ b. Sends n.subs (cond b (enter_step home n) (silent_step n))) [ true ↦ entered-sends n many | false ↦ sends-quiet n.subs (silent_step n) many refl tt ]
+  grant-sends i ask n many = elim (is_up_failure n.state && may_enter_by n.grants (i, ask)) as (λ b. Sends n.subs (cond b (enter_step home n) (idle_step n))) [ true ↦ entered-sends n many | false ↦ sends-quiet n.subs (idle_step n) many refl tt ]
 
   ask-sends : (i ask : ℕ) (o : Option ℕ) (n : PlainNode) → length n.subs ≡ length (own_readers home) → Sends n.subs (on_ask home i ask o n)
-  ask-sends i ask None n many = sends-quiet n.subs (silent_step n) many refl tt
-  ask-sends i ask (Some r) n many = elim (grants n.grants n.state r (i, ask)) as (λ b. Sends n.subs (cond b (record { after = record n { grants = with_promise n.grants r (i, ask) }; sends = mail (nth 0 (replicas_of home.plan home.frag) r) (message.Grant i ask) ∷ [] }) (silent_step n))) [
+  ask-sends i ask None n many = sends-quiet n.subs (idle_step n) many refl tt
+  ask-sends i ask (Some r) n many = elim (grants n.grants n.state r (i, ask)) as (λ b. Sends n.subs (cond b (record { after = record n { grants = with_promise n.grants r (i, ask) }; sends = mail (nth 0 (replicas_of home.plan home.frag) r) (message.Grant i ask) ∷ [] }) (idle_step n))) [
     | true ↦ sends-quiet n.subs (record { after = record n { grants = with_promise n.grants r (i, ask) }; sends = mail (nth 0 (replicas_of home.plan home.frag) r) (message.Grant i ask) ∷ [] }) many refl (λ z. refl, tt)
-    | false ↦ sends-quiet n.subs (silent_step n) many refl tt
+    | false ↦ sends-quiet n.subs (idle_step n) many refl tt
   ]
 
-  unless-sends : (n : PlainNode) (t : Stepped PlainNode) → length n.subs ≡ length (own_readers home) → Sends n.subs t → Sends n.subs (cond n.recovering (silent_step n) t)
-  unless-sends n t many h = elim n.recovering as (λ b. Sends n.subs (cond b (silent_step n) t)) [ true ↦ sends-quiet n.subs (silent_step n) many refl tt | false ↦ h ]
+  unless-sends : (n : PlainNode) (t : Stepped PlainNode) → length n.subs ≡ length (own_readers home) → Sends n.subs t → Sends n.subs (cond n.recovering (idle_step n) t)
+  unless-sends n t many h = elim n.recovering as (λ b. Sends n.subs (cond b (idle_step n) t)) [ true ↦ sends-quiet n.subs (idle_step n) many refl tt | false ↦ h ]
 
   took-subs : (p : ℕ) (t : AfterBatch) (n : PlainNode) → (after_taking home p t n).subs ≡ n.subs
   took-subs p t n = by-answer t.answer
@@ -239,30 +239,30 @@ module _ (home : Home) (a k : ℕ) (s : Sess) (opens : Bool) (distinct : AreDist
 
   reconciling-sends : (n : PlainNode) → length n.subs ≡ length (own_readers home) → Sends n.subs (ask_step home n)
   reconciling-sends n many =
-      elim (wants_to_reconcile home n && is_none n.grants.promise) as (λ b. Sends n.subs (cond b (cond (list_all is_silent (peer_watches home n)) (enter_step home n)
-      (record { after = record n { grants = with_ask n.grants }; sends = to_each (message.Ask (own_key n.grants).0 (own_key n.grants).1) (peers_of home) })) (silent_step n))) [
-        | true ↦ elim (list_all is_silent (peer_watches home n)) as (λ b. Sends n.subs (cond b (enter_step home n)
+      elim (wants_to_reconcile home n && is_none n.grants.promise) as (λ b. Sends n.subs (cond b (cond (list_all is_absent (peer_watches home n)) (enter_step home n)
+      (record { after = record n { grants = with_ask n.grants }; sends = to_each (message.Ask (own_key n.grants).0 (own_key n.grants).1) (peers_of home) })) (idle_step n))) [
+        | true ↦ elim (list_all is_absent (peer_watches home n)) as (λ b. Sends n.subs (cond b (enter_step home n)
             (record { after = record n { grants = with_ask n.grants }; sends = to_each (message.Ask (own_key n.grants).0 (own_key n.grants).1) (peers_of home) }))) [
               | true ↦ entered-sends n many
               | false ↦ sends-quiet n.subs (record { after = record n { grants = with_ask n.grants }; sends = to_each (message.Ask (own_key n.grants).0 (own_key n.grants).1) (peers_of home) }) many refl
                   (each-to IsNoBatch (message.Ask (own_key n.grants).0 (own_key n.grants).1) (peers_of home) (λ to z. refl))
             ]
-        | false ↦ sends-quiet n.subs (silent_step n) many refl tt
+        | false ↦ sends-quiet n.subs (idle_step n) many refl tt
       ]
 
   processing-sends : (n : PlainNode) → length n.subs ≡ length (own_readers home) → Sends n.subs (processing_step home n)
   processing-sends n many =
-      elim (is_stabilization n.state) as (λ b. Sends n.subs (cond b (silent_step n) (elim (due_at home n n.clock) [ None ↦ silent_step n | Some last ↦ processing_upto home last n ]))) [
-        | true ↦ sends-quiet n.subs (silent_step n) many refl tt
-        | false ↦ elim (due_at home n n.clock) as (λ o. Sends n.subs (elim o [ None ↦ silent_step n | Some last ↦ processing_upto home last n ])) [
-          | None ↦ sends-quiet n.subs (silent_step n) many refl tt
+      elim (is_stabilization n.state) as (λ b. Sends n.subs (cond b (idle_step n) (elim (due_at home n n.clock) [ None ↦ idle_step n | Some last ↦ processing_upto home last n ]))) [
+        | true ↦ sends-quiet n.subs (idle_step n) many refl tt
+        | false ↦ elim (due_at home n n.clock) as (λ o. Sends n.subs (elim o [ None ↦ idle_step n | Some last ↦ processing_upto home last n ])) [
+          | None ↦ sends-quiet n.subs (idle_step n) many refl tt
           | Some last ↦ processed last
         ]
       ]
     where
       processed : (last : ℕ) → NodeSends home a k s opens n.subs (processing_upto home last n)
       processed last =
-          let count = last + 1 - view_cursor n in
+          let count = last + 1 - node_frontier n in
           let stably = min count (complete_buckets home n) in
           let new = with_failure (with_closed home (count - stably) (after_stable_buckets home stably n)) in
           sends-give (given_items (length (out_stable home n)) (given_by home n new (nat_lt 0 stably) (nat_lt stably count))) new many

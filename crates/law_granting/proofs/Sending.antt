@@ -4,7 +4,7 @@ use Rattle.std.proofs.lemmas.Grind.{common_steps}
 use Rattle.std.proofs.lemmas.Option.{slice_get_within}
 use Rattle.dpc_lists.specs.Lists.{nth, range_with_len, list_any}
 use Rattle.dpc_model.specs.Inlets.{same_sess, is_newer}
-use Rattle.dpc_model.specs.Sessions.{no_session, Shown, Answered, answer_to, is_newer_than_kept, link_of, with_session_shut, with_batch, with_batches, batches_from, batches_of, first_batch}
+use Rattle.dpc_model.specs.Sessions.{no_session, Shown, Answered, answer_to, is_newer_than_kept, tally_of, with_session_shut, with_batch, with_batches, batches_from, batches_of, first_batch}
 use Rattle.dpc_model.specs.declared.sessions.Sub.{Sub}
 use Rattle.dpc_model.specs.declared.tuples.Item.{Item}
 use Rattle.dpc_model.specs.declared.messages.Sess.{Sess}
@@ -44,11 +44,11 @@ range-append k (suc n) m =
 
 -- so many batches were sent in a session: its sub counts them, and none was sent before it was asked for
 pub record Counts (s : Sess) (n : ℕ) (sub : Sub) : Type 0 where
-  pub open_one : (v : Sess) (m : ℕ) → link_of sub ≡ Some (v, m) → same_sess v s ≡ true → m ≡ n
+  pub open_one : (v : Sess) (m : ℕ) → tally_of sub ≡ Some (v, m) → same_sess v s ≡ true → m ≡ n
   pub newer : is_newer_than_kept s sub.kept ≡ true → n ≡ 0
 
 pub record NotOpen (s : Sess) (sub : Sub) : Type 0 where
-  pub other : (v : Sess) (m : ℕ) → link_of sub ≡ Some (v, m) → same_sess v s ≡ false
+  pub other : (v : Sess) (m : ℕ) → tally_of sub ≡ Some (v, m) → same_sess v s ≡ false
 
 abbrev pub is_zero : ℕ → Bool
 is_zero v = v == 0
@@ -86,12 +86,12 @@ sends-shut s opens sub =
       fresh = λ c. inr (record { other = λ v m d. absurd (closed v m d) });
     }
   where
-    closed : (v : Sess) (m : ℕ) → link_of (with_session_shut sub) ≡ Some (v, m) → ⊥
+    closed : (v : Sess) (m : ℕ) → tally_of (with_session_shut sub) ≡ Some (v, m) → ⊥
     closed v m e = by-kept sub.kept refl
       where
         by-kept : (o : Option Sess) → sub.kept ≡ o → ⊥
-        by-kept None f = let none : link_of (with_session_shut sub) ≡ None = rw f refl in cc
-        by-kept (Some u) f = let none : link_of (with_session_shut sub) ≡ None = rw f refl in cc
+        by-kept None f = let none : tally_of (with_session_shut sub) ≡ None = rw f refl in cc
+        by-kept (Some u) f = let none : tally_of (with_session_shut sub) ≡ None = rw f refl in cc
 
 pub sends-then : (s : Sess) (opens : Bool) (a b c : Sub) (xs ys : List ℕ) → SendsOn s opens a b xs → SendsOn s opens b c ys → SendsOn s opens a c (xs ++ ys)
 sends-then s opens a b c xs ys h k =
@@ -124,20 +124,20 @@ abbrev pub given_index : Option (Sess × ℕ) → Sess → List ℕ
 given_index None s = []
 given_index (Some l) s = cond (same_sess l.0 s) (l.1 ∷ []) []
 
-pub sends-counted : (s : Sess) (opens : Bool) (sub : Sub) → SendsOn s opens sub (with_batch sub) (given_index (link_of sub) s)
+pub sends-counted : (s : Sess) (opens : Bool) (sub : Sub) → SendsOn s opens sub (with_batch sub) (given_index (tally_of sub) s)
 sends-counted s opens sub = by-parts sub.kept sub.is_open refl refl
   where
-    by-parts : (kept : Option Sess) (is_open : Bool) → sub.kept ≡ kept → sub.is_open ≡ is_open → SendsOn s opens sub (with_batch sub) (given_index (link_of sub) s)
+    by-parts : (kept : Option Sess) (is_open : Bool) → sub.kept ≡ kept → sub.is_open ≡ is_open → SendsOn s opens sub (with_batch sub) (given_index (tally_of sub) s)
     by-parts kept false f o =
-        let closed : link_of sub ≡ None = none-open kept f in
+        let closed : tally_of sub ≡ None = none-open kept f in
         let same : with_batch sub ≡ sub = rw o refl in
         subst (λ (z : Option (Sess × ℕ)). SendsOn s opens sub (with_batch sub) (given_index z s)) (sym closed) (subst (λ (z : Sub). SendsOn s opens sub z []) (sym same) (sends-none s opens sub))
       where
-        none-open : (k : Option Sess) → sub.kept ≡ k → link_of sub ≡ None
+        none-open : (k : Option Sess) → sub.kept ≡ k → tally_of sub ≡ None
         none-open None g = rw g refl
         none-open (Some u) g = rw (g, o) refl
     by-parts None true f o =
-        let closed : link_of sub ≡ None = rw f refl in
+        let closed : tally_of sub ≡ None = rw f refl in
         subst (λ (z : Option (Sess × ℕ)). SendsOn s opens sub (with_batch sub) (given_index z s)) (sym closed)
         (record {
           counts = λ n c. (refl, record { open_one = λ v m e. absurd (still v m e); newer = λ e. no-more n ∙ c.newer (subst (λ (k : Option Sess). is_newer_than_kept s k ≡ true) kept-same e) });
@@ -148,11 +148,11 @@ sends-counted s opens sub = by-parts sub.kept sub.is_open refl refl
         kept-same : (with_batch sub).kept ≡ sub.kept
         kept-same = rw o refl
 
-        still : (v : Sess) (m : ℕ) → link_of (with_batch sub) ≡ Some (v, m) → ⊥
-        still v m e = let none : link_of (with_batch sub) ≡ None = rw (o, f) refl in cc
+        still : (v : Sess) (m : ℕ) → tally_of (with_batch sub) ≡ Some (v, m) → ⊥
+        still v m e = let none : tally_of (with_batch sub) ≡ None = rw (o, f) refl in cc
     by-parts (Some u) true f o =
-        let open_now : link_of sub ≡ Some (u, sub.batches) = rw (f, o) refl in
-        let open_next : link_of (with_batch sub) ≡ Some (u, sub.batches + 1) = rw (o, f) refl in
+        let open_now : tally_of sub ≡ Some (u, sub.batches) = rw (f, o) refl in
+        let open_next : tally_of (with_batch sub) ≡ Some (u, sub.batches + 1) = rw (o, f) refl in
         subst (λ (z : Option (Sess × ℕ)). SendsOn s opens sub (with_batch sub) (given_index z s)) (sym open_now)
         ((elim (same_sess u s) as (λ b. same_sess u s ≡ b → SendsOn s opens sub (with_batch sub) (cond b (sub.batches ∷ []) [])) [
           | true ↦ λ same. record {
@@ -294,7 +294,7 @@ others-indexed readers a k j s items [] distinct less few = refl
 others-indexed readers a k j s items (sub ∷ subs) distinct less few =
     let l : Channel = record { sender = a; reader = nth 0 readers k; sess = s } in
     let rest = others-indexed readers a k (j + 1) s items subs distinct (omega (arith, less)) (omega (arith, few)) in
-    elim (link_of sub) as (λ o. indexes l (map (from a) (to_readers readers (elim o [ None ↦ batches_from (j + 1) items subs | Some v ↦ (j, message.Batch v.0 v.1 items) ∷ batches_from (j + 1) items subs ]))) ≡ []) [
+    elim (tally_of sub) as (λ o. indexes l (map (from a) (to_readers readers (elim o [ None ↦ batches_from (j + 1) items subs | Some v ↦ (j, message.Batch v.0 v.1 items) ∷ batches_from (j + 1) items subs ]))) ≡ []) [
       | None ↦ rest
       | Some v ↦
           let other : (nth 0 readers j == nth 0 readers k) ≡ false = apart (nth 0 readers j == nth 0 readers k) refl in
@@ -312,7 +312,7 @@ others-indexed readers a k j s items (sub ∷ subs) distinct less few =
         absurd (omega (arith, same, less))
 
 given-indexed : (readers : List ℕ) (a j i : ℕ) (s : Sess) (items : List Item) (subs : List Sub) (sub : Sub) → AreDistinct readers → j + length subs ≤ length readers → slice_get subs i ≡ Some sub →
-    indexes (record { sender = a; reader = nth 0 readers (j + i); sess = s }) (map (from a) (to_readers readers (batches_from j items subs))) ≡ given_index (link_of sub) s
+    indexes (record { sender = a; reader = nth 0 readers (j + i); sess = s }) (map (from a) (to_readers readers (batches_from j items subs))) ≡ given_index (tally_of sub) s
 given-indexed readers a j i s items [] sub distinct few e = cc
 given-indexed readers a j zero s items (x ∷ subs) sub distinct few e =
     let none : j + 0 ≡ j = omega arith in
@@ -321,7 +321,7 @@ given-indexed readers a j zero s items (x ∷ subs) sub distinct few e =
     let rest = others-indexed readers a j (j + 1) s items subs distinct (omega arith) (omega (arith, few)) in
     let mine : (a == a) ≡ true = eq-test a a refl in
     let here : (nth 0 readers j == nth 0 readers j) ≡ true = eq-test (nth 0 readers j) (nth 0 readers j) refl in
-    rw (none, ← same) (elim (link_of x) as (λ o. indexes l (map (from a) (to_readers readers (elim o [ None ↦ batches_from (j + 1) items subs | Some v ↦ (j, message.Batch v.0 v.1 items) ∷ batches_from (j + 1) items subs ]))) ≡ given_index o s) [
+    rw (none, ← same) (elim (tally_of x) as (λ o. indexes l (map (from a) (to_readers readers (elim o [ None ↦ batches_from (j + 1) items subs | Some v ↦ (j, message.Batch v.0 v.1 items) ∷ batches_from (j + 1) items subs ]))) ≡ given_index o s) [
       | None ↦ rest
       | Some v ↦ take-mine l a (mail (nth 0 readers j) (message.Batch v.0 v.1 items)) (map (from a) (to_readers readers (batches_from (j + 1) items subs))) (both-of (a == a) (nth 0 readers j == nth 0 readers j) mine here)
           ∙ (elim (same_sess v.0 s) as (λ b. elim (cond {A = Option ℕ} b (Some v.1) None) as (λ _. List ℕ) [
@@ -335,12 +335,12 @@ given-indexed readers a j zero s items (x ∷ subs) sub distinct few e =
 given-indexed readers a j (suc i) s items (x ∷ subs) sub distinct few e =
     let next : j + suc i ≡ j + 1 + i = omega arith in
     let l : Channel = record { sender = a; reader = nth 0 readers (j + suc i); sess = s } in
-    let rest : indexes l (map (from a) (to_readers readers (batches_from (j + 1) items subs))) ≡ given_index (link_of sub) s =
+    let rest : indexes l (map (from a) (to_readers readers (batches_from (j + 1) items subs))) ≡ given_index (tally_of sub) s =
     rw next (given-indexed readers a (j + 1) i s items subs sub distinct (omega (arith, few)) e) in
     let within = slice_get_within subs i sub e in
     let other : (nth 0 readers j == nth 0 readers (j + suc i)) ≡ false = apart within (nth 0 readers j == nth 0 readers (j + suc i)) refl in
     let mine : (a == a) ≡ true = eq-test a a refl in
-    elim (link_of x) as (λ o. indexes l (map (from a) (to_readers readers (elim o [ None ↦ batches_from (j + 1) items subs | Some v ↦ (j, message.Batch v.0 v.1 items) ∷ batches_from (j + 1) items subs ]))) ≡ given_index (link_of sub) s) [
+    elim (tally_of x) as (λ o. indexes l (map (from a) (to_readers readers (elim o [ None ↦ batches_from (j + 1) items subs | Some v ↦ (j, message.Batch v.0 v.1 items) ∷ batches_from (j + 1) items subs ]))) ≡ given_index (tally_of sub) s) [
       | None ↦ rest
       | Some v ↦ skip-other l a (mail (nth 0 readers j) (message.Batch v.0 v.1 items)) (map (from a) (to_readers readers (batches_from (j + 1) items subs))) (and-false (a == a) (nth 0 readers j == nth 0 readers (j + suc i)) other) ∙ rest
     ]
@@ -374,7 +374,7 @@ sends-given readers a k s opens (i ∷ items) subs distinct same low =
     let zero_on : 0 + k ≡ k = omega arith in
     let sub = nth no_session subs k in
     let there = get-nth subs k (omega (arith, same, low)) in
-    let given : indexes (record { sender = a; reader = nth 0 readers k; sess = s }) (map (from a) (to_readers readers (batches_from 0 (i ∷ items) subs))) ≡ given_index (link_of sub) s =
+    let given : indexes (record { sender = a; reader = nth 0 readers k; sess = s }) (map (from a) (to_readers readers (batches_from 0 (i ∷ items) subs))) ≡ given_index (tally_of sub) s =
     rw zero_on at (given-indexed readers a 0 k s (i ∷ items) subs sub distinct (omega (arith, same)) there) in
     subst (λ (z : List ℕ). SendsOn s opens sub (nth no_session (map with_batch subs) k) z) (sym given)
-    (subst (λ (z : Sub). SendsOn s opens sub z (given_index (link_of sub) s)) (sym (nth-map with_batch subs k refl)) (sends-counted s opens sub))
+    (subst (λ (z : Sub). SendsOn s opens sub z (given_index (tally_of sub) s)) (sym (nth-map with_batch subs k refl)) (sends-counted s opens sub))

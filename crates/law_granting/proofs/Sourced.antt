@@ -6,7 +6,7 @@ use Rattle.dpc_lists.specs.Lists.{nth, changed, range_with_len, place_of}
 use Rattle.dpc_model.specs.Inlets.{same_sess}
 use Rattle.dpc_model.specs.Actors.{role_of}
 use Rattle.dpc_model.specs.declared.actors.Role.TheVariants.{Source as IsSource, Node as IsNode, Client as IsClient}
-use Rattle.dpc_model.specs.Sessions.{no_session, link_of, with_batch, with_batches, answer_to, given_items}
+use Rattle.dpc_model.specs.Sessions.{no_session, tally_of, with_batch, with_batches, answer_to, given_items}
 use Rattle.dpc_model.specs.declared.sessions.Sub.{Sub}
 use Rattle.dpc_model.specs.declared.messages.Event.{Event}
 use Rattle.dpc_model.specs.declared.tuples.Item.{Item}
@@ -131,7 +131,7 @@ module _ (plan : Plan) (u a k : ℕ) (s : Sess) (opens : Bool) (low : k < length
   delivered-on sender (Plain (message.SnapAsk i n)) x told many = quiet x (record { after = x; sends = [] }) many refl tt
   delivered-on sender (SnapFor i try snap) x told many = quiet x (record { after = x; sends = [] }) many refl tt
 
-  beats-none : (ids : List ℕ) (subs : List Sub) → Each IsNoBatch (map (λ (y : ℕ × Sub). mail y.0 (source_beat (link_of y.1))) (zip ids subs))
+  beats-none : (ids : List ℕ) (subs : List Sub) → Each IsNoBatch (map (λ (y : ℕ × Sub). mail y.0 (source_beat (tally_of y.1))) (zip ids subs))
   beats-none [] [] = tt
   beats-none [] (sub ∷ subs) = tt
   beats-none (b ∷ ids) [] = tt

@@ -4,7 +4,7 @@ use Rattle.std.specs.Prelude.{IfSome}
 use Rattle.std.proofs.lemmas.Grind.{common_steps}
 use Rattle.std.proofs.lemmas.Option.{slice_get_within}
 use Rattle.dpc_lists.specs.Lists.{nth, changed}
-use Rattle.dpc_model.specs.Replicas.{is_silent}
+use Rattle.dpc_model.specs.Replicas.{is_absent}
 use Rattle.dpc_model.specs.Granting.{Key, key_le}
 use Rattle.dpc_model.specs.Actors.{role_of, are_peers, replicas_of}
 use Rattle.dpc_model.specs.declared.actors.Role.{Role}
@@ -25,10 +25,10 @@ use Rattle.law_safety.proofs.Delivered.{place-nth}
 use Rattle.law_safety.proofs.Happening.{IsFine, happens-next}
 use Rattle.law_safety.proofs.Law.{new_world-fine, run-fine}
 use Rattle.law_granting.specs.Asking.{reconciles, IsOver}
-use Rattle.law_granting.specs.Meanwhile.{role_finds, finds_silent, NeverFindsSilent, SendsGrant, IsUpIn, HasOpenAsk, ServesMeanwhile}
+use Rattle.law_granting.specs.Meanwhile.{role_finds, finds_absent, NeverFindsAbsent, SendsGrant, IsUpIn, HasOpenAsk, ServesMeanwhile}
 use Rattle.law_granting.proofs.Each.{Each}
 use Rattle.law_granting.proofs.Keys.{key-trans, IsAskStep}
-use Rattle.law_granting.proofs.Saying.{Says, PacketSays, Hears, Asks, Ends, Never, FoundSilent, own-delivered, own-milled, own-ticked}
+use Rattle.law_granting.proofs.Saying.{Says, PacketSays, Hears, Asks, Ends, Never, FoundAbsent, own-delivered, own-milled, own-ticked}
 use Rattle.law_safety.proofs.EventCases.{AreCases, by-event}
 use Rattle.law_safety.proofs.Promises.{slot-here}
 use Rattle.law_granting.proofs.Slots.{slot-there, got-sent}
@@ -215,7 +215,7 @@ beat-early w a key more k m up last inc less told one two =
               | false ↦ λ u v. absurd (e (eq-of x.0 y.0 (both (x.0 == y.0) (nat_le x.1 y.1) v).0))
             ]) refl d
 
-stands-cases : (w : World) (most a b f ra rb i : ℕ) (key : Key) → IsFine w most → IsAskingWorld w → Stands w a b f ra rb i key → AreCases w (λ e next. finds_silent b a w e ≡ false → Stands next a b f ra rb i key)
+stands-cases : (w : World) (most a b f ra rb i : ℕ) (key : Key) → IsFine w most → IsAskingWorld w → Stands w a b f ra rb i key → AreCases w (λ e next. finds_absent b a w e ≡ false → Stands next a b f ra rb i key)
 stands-cases w most a b f ra rb i key fine asking h =
     record {
       still = λ e calm. h;
@@ -237,7 +237,7 @@ stands-cases w most a b f ra rb i key fine asking h =
           heard k p q e there whole pending r more number most ends);
       node_ticked = λ x now p q n role up clock calm.
           let home = home_of w.plan (p, q) in
-          stepped x p q n (tick_step home now n) Never Never (FoundSilent now n) role up (own-ticked home now n).grants
+          stepped x p q n (tick_step home now n) Never Never (FoundAbsent now n) role up (own-ticked home now n).grants
           (λ same pending r more number most found. silent x now n same up clock calm r number found);
       node_milled = λ x r p q n role up can calm.
           let home = home_of w.plan (p, q) in
@@ -264,7 +264,7 @@ stands-cases w most a b f ra rb i key fine asking h =
         beat-early w a key more ends.0 pending.node pending.up (asking.nodes a f ra pending.node h.role_a pending.up).inc pending.inc pending.going_on told most ends.2
 
     silent : (x now : ℕ) (n : PlainNode) → b ≡ x → (slot_of w x).node ≡ Some n → is_clock n.clock now ≡ true → (x == b && role_finds w b a now (role_of w.plan b)) ≡ false → (r : ℕ) → replica_number (home_of w.plan (f, rb)) a ≡ Some r →
-        nth false (map is_silent (after_clock now n).peers) r ≡ true → ⊥
+        nth false (map is_absent (after_clock now n).peers) r ≡ true → ⊥
     silent x now n same up clock calm r number found =
         let it : (x == b) ≡ true = eq-test x b (sym same) in
         let here : (slot_of w b).node ≡ Some n = ap (λ (y : ℕ). (slot_of w y).node) same ∙ up in
@@ -274,11 +274,11 @@ stands-cases w most a b f ra rb i key fine asking h =
 
 -- ---- a run
 
-stands-run : (w : World) (most : ℕ) (events : List Event) (a b f ra rb i : ℕ) (key : Key) → IsFine w most → IsAskingWorld w → Stands w a b f ra rb i key → NeverFindsSilent b a w events → Stands (run_from w events) a b f ra rb i key
+stands-run : (w : World) (most : ℕ) (events : List Event) (a b f ra rb i : ℕ) (key : Key) → IsFine w most → IsAskingWorld w → Stands w a b f ra rb i key → NeverFindsAbsent b a w events → Stands (run_from w events) a b f ra rb i key
 stands-run w most [] a b f ra rb i key fine asking h calm = h
 stands-run w most (e ∷ events) a b f ra rb i key fine asking h calm =
     stands-run (happens w e) (most + 1) events a b f ra rb i key (happens-next w most e fine).fine (event-asking w most e fine asking)
-    (by-event w (λ e next. finds_silent b a w e ≡ false → Stands next a b f ra rb i key) (stands-cases w most a b f ra rb i key fine asking h) e calm.0) calm.1
+    (by-event w (λ e next. finds_absent b a w e ≡ false → Stands next a b f ra rb i key) (stands-cases w most a b f ra rb i key fine asking h) e calm.0) calm.1
 
 -- where the granter holds its promise, it does not reconcile
 stands-serves : (w : World) (a b f ra rb i : ℕ) (key : Key) → IsAskingWorld w → Stands w a b f ra rb i key → HasOpenAsk w a key → (n : PlainNode) → (slot_of w b).node ≡ Some n → n.grants.inc ≡ i → reconciles n ≡ false

@@ -2,7 +2,7 @@
 use Rattle.std.specs.Prelude.{◌≡◌, ℕ, ◌<◌, ◌≤◌, Bool, false, ◌&&◌, ◌==◌, List, ◌∷◌, ◌++◌, map, length, Option, Some, None, slice_get}
 use Rattle.dpc_lists.specs.Lists.{nth}
 use Rattle.dpc_model.specs.Granting.{Key}
-use Rattle.dpc_model.specs.Replicas.{is_silent}
+use Rattle.dpc_model.specs.Replicas.{is_absent}
 use Rattle.dpc_model.specs.Actors.{role_of}
 use Rattle.dpc_model.specs.declared.actors.Role.{Role}
 use Rattle.dpc_model.specs.declared.actors.Role.TheVariants.{Source as IsSource, Node as IsNode, Client as IsClient, Nobody}
@@ -22,7 +22,7 @@ use Rattle.law_granting.specs.Asking.{reconciles}
 -- a tick at this clock finds a replica silent
 abbrev pub finds_replica : ℕ → PlainNode → Option ℕ → Bool
 finds_replica now n None = false
-finds_replica now n (Some q) = nth false (map is_silent (after_clock now n).peers) q
+finds_replica now n (Some q) = nth false (map is_absent (after_clock now n).peers) q
 
 abbrev pub node_finds : Home → ℕ → ℕ → Option PlainNode → Bool
 node_finds home a now None = false
@@ -35,20 +35,20 @@ role_finds w b a now (IsClient c) = false
 role_finds w b a now Nobody = false
 
 -- the event is a tick of b that finds a silent
-abbrev pub finds_silent : ℕ → ℕ → World → Event → Bool
-finds_silent b a w (Tick x now) = x == b && role_finds w b a now (role_of w.plan b)
-finds_silent b a w (Phase p) = false
-finds_silent b a w (Emit s t) = false
-finds_silent b a w (Release s t) = false
-finds_silent b a w (Cut x y) = false
-finds_silent b a w (Heal x y) = false
-finds_silent b a w (Crash x) = false
-finds_silent b a w (Restart x i) = false
-finds_silent b a w (Deliver k) = false
-finds_silent b a w (Mill x r) = false
+abbrev pub finds_absent : ℕ → ℕ → World → Event → Bool
+finds_absent b a w (Tick x now) = x == b && role_finds w b a now (role_of w.plan b)
+finds_absent b a w (Phase p) = false
+finds_absent b a w (Emit s t) = false
+finds_absent b a w (Release s t) = false
+finds_absent b a w (Cut x y) = false
+finds_absent b a w (Heal x y) = false
+finds_absent b a w (Crash x) = false
+finds_absent b a w (Restart x i) = false
+finds_absent b a w (Deliver k) = false
+finds_absent b a w (Mill x r) = false
 
-abbrev pub NeverFindsSilent : ℕ → ℕ → World → List Event → Type 0
-NeverFindsSilent b a w events = EachStep (λ w e. finds_silent b a w e ≡ false) w events
+abbrev pub NeverFindsAbsent : ℕ → ℕ → World → List Event → Type 0
+NeverFindsAbsent b a w events = EachStep (λ w e. finds_absent b a w e ≡ false) w events
 
 -- ---- history
 
@@ -75,5 +75,5 @@ pub record HasOpenAsk (w : World) (a : ℕ) (key : Key) : Type 0 where
 abbrev pub ServesMeanwhile : Plan → Type 0
 ServesMeanwhile plan =
     (before later : List Event) (e : Event) (k a b i : ℕ) (key : Key) → let old = run plan before in let granted = happens old e in let now = run plan (before ++ (e ∷ later)) in
-    SendsGrant old e k a b key → IsUpIn granted b i → NeverFindsSilent b a granted later → HasOpenAsk now a key →
+    SendsGrant old e k a b key → IsUpIn granted b i → NeverFindsAbsent b a granted later → HasOpenAsk now a key →
     (n : PlainNode) → (slot_of now b).node ≡ Some n → n.grants.inc ≡ i → reconciles n ≡ false

@@ -19,7 +19,7 @@ use Rattle.dpc_model.specs.declared.scripts.Script.{Script}
 use Rattle.node_model.specs.Nodes.{PlainNode, streams_of}
 use Rattle.world_model.specs.Orderly.{is_port_sound, are_ports_sound}
 use Rattle.world_model.specs.Worlds.{World, home_of, slot_of, client_at, happens, run_from, run, new_world}
-use Rattle.world_model.specs.Schedules.{Progress, first_progress, next_progress, progress, is_live, lock_of}
+use Rattle.world_model.specs.Schedules.{Progress, first_progress, next_progress, progress, is_live, lockstep_journal}
 use Rattle.world_model.specs.Steady.{NoneThree, IsHeardAt, AreHeard, HeardBy, TickIsHeard, phase_at, patience, SteadyFrom, IsSteady, OpensWell}
 use Rattle.law_safety.proofs.Tests.{both}
 use Rattle.law_safety.proofs.Happening.{node-here}
@@ -158,5 +158,5 @@ tidy-steady script events can live tidy well calm =
     let world : (progress script done).world ≡ run_from (new_world script.plan) done = progress-run script done in
     subst (λ (w : World). TickIsHeard (happens w e) e) world (event-heard script events can live tidy well calm done rest e is (subst (λ (n : ℕ). length script.phases + patience < phase_at n e) (sym phase) far)))
 
-pub lock-steady : (script : Script) → CanSettle script → OpensWell script (lock_of script) → IsCalm script (lock_of script) → IsSteady script (lock_of script)
-lock-steady script can well calm = tidy-steady script (lock_of script) can (lock-live script) (lock-tidy script) well calm
+pub lock-steady : (script : Script) → CanSettle script → OpensWell script (lockstep_journal script) → IsCalm script (lockstep_journal script) → IsSteady script (lockstep_journal script)
+lock-steady script can well calm = tidy-steady script (lockstep_journal script) can (lock-live script) (lock-tidy script) well calm

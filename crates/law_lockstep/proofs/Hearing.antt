@@ -5,7 +5,7 @@ use Rattle.dpc_lists.specs.Lists.{nth, changed}
 use Rattle.dpc_model.specs.Actors.{role_of, inputs_of}
 use Rattle.dpc_model.specs.Ports.{Port, sender_at, without_ended_marks}
 use Rattle.dpc_model.specs.Replicas.{Watch, after_beat, after_count}
-use Rattle.dpc_model.specs.Sessions.{link_of, no_session}
+use Rattle.dpc_model.specs.Sessions.{tally_of, no_session}
 use Rattle.dpc_model.specs.declared.actors.Role.TheVariants.{Node as IsNode}
 use Rattle.dpc_model.specs.declared.messages.Beat.{Beat}
 use Rattle.dpc_model.specs.declared.messages.Event.{Event}
@@ -129,7 +129,7 @@ module _ (script : Script) (x p f k i : ℕ) (low : i < replicas_in script.plan 
       let subs : length t.after.subs ≡ length (own_readers home) = shape.subs ∙ ap (λ (pl : Plan). length (own_readers (home_of pl (f, it.number)))) plans in
       let line = goes.here.line in
       let placed = line.low in
-      let beat : Beat = record { inc = t.after.grants.inc; state = t.after.state; recovering = t.after.recovering; over = t.after.grants.over; link = link_of (nth no_session t.after.subs k) } in
+      let beat : Beat = record { inc = t.after.grants.inc; state = t.after.state; recovering = t.after.recovering; over = t.after.grants.over; tally = tally_of (nth no_session t.after.subs k) } in
       let place = sent-place Rep w.envelopes (mail x (message.Beat beat)) t.sends (tick-tells home x k line.back placed now it.node (omega (arith, subs, placed))) in
       let sent : slice_get (happens w (Tick Rep now)).envelopes place.0 ≡ Some (from Rep (mail x (message.Beat beat))) = ap (λ (v : World). slice_get v.envelopes place.0) event ∙ place.1 in (
         place.0,

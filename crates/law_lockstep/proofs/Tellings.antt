@@ -2,7 +2,7 @@
 use Rattle.std.proofs.Common.{◌≡◌, ℕ, ◌<◌, true, false, cond, not, ◌++◌, map, length, subst, None}
 use Rattle.std.specs.Prelude.{zip}
 use Rattle.dpc_lists.specs.Lists.{nth}
-use Rattle.dpc_model.specs.Sessions.{link_of, no_session}
+use Rattle.dpc_model.specs.Sessions.{tally_of, no_session}
 use Rattle.dpc_model.specs.declared.sessions.Sub.{Sub}
 use Rattle.node_model.specs.Mails.{mail, in_actor_order, to_each, Stepped}
 use Rattle.node_model.specs.Nodes.{Home, PlainNode, streams_of, own_readers}
@@ -13,14 +13,14 @@ use Rattle.law_settling_readers.proofs.Telling.{in-zip}
 module _ (home : Home) where
   -- the beat for reader k, which is actor b, says this node's incarnation
   abbrev pub Told : ℕ → ℕ → Stepped PlainNode → Type 0
-  Told b k t = k < length t.after.subs → IsIn (mail b (beat_of t.after (link_of (nth no_session t.after.subs k)))) t.sends
+  Told b k t = k < length t.after.subs → IsIn (mail b (beat_of t.after (tally_of (nth no_session t.after.subs k)))) t.sends
 
   module _ (b k : ℕ) (back : nth 0 (own_readers home) k ≡ b) (low : k < length (own_readers home)) where
     announced : (m : PlainNode) → Told b k (announcing_step home m)
     announced m few =
         in-right _ (in_actor_order (acks_from home m m.ports (streams_of home))) (in_actor_order (beats home m))
-        (in-sorted _ (beats home m) (in-right _ (to_each (beat_of m None) (peers_of home)) (map (λ (x : ℕ × Sub). mail x.0 (beat_of m (link_of x.1))) (zip (own_readers home) m.subs))
-        (subst (λ (c : ℕ). IsIn (mail c (beat_of m (link_of (nth no_session m.subs k)))) (map (λ (x : ℕ × Sub). mail x.0 (beat_of m (link_of x.1))) (zip (own_readers home) m.subs))) back (in-zip home m (own_readers home) m.subs k low few))))
+        (in-sorted _ (beats home m) (in-right _ (to_each (beat_of m None) (peers_of home)) (map (λ (x : ℕ × Sub). mail x.0 (beat_of m (tally_of x.1))) (zip (own_readers home) m.subs))
+        (subst (λ (c : ℕ). IsIn (mail c (beat_of m (tally_of (nth no_session m.subs k)))) (map (λ (x : ℕ × Sub). mail x.0 (beat_of m (tally_of x.1))) (zip (own_readers home) m.subs))) back (in-zip home m (own_readers home) m.subs k low few))))
 
     served : (m : PlainNode) → Told b k (serving_step home m)
     served m few =

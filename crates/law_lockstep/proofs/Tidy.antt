@@ -13,7 +13,7 @@ use Rattle.dpc_model.specs.declared.scripts.Directive.TheVariants as directive
 use Rattle.dpc_model.specs.declared.scripts.Phase.{Phase as PhaseSpec}
 use Rattle.dpc_model.specs.declared.scripts.Script.{Script}
 use Rattle.world_model.specs.Worlds.{slot_of, ready_at, is_up, new_world, all_settled}
-use Rattle.world_model.specs.Schedules.{Told, tell, tell_all, tell_directive, mill_events, deliveries_of, actors_of, tell_phase, tell_phases, tell_quiet, last_clock, quiet_limit, lockstep, lock_of}
+use Rattle.world_model.specs.Schedules.{Told, tell, tell_all, tell_directive, mill_events, deliveries_of, actors_of, tell_phase, tell_phases, tell_quiet, last_clock, quiet_limit, lockstep, lockstep_journal}
 use Rattle.law_safety.proofs.Tests.{both, both-of, all-append}
 use Rattle.law_schedules.proofs.Doing.{tell-append}
 
@@ -180,6 +180,6 @@ told-tidy script =
       | false ↦ all
     ]
 
-pub lock-tidy : (script : Script) → is_tidy false (lock_of script) ≡ true
-unfolding lock_of
+pub lock-tidy : (script : Script) → is_tidy false (lockstep_journal script) ≡ true
+unfolding lockstep_journal
 lock-tidy script = told-tidy script

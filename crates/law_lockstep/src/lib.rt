@@ -2,13 +2,13 @@
 #![tactic(auto)]
 
 ghost use Rattle.dpc_model.specs.declared.scripts.Script.{Script};
-ghost use Rattle.world_model.specs.Schedules.{lock_of};
+ghost use Rattle.world_model.specs.Schedules.{lockstep_journal};
 ghost use Rattle.world_model.specs.Steady.{IsSteady, OpensWell};
 ghost use Rattle.law_readers.specs.Settling.{CanSettle};
 ghost use Rattle.law_lockstep.specs.Calm.{IsCalm};
 
 /// So where its quiet phases open well and past the first 38 of them no node recovers, no reader misses three beats in a row of one of
 /// several replicas either: it is steady.
-pub fn a_calm_lock_is_steady()
-    ensures { (script : Script) → CanSettle script → OpensWell script (lock_of script) → IsCalm script (lock_of script) → IsSteady script (lock_of script) }
+pub fn a_calm_lockstep_journal_is_steady()
+    ensures { (script : Script) → CanSettle script → OpensWell script (lockstep_journal script) → IsCalm script (lockstep_journal script) → IsSteady script (lockstep_journal script) }
 {}

@@ -10,9 +10,9 @@ use Rattle.dpc_model.specs.Parts.{Inputs, stream_by, bucket_held}
 use Rattle.dpc_model.specs.declared.tuples.Tagged.{Tagged}
 use Rattle.sunion.specs.Unions.{held_in, complete_upto_in, after_advancing}
 use Rattle.law_buckets.specs.Series.{buckets_from, after_closing_all}
-use Rattle.node_model.specs.Nodes.{Home, spec_of, PlainNode, bucket_of, complete_upto, complete_buckets, held_by, out_bound, view_cursor}
+use Rattle.node_model.specs.Nodes.{Home, spec_of, PlainNode, bucket_of, complete_upto, complete_buckets, held_by, out_bound, node_frontier}
 use Rattle.node_model.specs.NodeSteps.{after_stable_buckets, given_stable, given_by, after_buckets, count_upto, stably}
-use Rattle.node_model.specs.Views.{inputs_of}
+use Rattle.node_model.specs.NodeParts.{inputs_of}
 use Rattle.pipeline.specs.Flowing.{given_between, after_processing, stably_upto}
 use Rattle.law_node.proofs.Viewed.{held-is, made_of, stable-is, tentative-is}
 
@@ -65,7 +65,7 @@ processed-inputs home last n =
     let count = count_upto last n in
     let r = stably home n count in
     let m = after_stable_buckets home r n in
-    ap (λ (bs : List (List Tagged)). record (inputs_of m) { closed = n.closed ++ bs }) (buckets-are home m (view_cursor m) (count - r))
+    ap (λ (bs : List (List Tagged)). record (inputs_of m) { closed = n.closed ++ bs }) (buckets-are home m (node_frontier m) (count - r))
     ∙ ap (λ (k : ℕ). after_closing_all home.plan.width (count - k) (after_advancing k (inputs_of n))) (stably-is home last n)
 
 pub made-alike : (home : Home) (n : PlainNode) (x : Inputs) → inputs_of n ≡ x → made_of home n ≡ stream_by (fragment_value (spec_of home).ops) home.plan.width home.plan.passing x

@@ -15,13 +15,13 @@ use Rattle.dpc_model.specs.declared.tuples.Item.TheVariants.{Undo}
 use Rattle.dpc_model.specs.NodeStates.{is_stabilization}
 use Rattle.dpc_model.specs.Ports.{Port, must_reopen, without_ended_marks, port_after_tick, port_after_choice}
 use Rattle.dpc_model.specs.Parts.{Inputs}
-use Rattle.dpc_model.specs.Replicas.{is_silent}
+use Rattle.dpc_model.specs.Replicas.{is_absent}
 use Rattle.dpc_model.specs.declared.tuples.Tuple.{Tuple}
 use Rattle.law_buckets.specs.Series.{AreReady}
 use Rattle.node_model.specs.Mails.{Stepped}
-use Rattle.node_model.specs.Nodes.{Home, out_stable, buckets_of, PlainNode, complete_buckets, ready, due_at, due_view, wants_to_reconcile}
-use Rattle.node_model.specs.NodeSteps.{with_marks_ended, with_port, after_clock, with_fresh_start, choice_step, enter_step, ask_step, processing_upto, processing_step, silent_step, count_upto, stably, after_buckets, given_by, peer_watches}
-use Rattle.node_model.specs.Views.{inputs_of}
+use Rattle.node_model.specs.Nodes.{Home, out_stable, buckets_of, PlainNode, complete_buckets, ready, due_at, due_inputs, wants_to_reconcile}
+use Rattle.node_model.specs.NodeSteps.{with_marks_ended, with_port, after_clock, with_fresh_start, choice_step, enter_step, ask_step, processing_upto, processing_step, idle_step, count_upto, stably, after_buckets, given_by, peer_watches}
+use Rattle.node_model.specs.NodeParts.{inputs_of}
 use Rattle.law_node.specs.Fitting.{AreFitInputs, IsFit}
 use Rattle.law_node.proofs.Viewed.{inlets, same-inlets}
 use Rattle.law_node.proofs.Messages.{marks-inputs}
@@ -53,7 +53,7 @@ fit-alike w buckets end x is same fit =
       reached = held-alike (λ (r : Reader). x.cursor * w ≤ r.bound) x.inlets is same fit.reached;
       within = held-alike (λ (r : Reader). r.bound ≤ end) x.inlets is same fit.within;
       placed = fit.placed;
-      view = fit.view;
+      frontier = fit.frontier;
     }
 
 -- ---- marks, the clock, a fresh start
@@ -135,10 +135,10 @@ unfolding enter_step
 fit-enter home p fit =
     let x = inputs_of p in
     let f = fit.inputs in
-    let view = f.view in
+    let frontier = f.frontier in
     record {
       end = fit.end;
-      inputs = record { ordered = f.ordered; past = f.past; reached = f.reached; within = f.within; placed = tt; view = omega (arith, view) };
+      inputs = record { ordered = f.ordered; past = f.past; reached = f.reached; within = f.within; placed = tt; frontier = omega (arith, frontier) };
       ports = fit.ports;
       readers = given-many (Undo (length (out_stable home p)) ∷ []) p.subs ∙ fit.readers;
       silent = fit.silent;
@@ -152,7 +152,7 @@ fit-either home false b s t u h i j = j
 
 pub fit-ask : (home : Home) (p : PlainNode) → IsFit home p → IsFit home (ask_step home p).after
 fit-ask home p fit =
-    fit-either home (wants_to_reconcile home p && is_none p.grants.promise) (list_all is_silent (peer_watches home p)) (enter_step home p) _ (silent_step p) (fit-enter home p fit)
+    fit-either home (wants_to_reconcile home p && is_none p.grants.promise) (list_all is_absent (peer_watches home p)) (enter_step home p) _ (idle_step p) (fit-enter home p fit)
     (record { end = fit.end; inputs = fit.inputs; ports = fit.ports; readers = fit.readers; silent = fit.silent }) fit
 
 -- ---- processing
@@ -175,7 +175,7 @@ fit-upto home last p pos due fit =
     let count = count_upto last p in
     let r = stably home p count in
     let items = given_items (length (out_stable home p)) (given_by home p (after_buckets home r count p) (nat_lt 0 r) (nat_lt r count)) in
-    let lies = due-lies (due_view home p) p.clock (buckets_of home.plan) last due in
+    let lies = due-lies (due_inputs home p) p.clock (buckets_of home.plan) last due in
     record {
       end = fit.end;
       inputs = subst (λ (x : Inputs). AreFitInputs home.plan.width (buckets_of home.plan) home.plan.end x) (sym (processed-inputs home last p))
@@ -187,10 +187,10 @@ fit-upto home last p pos due fit =
 
 pub fit-process : (home : Home) (p : PlainNode) → 0 < home.plan.width → IsFit home p → IsFit home (processing_step home p).after
 fit-process home p pos fit =
-    (elim (is_stabilization p.state) as (λ (b : Bool). IsFit home (if b then silent_step p else elim (due_at home p p.clock) as (λ _. Stepped PlainNode) [ None ↦ silent_step p | Some last ↦ processing_upto home last p ]).after) [
+    (elim (is_stabilization p.state) as (λ (b : Bool). IsFit home (if b then idle_step p else elim (due_at home p p.clock) as (λ _. Stepped PlainNode) [ None ↦ idle_step p | Some last ↦ processing_upto home last p ]).after) [
       | true ↦ fit
       | false ↦ (elim (due_at home p p.clock) as (λ (o : Option ℕ). due_at home p p.clock ≡ o →
-          IsFit home (elim o as (λ _. Stepped PlainNode) [ None ↦ silent_step p | Some last ↦ processing_upto home last p ]).after) [
+          IsFit home (elim o as (λ _. Stepped PlainNode) [ None ↦ idle_step p | Some last ↦ processing_upto home last p ]).after) [
             | None ↦ λ e. fit
             | Some last ↦ λ e. fit-upto home last p pos e fit
           ]) refl

@@ -9,9 +9,9 @@ use Rattle.std.specs.List.{AllByRecursion}
 use Rattle.std.specs.Prelude.{if◌then◌else◌}
 use Rattle.dpc_lists.specs.Lists.{is_nil, least, last_below, list_all}
 use Rattle.dpc_model.specs.Reading.{Reader}
-use Rattle.dpc_model.specs.Due.{DueView, reach, stamp_of, waited_long, is_complete, is_overdue, is_passed, last_due}
+use Rattle.dpc_model.specs.Due.{DueInputs, reach, stamp_of, waited_long, is_complete, is_overdue, is_reached, last_due}
 use Rattle.dpc_model.specs.Inlets.{InletState}
-use Rattle.dpc_model.specs.Parts.{Inputs, view_of}
+use Rattle.dpc_model.specs.Parts.{Inputs, frontier_of}
 use Rattle.dpc_model.specs.declared.tuples.Tagged.{Tagged}
 use Rattle.checkpoint_redo.specs.Keeping.{AcceptsAll}
 use Rattle.sunion.specs.Unions.{held_in, complete_upto_in, after_advancing}
@@ -73,7 +73,7 @@ fit-advanced w buckets end count x pos many fit none complete =
       reached = complete-reached w (x.cursor + count) x pos complete;
       within = fit.within;
       placed = subst (λ (bs : List (List Tagged)). AcceptsAll (Some w) (x.cursor + count) bs) (sym none) tt;
-      view = omega (arith, low, many, no_more);
+      frontier = omega (arith, low, many, no_more);
     }
 
 -- ---- buckets up to a last one
@@ -111,9 +111,9 @@ few-stably : (w last : ℕ) (x : Inputs) → stably_upto w last x ≤ count_upto
 few-stably w last x = let most = (if is_nil x.closed then complete_upto_in w x - x.cursor else 0) in grind (arith, common_steps)
 
 -- behind all of them the view stands behind the last one
-view-behind : (w last : ℕ) (x : Inputs) → view_of x ≤ last →
+view-behind : (w last : ℕ) (x : Inputs) → frontier_of x ≤ last →
     x.cursor + stably_upto w last x + length x.closed + (count_upto last x - stably_upto w last x) ≡ last + 1
-view-behind w last x view = let few = few-stably w last x in omega (arith, few, view)
+view-behind w last x frontier = let few = few-stably w last x in omega (arith, few, frontier)
 
 placed-behind : (w last buckets end : ℕ) (x : Inputs) → AreFitInputs w buckets end x → AcceptsAll (Some w) (x.cursor + stably_upto w last x) x.closed
 placed-behind w last buckets end x fit =
@@ -123,11 +123,11 @@ placed-behind w last buckets end x fit =
     ])
 
 -- so many buckets can be closed behind those that are processed stably
-pub can-close : (w buckets end last : ℕ) (x : Inputs) → buckets ≡ end / w → end < 2 ^ 63 → AreFitInputs w buckets end x → view_of x ≤ last → last < buckets →
+pub can-close : (w buckets end last : ℕ) (x : Inputs) → buckets ≡ end / w → end < 2 ^ 63 → AreFitInputs w buckets end x → frontier_of x ≤ last → last < buckets →
     CanClose w (after_advancing (stably_upto w last x) x) (count_upto last x - stably_upto w last x)
-can-close w buckets end last x many low fit view below =
+can-close w buckets end last x many low fit frontier below =
     let ends = closing-ends w buckets end last many below in
-    let behind : (view_of (after_advancing (stably_upto w last x) x) + (count_upto last x - stably_upto w last x)) * w ≡ (last + 1) * w = ap (λ (k : ℕ). k * w) (view-behind w last x view) in
+    let behind : (frontier_of (after_advancing (stably_upto w last x) x) + (count_upto last x - stably_upto w last x)) * w ≡ (last + 1) * w = ap (λ (k : ℕ). k * w) (view-behind w last x frontier) in
     record { ordered = fit.ordered; placed = placed-behind w last buckets end x fit; end = omega (arith, behind, ends, low) }
 
 -- the ones before are ready
@@ -139,22 +139,22 @@ can-advance w buckets end last x pos low fit some =
     ])
 
 -- and the inputs behind them fit
-pub fit-processed : (w buckets end last : ℕ) (x : Inputs) → 0 < w → buckets ≡ end / w → end < 2 ^ 63 → AreFitInputs w buckets end x → view_of x ≤ last → last < buckets →
+pub fit-processed : (w buckets end last : ℕ) (x : Inputs) → 0 < w → buckets ≡ end / w → end < 2 ^ 63 → AreFitInputs w buckets end x → frontier_of x ≤ last → last < buckets →
     AreFitInputs w buckets end (after_processing w last x)
-fit-processed w buckets end last x pos many low fit view below =
+fit-processed w buckets end last x pos many low fit frontier below =
     let r = stably_upto w last x in
     let y = after_advancing r x in
-    let more = buckets_from w y (view_of y) (count_upto last x - r) in
-    let closing = can-close w buckets end last x many low fit view below in
-    let count : length (x.closed ++ more) ≡ length x.closed + (count_upto last x - r) = length-append x.closed more ∙ ap (λ (k : ℕ). length x.closed + k) (count-buckets w y (view_of y) (count_upto last x - r)) in
-    let behind = view-behind w last x view in
+    let more = buckets_from w y (frontier_of y) (count_upto last x - r) in
+    let closing = can-close w buckets end last x many low fit frontier below in
+    let count : length (x.closed ++ more) ≡ length x.closed + (count_upto last x - r) = length-append x.closed more ∙ ap (λ (k : ℕ). length x.closed + k) (count-buckets w y (frontier_of y) (count_upto last x - r)) in
+    let behind = view-behind w last x frontier in
     record {
       ordered = fit.ordered;
       past = fit.past;
       reached = reached;
       within = fit.within;
-      placed = accepts-append w (x.cursor + r) x.closed more closing.placed (buckets-accepted w y (view_of y) (count_upto last x - r) closing.end);
-      view = omega (arith, count, behind, below);
+      placed = accepts-append w (x.cursor + r) x.closed more closing.placed (buckets-accepted w y (frontier_of y) (count_upto last x - r) closing.end);
+      frontier = omega (arith, count, behind, below);
     }
   where
     reached : All (λ (i : InletState). (x.cursor + stably_upto w last x) * w ≤ i.held.bound) x.inlets
@@ -182,17 +182,17 @@ none-at true waits reaches turn e = sym e
 none-at false waits reaches turn e = sym e
 
 -- it lies at or past the view, and within the run
-pub due-lies : (v : DueView) (now buckets last : ℕ) → last_due v now buckets ≡ Some last → (v.view ≤ last) × (last < buckets)
+pub due-lies : (v : DueInputs) (now buckets last : ℕ) → last_due v now buckets ≡ Some last → (v.frontier ≤ last) × (last < buckets)
 due-lies v now buckets last e =
-    let found = due-inside (λ k. is_overdue v now k || is_passed v k) buckets last e in
+    let found = due-inside (λ k. is_overdue v now k || is_reached v k) buckets last e in
     let waits = waited_long (stamp_of v.stamps last) v.delay now in
     let reaches = list_all (λ (r : Reader). nat_le ((last + 1) * v.width) (reach r)) v.ports in
     let turn = v.any_closed || not (is_complete v.width v.ports last) in
-    let view = (elim (nat_le v.view last) as (λ (b : Bool). nat_le v.view last ≡ b → (b && waits || (v.passing && b && reaches && turn)) ≡ true → v.view ≤ last) [
+    let frontier = (elim (nat_le v.frontier last) as (λ (b : Bool). nat_le v.frontier last ≡ b → (b && waits || (v.passing && b && reaches && turn)) ≡ true → v.frontier ≤ last) [
       | true ↦ λ c h. grind (arith, common_steps, c)
       | false ↦ λ c h. absurd (none-true (none-at v.passing waits reaches turn h))
     ]) refl found.1 in
-    (view, found.0)
+    (frontier, found.0)
   where
     none-true : true ≡ false → ⊥
     none-true e = cc

@@ -2,7 +2,7 @@
 use Rattle.std.proofs.Common.{◌≡◌, ℕ, zero, suc, Bool, true, false, ◌==◌, List, [], ◌∷◌, map, refl, ap, ◌∙◌, Some}
 use Rattle.std.specs.Prelude.{if◌then◌else◌}
 use Rattle.dpc_lists.specs.Lists.{nth, changed}
-use Rattle.dpc_model.specs.Inlets.{InletState, AfterBatch, after_link, with_next_session}
+use Rattle.dpc_model.specs.Inlets.{InletState, AfterBatch, after_tally, with_next_session}
 use Rattle.dpc_model.specs.Ports.{Port, no_port, on_beat, on_truncated, without_ended_marks, must_reopen, port_after_choice}
 use Rattle.dpc_model.specs.Parts.{Upstream}
 use Rattle.dpc_model.specs.declared.batches.Taken.{Taken}
@@ -15,7 +15,7 @@ use Rattle.upstream.specs.Upstreams.{with_choice}
 use Rattle.node_links.specs.Linking.{with_upstream}
 use Rattle.node_model.specs.Nodes.{Home, PlainNode}
 use Rattle.node_model.specs.NodeSteps.{with_port, with_marks_ended, after_taking, on_upstream_beat}
-use Rattle.node_model.specs.Views.{inputs_of, upstream_of, neighbours_of}
+use Rattle.node_model.specs.NodeParts.{inputs_of, upstream_of, neighbours_of}
 use Rattle.law_node.proofs.Viewed.{inlets, same-inlets, same-inlet, changed-inlets}
 
 -- ---- lists
@@ -62,29 +62,29 @@ taking-neighbours home p t n =
 -- ---- beats
 
 beat-inlets : (r : ℕ) (b : Beat) (i : ℕ) (ports : List Port) →
-    inlets (changed i (on_beat r b) ports) ≡ (if r == (nth no_port ports i).chosen then changed i (λ (x : InletState). after_link x b.link) (inlets ports) else inlets ports)
+    inlets (changed i (on_beat r b) ports) ≡ (if r == (nth no_port ports i).chosen then changed i (λ (x : InletState). after_tally x b.tally) (inlets ports) else inlets ports)
 beat-inlets r b i [] =
     let none : List InletState = [] in (elim (r == no_port.chosen) as (λ (c : Bool). none ≡ (if c then none else none)) [ true ↦ refl | false ↦ refl ])
 beat-inlets r b zero (p ∷ ports) =
-    (elim (r == p.chosen) as (λ (c : Bool). (if c then after_link p.inlet b.link else p.inlet) ∷ inlets ports ≡ (if c then after_link p.inlet b.link ∷ inlets ports else p.inlet ∷ inlets ports)) [
+    (elim (r == p.chosen) as (λ (c : Bool). (if c then after_tally p.inlet b.tally else p.inlet) ∷ inlets ports ≡ (if c then after_tally p.inlet b.tally ∷ inlets ports else p.inlet ∷ inlets ports)) [
       | true ↦ refl
       | false ↦ refl
     ])
 beat-inlets r b (suc i) (p ∷ ports) =
     let rest = beat-inlets r b i ports in
-    (elim (r == (nth no_port ports i).chosen) as (λ (c : Bool). inlets (changed i (on_beat r b) ports) ≡ (if c then changed i (λ (x : InletState). after_link x b.link) (inlets ports) else inlets ports) →
-    p.inlet ∷ inlets (changed i (on_beat r b) ports) ≡ (if c then p.inlet ∷ changed i (λ (x : InletState). after_link x b.link) (inlets ports) else p.inlet ∷ inlets ports)) [
+    (elim (r == (nth no_port ports i).chosen) as (λ (c : Bool). inlets (changed i (on_beat r b) ports) ≡ (if c then changed i (λ (x : InletState). after_tally x b.tally) (inlets ports) else inlets ports) →
+    p.inlet ∷ inlets (changed i (on_beat r b) ports) ≡ (if c then p.inlet ∷ changed i (λ (x : InletState). after_tally x b.tally) (inlets ports) else p.inlet ∷ inlets ports)) [
       | true ↦ λ h. ap (λ (is : List InletState). p.inlet ∷ is) h
       | false ↦ λ h. ap (λ (is : List InletState). p.inlet ∷ is) h
     ]) rest
 
 -- the inlet that reads the replica hears the link
 pub beat-inputs : (b : Beat) (p r : ℕ) (n : PlainNode) →
-    inputs_of (on_upstream_beat b (Some (p, r)) n) ≡ (if r == (nth no_port n.ports p).chosen then with_inlet p (λ (i : InletState). after_link i b.link) (inputs_of n) else inputs_of n)
+    inputs_of (on_upstream_beat b (Some (p, r)) n) ≡ (if r == (nth no_port n.ports p).chosen then with_inlet p (λ (i : InletState). after_tally i b.tally) (inputs_of n) else inputs_of n)
 beat-inputs b p r n =
     let same = beat-inlets r b p n.ports in
-    (elim (r == (nth no_port n.ports p).chosen) as (λ (c : Bool). inlets (changed p (on_beat r b) n.ports) ≡ (if c then changed p (λ (x : InletState). after_link x b.link) (inlets n.ports) else inlets n.ports) →
-    inputs_of (on_upstream_beat b (Some (p, r)) n) ≡ (if c then with_inlet p (λ (i : InletState). after_link i b.link) (inputs_of n) else inputs_of n)) [
+    (elim (r == (nth no_port n.ports p).chosen) as (λ (c : Bool). inlets (changed p (on_beat r b) n.ports) ≡ (if c then changed p (λ (x : InletState). after_tally x b.tally) (inlets n.ports) else inlets n.ports) →
+    inputs_of (on_upstream_beat b (Some (p, r)) n) ≡ (if c then with_inlet p (λ (i : InletState). after_tally i b.tally) (inputs_of n) else inputs_of n)) [
       | true ↦ λ h. ap (λ (is : List InletState). record (inputs_of n) { inlets = is }) h
       | false ↦ λ h. ap (λ (is : List InletState). record (inputs_of n) { inlets = is }) h
     ]) same

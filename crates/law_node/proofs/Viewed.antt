@@ -11,8 +11,8 @@ use Rattle.dpc_model.specs.Parts.{Stream, stream_by, shown_of, done_in}
 use Rattle.dpc_model.specs.NodeStates.{is_stable}
 use Rattle.dpc_model.specs.declared.tuples.Tuple.{Tuple}
 use Rattle.sunion.specs.Unions.{no_inlet}
-use Rattle.node_model.specs.Nodes.{Home, spec_of, PlainNode, inputs_done, out_stable, out_view, out_tentative, shown}
-use Rattle.node_model.specs.Views.{inputs_of, stream_of}
+use Rattle.node_model.specs.Nodes.{Home, spec_of, PlainNode, inputs_done, out_stable, out_with_closed, out_tentative, shown}
+use Rattle.node_model.specs.NodeParts.{inputs_of, stream_of}
 
 -- ---- the inlets of ports
 
@@ -72,7 +72,7 @@ unfolding out_stable
 stable-is home n = ap (λ (xs : List (List Tuple)). fragment_value (spec_of home).ops (serial xs) (n.cursor * home.plan.width)) (done-is home n)
 
 pub tentative-is : (home : Home) (n : PlainNode) → out_tentative home n ≡ (made_of home n).tentative
-unfolding out_tentative out_stable out_view
+unfolding out_tentative out_stable out_with_closed
 tentative-is home n = rw (done-is home n) refl
 
 pub stream-is : (home : Home) (n : PlainNode) → stream_of home n ≡ made_of home n

@@ -2,7 +2,7 @@
 use Rattle.std.specs.Prelude.{⊤, ◌≡◌, ℕ, ◌*◌, ◌^◌, ◌<◌, ◌≤◌, true, List, length, map, All, Some}
 use Rattle.dpc_model.specs.Streams.{InOrder}
 use Rattle.dpc_model.specs.Inlets.{InletState}
-use Rattle.dpc_model.specs.Parts.{Inputs, view_of, done_in}
+use Rattle.dpc_model.specs.Parts.{Inputs, frontier_of, done_in}
 use Rattle.dpc_model.specs.Sessions.{Acked}
 use Rattle.dpc_model.specs.declared.tuples.Tuple.{Tuple}
 use Rattle.dpc_model.specs.declared.messages.Message.{Message}
@@ -13,7 +13,7 @@ use Rattle.law_buckets.specs.Series.{ArePastBounds}
 use Rattle.node_model.specs.Mails.{Snap, Packet, Plain, SnapFor}
 use Rattle.node_model.specs.Nodes.{Home, streams_of, own_readers, buckets_of, PlainNode}
 use Rattle.node_model.specs.NodeSteps.{on_message, with_marks_ended}
-use Rattle.node_model.specs.Views.{inputs_of}
+use Rattle.node_model.specs.NodeParts.{inputs_of}
 
 -- each port's stable tuples are in order of time, its bound lies between the cursor's bucket and the end of the run, and its tentative
 -- tuples lie past it; the closed buckets stand in their places, none of them past the end
@@ -23,7 +23,7 @@ pub record AreFitInputs (width buckets end : ℕ) (x : Inputs) : Type 0 where
   pub reached : All (λ (i : InletState). x.cursor * width ≤ i.held.bound) x.inlets
   pub within : All (λ (i : InletState). i.held.bound ≤ end) x.inlets
   pub placed : AcceptsAll (Some width) x.cursor x.closed
-  pub view : view_of x ≤ buckets
+  pub frontier : frontier_of x ≤ buckets
 
 -- a node with such inputs; while it recovers nobody has acknowledged anything
 pub record IsFit (home : Home) (p : PlainNode) : Type 0 where

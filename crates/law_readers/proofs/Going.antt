@@ -138,7 +138,7 @@ module _ (home : Home) (start : List Port) where
       record {
         told = λ to m e. tt;
         snapped = λ n to i try h. tt;
-        batched = λ n k sub l items h there link. tt;
+        batched = λ n k sub l items h there tally. tt;
         counted = λ n h. h;
         shut = λ n h. h;
         emptied = λ n h. h;

@@ -3,12 +3,12 @@ use Rattle.std.proofs.Common.{◌≡◌, ℕ, zero, suc, ◌+◌, ◌-◌, ◌*�
 use Rattle.std.specs.Prelude.{is_none}
 use Rattle.dpc_lists.specs.Lists.{nth, changed, list_all}
 use Rattle.dpc_model.specs.Reading.{Folded, fold_items}
-use Rattle.dpc_model.specs.Inlets.{InletState, same_sess, AfterBatch, is_old, after_missing_batch, after_next_batch, take_batch, after_link, shows_loss}
-use Rattle.dpc_model.specs.Replicas.{is_silent}
+use Rattle.dpc_model.specs.Inlets.{InletState, same_sess, AfterBatch, is_old, after_missing_batch, after_next_batch, take_batch, after_tally, shows_loss}
+use Rattle.dpc_model.specs.Replicas.{is_absent}
 use Rattle.dpc_model.specs.Granting.{own_key, grants, with_promise, may_enter_by, with_ask}
 use Rattle.dpc_model.specs.Actors.{replicas_of}
 use Rattle.dpc_model.specs.Ports.{Port, no_port, sender_at, without_ended_marks, on_beat, on_truncated, all_truncated, port_after_tick, port_after_choice, subscriptions}
-use Rattle.dpc_model.specs.Sessions.{Acked, link_of, batches_from, with_batch, with_session_shut, given_items, after_ack, base_after}
+use Rattle.dpc_model.specs.Sessions.{Acked, tally_of, batches_from, with_batch, with_session_shut, given_items, after_ack, base_after}
 use Rattle.dpc_model.specs.declared.sessions.Sub.{Sub}
 use Rattle.dpc_model.specs.declared.batches.Taken.{Taken}
 use Rattle.dpc_model.specs.declared.batches.Taken.TheVariants.{Used, Old, Broken}
@@ -23,8 +23,8 @@ use Rattle.dpc_model.specs.declared.messages.Message.TheVariants as message
 use Rattle.dpc_model.specs.declared.messages.NodeState.TheVariants.{Stabilization}
 use Rattle.dpc_model.specs.NodeStates.{is_up_failure, is_stabilization}
 use Rattle.node_model.specs.Mails.{Snap, Packet, Plain, SnapFor, Mail, mail, mails, in_actor_order, to_each, to_readers, Stepped}
-use Rattle.node_model.specs.Nodes.{Home, PlainNode, streams_of, own_readers, view_cursor, out_stable, complete_buckets, ready, due_at, wants_to_reconcile}
-use Rattle.node_model.specs.NodeSteps.{silent_step, then_do, peers_of, peer_watches, replica_number, reader_place, with_port, give, given_by, given_stable, enter_step, emptied_port, adopted_ports, after_loss, snapshot, after_adoption, after_taking, with_stamps_of, on_batch, on_subscribe, on_truncation, on_upstream_beat, on_peer_beat, on_ack, on_ask, on_grant, on_snap_ask, on_message, on_packet, with_marks_ended, packet_step, past_buckets, after_stable_buckets, after_last_correction, mill_step, after_clock, may_start_afresh, choice_step, ask_step, with_closed, with_failure, processing_upto, processing_step, acks_from, beat_of, beats, announcing_step, serving_step, snapshot_ask_step, rest_of_tick, with_fresh_start, tick_step}
+use Rattle.node_model.specs.Nodes.{Home, PlainNode, streams_of, own_readers, node_frontier, out_stable, complete_buckets, ready, due_at, wants_to_reconcile}
+use Rattle.node_model.specs.NodeSteps.{idle_step, then_do, peers_of, peer_watches, replica_number, reader_place, with_port, give, given_by, given_stable, enter_step, emptied_port, adopted_ports, after_loss, snapshot, after_adoption, after_taking, with_stamps_of, on_batch, on_subscribe, on_truncation, on_upstream_beat, on_peer_beat, on_ack, on_ask, on_grant, on_snap_ask, on_message, on_packet, with_marks_ended, packet_step, past_buckets, after_stable_buckets, after_last_correction, mill_step, after_clock, may_start_afresh, choice_step, ask_step, with_closed, with_failure, processing_upto, processing_step, acks_from, beat_of, beats, announcing_step, serving_step, snapshot_ask_step, rest_of_tick, with_fresh_start, tick_step}
 use Rattle.law_safety.proofs.Tests.{eq-of}
 use Rattle.law_safety.proofs.Delivered.{place-nth}
 use Rattle.law_granting.proofs.Each.{Each, each-append, each-sorted, each-to, each-acks, each-beats}
@@ -118,8 +118,8 @@ took-session inlet u index items =
 -- an inlet that is whole after a beat was whole before it, and is the same
 pub beat-kept : (r : ℕ) (b : Beat) (q : Port) → Kept q (on_beat r b q)
 beat-kept r b q =
-    elim (r == q.chosen) as (λ c. Kept q (record { inlet = cond c (after_link q.inlet b.link) q.inlet; chosen = q.chosen; watches = (on_beat r b q).watches; ticks = q.ticks })) [
-      | true ↦ record { sess = refl; chosen = refl; still = λ e. whole q.inlet (shows_loss q.inlet b.link) e }
+    elim (r == q.chosen) as (λ c. Kept q (record { inlet = cond c (after_tally q.inlet b.tally) q.inlet; chosen = q.chosen; watches = (on_beat r b q).watches; ticks = q.ticks })) [
+      | true ↦ record { sess = refl; chosen = refl; still = λ e. whole q.inlet (shows_loss q.inlet b.tally) e }
       | false ↦ kept-inlet q (record q { watches = (on_beat r b q).watches }) refl refl
     ]
   where
@@ -160,7 +160,7 @@ is_told (message.Truncated u base) = false
 pub record Obliges (home : Home) (I : List Port → List Sub → List Acked → ℕ → Type 0) (P : Mail → Type 0) : Type 0 where
   pub told : (to : ℕ) (m : Message) → is_told m ≡ true → P (mail to m)
   pub snapped : (n : PlainNode) (to i try : ℕ) → At I n → P (record { to = to; packet = SnapFor i try (snapshot home n) })
-  pub batched : (n : PlainNode) (k : ℕ) (sub : Sub) (l : Sess × ℕ) (items : List Item) → At I n → slice_get n.subs k ≡ Some sub → link_of sub ≡ Some l → P (mail (nth 0 (own_readers home) k) (message.Batch l.0 l.1 items))
+  pub batched : (n : PlainNode) (k : ℕ) (sub : Sub) (l : Sess × ℕ) (items : List Item) → At I n → slice_get n.subs k ≡ Some sub → tally_of sub ≡ Some l → P (mail (nth 0 (own_readers home) k) (message.Batch l.0 l.1 items))
   pub counted : (n : PlainNode) → At I n → I n.ports (map with_batch n.subs) n.acks n.base
   pub shut : (n : PlainNode) → At I n → I n.ports (map with_session_shut n.subs) n.acks n.base
   pub emptied : (n : PlainNode) → At I n → I n.ports n.subs (map (λ _. (0, 0)) n.acks) 0
@@ -179,7 +179,7 @@ module _ (home : Home) (I : List Port → List Sub → List Acked → ℕ → Ty
   abbrev Ok : Stepped PlainNode → Type 0
   Ok t = Passed I P t
 
-  silent : (m : PlainNode) → At I m → Ok (silent_step m)
+  silent : (m : PlainNode) → At I m → Ok (idle_step m)
   silent m h = record { after = h; sends = tt }
 
   then-passed : (s : Stepped PlainNode) (f : PlainNode → Stepped PlainNode) → Ok s → ((m : PlainNode) → At I m → Ok (f m)) → Ok (then_do s f)
@@ -193,7 +193,7 @@ module _ (home : Home) (I : List Port → List Sub → List Acked → ℕ → Ty
       let none : j + 0 ≡ j = omega arith in
       let there : slice_get n.subs j ≡ Some sub = ap (λ (x : ℕ). slice_get n.subs x) (sym none) ∙ sym (at 0) in
       let rest = each-given n items h (j + 1) subs (λ i. let next : j + suc i ≡ j + 1 + i = omega arith in at (suc i) ∙ ap (λ (x : ℕ). slice_get n.subs x) next) in
-      (elim (link_of sub) as (λ l. link_of sub ≡ l → Each P (to_readers (own_readers home) (elim l [ None ↦ batches_from (j + 1) items subs | Some l ↦ (j, message.Batch l.0 l.1 items) ∷ batches_from (j + 1) items subs ]))) [
+      (elim (tally_of sub) as (λ l. tally_of sub ≡ l → Each P (to_readers (own_readers home) (elim l [ None ↦ batches_from (j + 1) items subs | Some l ↦ (j, message.Batch l.0 l.1 items) ∷ batches_from (j + 1) items subs ]))) [
         | None ↦ λ e. rest
         | Some l ↦ λ e. (o.batched n j sub l items h there e, rest)
       ]) refl
@@ -249,16 +249,16 @@ module _ (home : Home) (I : List Port → List Sub → List Acked → ℕ → Ty
   ask-passed : (i ask : ℕ) (r : Option ℕ) (n : PlainNode) → At I n → Ok (on_ask home i ask r n)
   ask-passed i ask None n h = silent n h
   ask-passed i ask (Some r) n h =
-      elim (grants n.grants n.state r (i, ask)) as (λ b. Ok (cond b (record { after = record n { grants = with_promise n.grants r (i, ask) }; sends = mail (nth 0 (replicas_of home.plan home.frag) r) (message.Grant i ask) ∷ [] }) (silent_step n))) [
+      elim (grants n.grants n.state r (i, ask)) as (λ b. Ok (cond b (record { after = record n { grants = with_promise n.grants r (i, ask) }; sends = mail (nth 0 (replicas_of home.plan home.frag) r) (message.Grant i ask) ∷ [] }) (idle_step n))) [
         | true ↦ record { after = h; sends = (o.told (nth 0 (replicas_of home.plan home.frag) r) (message.Grant i ask) refl, tt) }
         | false ↦ silent n h
       ]
 
   grant-passed : (i ask : ℕ) (n : PlainNode) → At I n → Ok (on_grant home i ask n)
-  grant-passed i ask n h = elim (is_up_failure n.state && may_enter_by n.grants (i, ask)) as (λ b. Ok (cond b (enter_step home n) (silent_step n))) [ true ↦ entered-passed n h | false ↦ silent n h ]
+  grant-passed i ask n h = elim (is_up_failure n.state && may_enter_by n.grants (i, ask)) as (λ b. Ok (cond b (enter_step home n) (idle_step n))) [ true ↦ entered-passed n h | false ↦ silent n h ]
 
-  unless-passed : (n : PlainNode) (t : Stepped PlainNode) → At I n → Ok t → Ok (cond n.recovering (silent_step n) t)
-  unless-passed n t h k = elim n.recovering as (λ b. Ok (cond b (silent_step n) t)) [ true ↦ silent n h | false ↦ k ]
+  unless-passed : (n : PlainNode) (t : Stepped PlainNode) → At I n → Ok t → Ok (cond n.recovering (idle_step n) t)
+  unless-passed n t h k = elim n.recovering as (λ b. Ok (cond b (idle_step n) t)) [ true ↦ silent n h | false ↦ k ]
 
   adopted-ok : (s : Snap) (n : PlainNode) → (At I n → I n.ports n.subs n.acks s.base) → At I n → At I (after_adoption home s n)
   unfolding after_adoption
@@ -305,7 +305,7 @@ module _ (home : Home) (I : List Port → List Sub → List Acked → ℕ → Ty
     on_packet-passed : (p : Packet) (n : PlainNode) → packet ≡ p → At I n → Ok (on_packet home a p n)
     on_packet-passed (Plain m) n same h = message-passed m n same h
     on_packet-passed (SnapFor i try s) n same h =
-        elim (n.recovering && i == n.grants.inc && try == n.tries) as (λ b. Ok (silent_step (cond b (after_adoption home s n) n))) [
+        elim (n.recovering && i == n.grants.inc && try == n.tries) as (λ b. Ok (idle_step (cond b (after_adoption home s n) n))) [
           | true ↦ silent _ (adopted-ok s n (t.adopted i try s n same) h)
           | false ↦ silent n h
         ]
@@ -330,9 +330,9 @@ module _ (home : Home) (I : List Port → List Sub → List Acked → ℕ → Ty
 
   pub asking-passed : (n : PlainNode) → At I n → Ok (ask_step home n)
   asking-passed n h =
-      elim (wants_to_reconcile home n && is_none n.grants.promise) as (λ b. Ok (cond b (cond (list_all is_silent (peer_watches home n)) (enter_step home n)
-      (record { after = record n { grants = with_ask n.grants }; sends = to_each (message.Ask (own_key n.grants).0 (own_key n.grants).1) (peers_of home) })) (silent_step n))) [
-        | true ↦ elim (list_all is_silent (peer_watches home n)) as (λ b. Ok (cond b (enter_step home n)
+      elim (wants_to_reconcile home n && is_none n.grants.promise) as (λ b. Ok (cond b (cond (list_all is_absent (peer_watches home n)) (enter_step home n)
+      (record { after = record n { grants = with_ask n.grants }; sends = to_each (message.Ask (own_key n.grants).0 (own_key n.grants).1) (peers_of home) })) (idle_step n))) [
+        | true ↦ elim (list_all is_absent (peer_watches home n)) as (λ b. Ok (cond b (enter_step home n)
             (record { after = record n { grants = with_ask n.grants }; sends = to_each (message.Ask (own_key n.grants).0 (own_key n.grants).1) (peers_of home) }))) [
               | true ↦ entered-passed n h
               | false ↦ record { after = h; sends = each-to P (message.Ask (own_key n.grants).0 (own_key n.grants).1) (peers_of home) (λ to. o.told to (message.Ask (own_key n.grants).0 (own_key n.grants).1) refl) }
@@ -342,16 +342,16 @@ module _ (home : Home) (I : List Port → List Sub → List Acked → ℕ → Ty
 
   upto-passed : (last : ℕ) (n : PlainNode) → At I n → Ok (processing_upto home last n)
   upto-passed last n h =
-      let count = last + 1 - view_cursor n in
+      let count = last + 1 - node_frontier n in
       let r = min count (complete_buckets home n) in
       let new = with_failure (with_closed home (count - r) (after_stable_buckets home r n)) in
       give-passed (given_items (length (out_stable home n)) (given_by home n new (nat_lt 0 r) (nat_lt r count))) new (stably-ok r n h)
 
   pub processing-passed : (n : PlainNode) → At I n → Ok (processing_step home n)
   processing-passed n h =
-      elim (is_stabilization n.state) as (λ b. Ok (cond b (silent_step n) (elim (due_at home n n.clock) [ None ↦ silent_step n | Some last ↦ processing_upto home last n ]))) [
+      elim (is_stabilization n.state) as (λ b. Ok (cond b (idle_step n) (elim (due_at home n n.clock) [ None ↦ idle_step n | Some last ↦ processing_upto home last n ]))) [
         | true ↦ silent n h
-        | false ↦ elim (due_at home n n.clock) as (λ l. Ok (elim l [ None ↦ silent_step n | Some last ↦ processing_upto home last n ])) [
+        | false ↦ elim (due_at home n n.clock) as (λ l. Ok (elim l [ None ↦ idle_step n | Some last ↦ processing_upto home last n ])) [
           | None ↦ silent n h
           | Some last ↦ upto-passed last n h
         ]

@@ -6,7 +6,7 @@ use Rattle.dpc_lists.specs.Lists.{nth, changed, place_of}
 use Rattle.dpc_model.specs.Inlets.{InletState, is_newer, with_next_session, asked_by, take_batch}
 use Rattle.dpc_model.specs.Actors.{senders_of}
 use Rattle.dpc_model.specs.Ports.{Port, no_port, sender_at, without_ended_marks, port_after_tick, choice_at, must_reopen, port_after_choice, subscriptions, acks_to}
-use Rattle.dpc_model.specs.Sessions.{no_session, Shown, Answered, link_of, first_batch, is_newer_than_kept, answer_to, batches_from, with_batch, with_session_shut, Acked, given_items}
+use Rattle.dpc_model.specs.Sessions.{no_session, Shown, Answered, tally_of, first_batch, is_newer_than_kept, answer_to, batches_from, with_batch, with_session_shut, Acked, given_items}
 use Rattle.dpc_model.specs.declared.sessions.Sub.{Sub}
 use Rattle.dpc_model.specs.declared.batches.Taken.{Taken}
 use Rattle.dpc_model.specs.declared.batches.Taken.TheVariants.{Used, Old, Broken}
@@ -48,8 +48,8 @@ SentOk Q (SnapFor i try s) = Unit {0}
 abbrev pub SentTo : (Sess → Type 0) → ℕ → Mail → Type 0
 SentTo Q x m = m.to ≡ x → SentOk Q m.packet
 
-pub link-kept : (sub : Sub) (l : Sess × ℕ) → link_of sub ≡ Some l → sub.kept ≡ Some l.0
-link-kept sub l e = by-kept sub.kept refl e
+pub tally-kept : (sub : Sub) (l : Sess × ℕ) → tally_of sub ≡ Some l → sub.kept ≡ Some l.0
+tally-kept sub l e = by-kept sub.kept refl e
   where
     by-kept : (o : Option Sess) → sub.kept ≡ o → elim o [ None ↦ None | Some s ↦ cond {A = Option (Sess × ℕ)} sub.is_open (Some (s, sub.batches)) None ] ≡ Some l → sub.kept ≡ Some l.0
     by-kept None f g = cc
@@ -74,8 +74,8 @@ module _ (Q : Sess → Type 0) (readers : List ℕ) (x : ℕ) where
   kept-shut subs h = kept-map with_session_shut (λ sub. refl) subs h
 
   -- batches go in kept sessions
-  pub batch-sent : (k : ℕ) (sub : Sub) (l : Sess × ℕ) (items : List Item) (subs : List Sub) → KeptOk Q readers x subs → slice_get subs k ≡ Some sub → link_of sub ≡ Some l → SentTo Q x (mail (nth 0 readers k) (message.Batch l.0 l.1 items))
-  batch-sent k sub l items subs h there link it = h k sub l.0 there it (link-kept sub l link)
+  pub batch-sent : (k : ℕ) (sub : Sub) (l : Sess × ℕ) (items : List Item) (subs : List Sub) → KeptOk Q readers x subs → slice_get subs k ≡ Some sub → tally_of sub ≡ Some l → SentTo Q x (mail (nth 0 readers k) (message.Batch l.0 l.1 items))
+  batch-sent k sub l items subs h there tally it = h k sub l.0 there it (tally-kept sub l tally)
 
   sessions-sent : (items : List Item) (all : List Sub) (j : ℕ) (subs : List Sub) → KeptOk Q readers x all → ((i : ℕ) → slice_get subs i ≡ slice_get all (j + i)) → Each (SentTo Q x) (to_readers readers (batches_from j items subs))
   sessions-sent items all j [] h at = tt
@@ -83,7 +83,7 @@ module _ (Q : Sess → Type 0) (readers : List ℕ) (x : ℕ) where
       let none : j + 0 ≡ j = omega arith in
       let there : slice_get all j ≡ Some sub = ap (λ (z : ℕ). slice_get all z) (sym none) ∙ sym (at 0) in
       let rest = sessions-sent items all (j + 1) subs h (λ i. let next : j + suc i ≡ j + 1 + i = omega arith in at (suc i) ∙ ap (λ (z : ℕ). slice_get all z) next) in
-      (elim (link_of sub) as (λ l. link_of sub ≡ l → Each (SentTo Q x) (to_readers readers (elim l [ None ↦ batches_from (j + 1) items subs | Some l ↦ (j, message.Batch l.0 l.1 items) ∷ batches_from (j + 1) items subs ]))) [
+      (elim (tally_of sub) as (λ l. tally_of sub ≡ l → Each (SentTo Q x) (to_readers readers (elim l [ None ↦ batches_from (j + 1) items subs | Some l ↦ (j, message.Batch l.0 l.1 items) ∷ batches_from (j + 1) items subs ]))) [
         | None ↦ λ e. rest
         | Some l ↦ λ e. (batch-sent j sub l items all h there e, rest)
       ]) refl
@@ -162,7 +162,7 @@ module _ (home : Home) (Q : Sess → Type 0) (x : ℕ) where
       record {
         told = told-sent;
         snapped = λ n to i try h it. tt;
-        batched = λ n k sub l items h there link. batch-sent Q (own_readers home) x k sub l items n.subs h there link;
+        batched = λ n k sub l items h there tally. batch-sent Q (own_readers home) x k sub l items n.subs h there tally;
         counted = λ n h. kept-counted Q (own_readers home) x n.subs h;
         shut = λ n h. kept-shut Q (own_readers home) x n.subs h;
         emptied = λ n h. h;
@@ -266,7 +266,7 @@ module _ (home : Home) (P : Mail → Type 0) (easy : (m : Mail) → NoAsk m → 
       record {
         told = λ to m e. easy (mail to m) (told-no-ask to m e);
         snapped = λ n to i try h. easy _ (λ y ps rs. tt);
-        batched = λ n k sub l items h there link. easy _ (λ y ps rs. tt);
+        batched = λ n k sub l items h there tally. easy _ (λ y ps rs. tt);
         counted = λ n h. h;
         shut = λ n h. h;
         emptied = λ n h. h;
@@ -505,7 +505,7 @@ module _ (plan : Plan) (Q : Sess → Type 0) (x s : ℕ) where
 
   pub source-ticks-keeps : (now : ℕ) (z : SourceState) → KeptOk Q (source_readers plan s) x z.subs → SourceKeeps (source_tick_step plan s now z)
   unfolding source_tick_step
-  source-ticks-keeps now z h = (h, each-told link_of (source_readers plan s) z.subs)
+  source-ticks-keeps now z h = (h, each-told tally_of (source_readers plan s) z.subs)
 
   source-silent : (z : SourceState) → KeptOk Q (source_readers plan s) x z.subs → SourceKeeps (record { after = z; sends = [] })
   source-silent z h = (h, tt)

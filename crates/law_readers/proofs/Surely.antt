@@ -5,7 +5,7 @@ use Rattle.dpc_lists.specs.Lists.{nth, list_all, place_of}
 use Rattle.dpc_model.specs.Fragments.{log_of}
 use Rattle.dpc_model.specs.Actors.{role_of}
 use Rattle.dpc_model.specs.declared.actors.Role.TheVariants.{Source as IsSource, Node as IsNode, Client as IsClient}
-use Rattle.dpc_model.specs.Sessions.{no_session, answer_to, first_batch, given_items, stable_items, boundary_item, is_newer_than_kept, Answered, link_of}
+use Rattle.dpc_model.specs.Sessions.{no_session, answer_to, first_batch, given_items, stable_items, boundary_item, is_newer_than_kept, Answered, tally_of}
 use Rattle.dpc_model.specs.declared.sessions.Sub.{Sub}
 use Rattle.dpc_model.specs.declared.tuples.Tuple.{Tuple}
 use Rattle.dpc_model.specs.declared.tuples.Item.{Item}
@@ -73,7 +73,7 @@ releases-surely plan es a s t x = gives-surely plan es a s t (cond (nat_lt x.bou
 
 ticks-surely : (plan : Plan) (es : List Envelope) (a s now : ℕ) (x : SourceState) → Each (SurelyMail es a) (source_tick_step plan s now x).sends
 unfolding source_tick_step
-ticks-surely plan es a s now x = each-zipped (SurelyMail es a) (λ sub. source_beat (link_of sub)) (source_readers plan s) x.subs (λ to sub. tt)
+ticks-surely plan es a s now x = each-zipped (SurelyMail es a) (λ sub. source_beat (tally_of sub)) (source_readers plan s) x.subs (λ to sub. tt)
 
 -- an envelope that comes to a source
 module _ (plan : Plan) (es : List Envelope) (k s : ℕ) (e : Envelope) (there : slice_get es k ≡ Some e) where

@@ -11,7 +11,7 @@ use Rattle.dpc_model.specs.Actors.{role_of, sends_stream, readers_of}
 use Rattle.dpc_model.specs.declared.actors.Role.{Role}
 use Rattle.dpc_model.specs.declared.actors.Role.TheVariants.{Source as IsSource, Node as IsNode, Client as IsClient, Nobody}
 use Rattle.dpc_model.specs.Ports.{Port}
-use Rattle.dpc_model.specs.Sessions.{no_session, Shown, link_of}
+use Rattle.dpc_model.specs.Sessions.{no_session, Shown, tally_of}
 use Rattle.dpc_model.specs.declared.sessions.Sub.{Sub}
 use Rattle.dpc_model.specs.declared.tuples.Tuple.{Tuple}
 use Rattle.dpc_model.specs.declared.tuples.Item.{Item}
@@ -53,7 +53,7 @@ use Rattle.law_granting.proofs.First.{new-source-order}
 use Rattle.law_readers.specs.Newest.{subs_of, node_subs, IsPortOf}
 use Rattle.law_readers.specs.Held.{IsBatchOf, joined, HasRead, shown_by, node_shown, TookAll, HoldsView, ViewsAreHeld}
 use Rattle.law_readers.proofs.Running.{run-of}
-use Rattle.law_readers.proofs.Sessions.{link-kept}
+use Rattle.law_readers.proofs.Sessions.{tally-kept}
 use Rattle.law_readers.proofs.Known.{sends-source, sends-node, opened-subs, new-empty}
 use Rattle.law_readers.proofs.Carried.{all-carried, source-sent-after, IsWithin, node-sent-after}
 use Rattle.law_readers.proofs.Steps.{ports-have-read, reads-sender}
@@ -66,7 +66,7 @@ told_by start l = cond (same_sess (sess_of 1 1) l.sess) (first_subscription l) (
 
 other-asked : (plan : Plan) (s : StreamRef) (x : Shown) (h : Sess → List Item) (q r : Sess → Subscribe) (sub : Sub) → ((u : Sess) → sub.kept ≡ Some u → r u ≡ q u) → HoldsSession plan s x h q sub → HoldsSession plan s x h r sub
 other-asked plan s x h q r sub same held =
-    record { open_one = λ l e. subst (λ (z : Subscribe). LeavesView plan s z x (h l.0)) (sym (same l.0 (link-kept sub l e))) (held.open_one l e); newer = held.newer }
+    record { open_one = λ l e. subst (λ (z : Subscribe). LeavesView plan s z x (h l.0)) (sym (same l.0 (tally-kept sub l e))) (held.open_one l e); newer = held.newer }
 
 -- at the opening every open session is the first
 first-told : (plan : Plan) (start : Reader) (a k : ℕ) (sub : Sub) (u : Sess) (role : Role) (readers : List ℕ) → role_of plan a ≡ role → slice_get (subs_of (new_world plan) a role) k ≡ Some sub → sub.kept ≡ Some u →
@@ -205,11 +205,11 @@ unfolding run
 source-all plan events l v role = source-sent-after (new_world plan) events l v [] (ap (λ (z : Plan). role_of z l.sender) (new_world-plan plan) ∙ role) (none-yet plan l)
 
 -- a sub that is open in a session counts its batches, in the incarnation that answered
-pub counted : (u : Sess) (i many inc : ℕ) (sub : Sub) → SubHolds u i many inc sub → link_of sub ≡ Some (u, sub.batches) → (inc ≡ i) × (sub.batches ≡ many)
-counted u i many inc sub h link =
+pub counted : (u : Sess) (i many inc : ℕ) (sub : Sub) → SubHolds u i many inc sub → tally_of sub ≡ Some (u, sub.batches) → (inc ≡ i) × (sub.batches ≡ many)
+counted u i many inc sub h tally =
     elim (same-or inc i) [
-      | inl same ↦ (same, (h.0 same).open_one u sub.batches link (same-self u))
-      | inr other ↦ let clash : true ≡ false = sym (same-self u) ∙ (h.1 other).other u sub.batches link in cc
+      | inl same ↦ (same, (h.0 same).open_one u sub.batches tally (same-self u))
+      | inr other ↦ let clash : true ≡ false = sym (same-self u) ∙ (h.1 other).other u sub.batches tally in cc
     ]
 
 -- ---- the view
@@ -236,8 +236,8 @@ module _ (plan : Plan) (events : List Event) (x p a i : ℕ) (s : StreamRef) (q 
   line-is : line_of plan x s q ≡ line
   line-is = ap (λ (z : ℕ). record { sender = z; reader = x; sess = q.inlet.sess }) took.sender
 
-  link : link_of took.sub ≡ Some (q.inlet.sess, took.sub.batches)
-  link = rw (took.kept, took.is_open) refl
+  tally : tally_of took.sub ≡ Some (q.inlet.sess, took.sub.batches)
+  tally = rw (took.kept, took.is_open) refl
 
   -- the subscription by which the session was opened is what the port told
   told : (asked : Subscribe) → IsAskedFrom line (told_by read.start line) (run plan events) asked → (asked.n ≡ length read.start.stable) × (asked.tentative ≡ not (is_sure read.start))
@@ -290,7 +290,7 @@ module _ (plan : Plan) (events : List Event) (x p a i : ℕ) (s : StreamRef) (q 
       let placed : IsNodeLine plan a x f r k = record { role = role; reader = reader; distinct = readers-distinct plan (Frag f); low = omega (arith, within, few_here) } in
       let order = node-order plan events a x f r k i q.inlet.sess checked placed answered in
       let nth_is : nth no_session n.subs k ≡ took.sub = ap (λ (o : Option Sub). unwrap_or o no_session) there in
-      let counts = counted q.inlet.sess i order.many n.grants.inc took.sub (subst (λ (z : Sub). SubHolds q.inlet.sess i order.many n.grants.inc z) nth_is (order.there n up)) link in
+      let counts = counted q.inlet.sess i order.many n.grants.inc took.sub (subst (λ (z : Sub). SubHolds q.inlet.sess i order.many n.grants.inc z) nth_is (order.there n up)) tally in
       let sent = node-all plan events a x f r k i q.inlet.sess checked placed answered (inl (n, up, counts.0)) in
       finish (shown home n) order.many order.order counts.1 sent (leaves f r n role up same reader there)
     where
@@ -304,7 +304,7 @@ module _ (plan : Plan) (events : List Event) (x p a i : ℕ) (s : StreamRef) (q 
           let at_role = subst (λ (z : Role). HeldAt plan w.sources w.nodes (λ l. sent_after l [] (new_world plan) events) (λ l. opened_by l (told_by read.start l) (new_world plan) events) a z) role at_plan in
           let up_here : (nth no_slot w.nodes (node_place plan a)).node ≡ Some n = sym (ap (λ (z : Plan). (nth no_slot w.nodes (node_place z a)).node) in_run) ∙ up in
           let at_node = subst (λ (o : Option PlainNode). HeldNode home a (λ l. sent_after l [] (new_world plan) events) (λ l. opened_by l (told_by read.start l) (new_world plan) events) o) up_here at_role in
-          let leaves_here = (at_node took.place took.sub there).open_one (q.inlet.sess, took.sub.batches) link in
+          let leaves_here = (at_node took.place took.sub there).open_one (q.inlet.sess, took.sub.batches) tally in
           let leaves_line = subst (λ (z : ℕ). let l : Channel = record { sender = a; reader = z; sess = q.inlet.sess } in LeavesView plan (Frag f) (opened_by l (told_by read.start l) (new_world plan) events) (shown home n) (sent_after l [] (new_world plan) events)) reader leaves_here in
           subst (λ (z : StreamRef). LeavesView plan z (opened_by line (told_by read.start line) (new_world plan) events) (shown home n) (sent_after line [] (new_world plan) events)) (sym same) leaves_line
 
@@ -325,7 +325,7 @@ module _ (plan : Plan) (events : List Event) (x p a i : ℕ) (s : StreamRef) (q 
       let placed : IsSourceLine plan a x v k (length (source_readers plan v)) = record { role = role; reader = reader; low = omega (arith, within, few_here); few = refl } in
       let order = source-order plan events a x v k i q.inlet.sess placed answered in
       let nth_is : nth no_session (source_at w v).subs k ≡ took.sub = ap (λ (o : Option Sub). unwrap_or o no_session) there in
-      let counts = counted q.inlet.sess i order.many 1 took.sub (subst (λ (z : Sub). SubHolds q.inlet.sess i order.many 1 z) nth_is order.there) link in
+      let counts = counted q.inlet.sess i order.many 1 took.sub (subst (λ (z : Sub). SubHolds q.inlet.sess i order.many 1 z) nth_is order.there) tally in
       finish (source_shown plan v (source_at w v)) order.many order.order counts.1 (source-all plan events line v role) (leaves v role same reader there)
     where
       leaves : (v : ℕ) → role_of plan a ≡ IsSource v → s ≡ Source v → nth 0 (source_readers plan v) took.place ≡ x → slice_get (source_at (run plan events) v).subs took.place ≡ Some took.sub →
@@ -335,7 +335,7 @@ module _ (plan : Plan) (events : List Event) (x p a i : ℕ) (s : StreamRef) (q 
           let held = run-told plan events read.start checked a in
           let at_plan = subst (λ (z : Plan). HeldAt z w.sources w.nodes (λ l. sent_after l [] (new_world plan) events) (λ l. opened_by l (told_by read.start l) (new_world plan) events) a (role_of z a)) in_run held in
           let at_role = subst (λ (z : Role). HeldAt plan w.sources w.nodes (λ l. sent_after l [] (new_world plan) events) (λ l. opened_by l (told_by read.start l) (new_world plan) events) a z) role at_plan in
-          let leaves_here = (at_role took.place took.sub there).open_one (q.inlet.sess, took.sub.batches) link in
+          let leaves_here = (at_role took.place took.sub there).open_one (q.inlet.sess, took.sub.batches) tally in
           let leaves_line = subst (λ (z : ℕ). let l : Channel = record { sender = a; reader = z; sess = q.inlet.sess } in LeavesView plan (Source v) (opened_by l (told_by read.start l) (new_world plan) events) (source_shown plan v (source_at w v)) (sent_after l [] (new_world plan) events)) reader leaves_here in
           subst (λ (z : StreamRef). LeavesView plan z (opened_by line (told_by read.start line) (new_world plan) events) (source_shown plan v (source_at w v)) (sent_after line [] (new_world plan) events)) (sym same) leaves_line
 

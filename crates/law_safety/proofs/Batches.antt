@@ -40,8 +40,8 @@ reading-bound r r' (Tentative t) e =
       | false ↦ λ f. cc
     ]) e
 reading-bound r r' (Passed b) e =
-    (elim (nat_lt r.bound b && nat_lt r.soft b) as (λ c. cond c (Taken (record r { soft = b })) Skipped ≡ Taken r' → r.bound ≤ r'.bound) [
-      | true ↦ λ f. let same : r' ≡ record r { soft = b } = cc in rw same (omega arith)
+    (elim (nat_lt r.bound b && nat_lt r.passed b) as (λ c. cond c (Taken (record r { passed = b })) Skipped ≡ Taken r' → r.bound ≤ r'.bound) [
+      | true ↦ λ f. let same : r' ≡ record r { passed = b } = cc in rw same (omega arith)
       | false ↦ λ f. cc
     ]) e
 reading-bound r r' (Boundary b m) e =
@@ -52,7 +52,7 @@ reading-bound r r' (Boundary b m) e =
         | true ↦ λ g f. let same : r' ≡ record r { bound = b } = cc in let more = lt-of r.bound b g in rw same (omega (arith, more))
       ]) refl
     ]) e
-reading-bound r r' (Undo n) e = let same : r' ≡ record r { tentative = []; soft = 0 } = cc in rw same (omega arith)
+reading-bound r r' (Undo n) e = let same : r' ≡ record r { tentative = []; passed = 0 } = cc in rw same (omega arith)
 reading-bound r r' RecDone e =
     (elim (is_sure r) as (λ c. cond c (Taken r) NoReading ≡ Taken r' → r.bound ≤ r'.bound) [
       | true ↦ λ f. let same : r' ≡ r = cc in rw same (omega arith)

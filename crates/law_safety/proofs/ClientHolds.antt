@@ -4,7 +4,7 @@ use Rattle.dpc_lists.specs.Lists.{place_of}
 use Rattle.dpc_model.specs.Ports.{Port, held_at, on_beat}
 use Rattle.dpc_model.specs.declared.messages.Beat.{Beat}
 use Rattle.dpc_model.specs.Actors.{role_of, senders_of}
-use Rattle.dpc_model.specs.Inlets.{take_batch, after_link}
+use Rattle.dpc_model.specs.Inlets.{take_batch, after_tally}
 use Rattle.dpc_model.specs.declared.batches.Taken.{Taken}
 use Rattle.dpc_model.specs.declared.batches.Taken.TheVariants.{Used, Old, Broken}
 use Rattle.dpc_model.specs.declared.messages.Message.{Message}
@@ -24,7 +24,7 @@ reader_of-keeping Broken x = refl
 
 -- beats leave what is held
 pub held_at-beat : (r : ℕ) (b : Beat) (p : Port) → held_at (on_beat r b p) ≡ held_at p
-held_at-beat r b p = elim (r == p.chosen) as (λ d. (cond d (after_link p.inlet b.link) p.inlet).held ≡ p.inlet.held) [
+held_at-beat r b p = elim (r == p.chosen) as (λ d. (cond d (after_tally p.inlet b.tally) p.inlet).held ≡ p.inlet.held) [
   | true ↦ refl
   | false ↦ refl
 ]

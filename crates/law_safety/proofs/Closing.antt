@@ -11,7 +11,7 @@ use Rattle.dpc_model.specs.declared.tuples.Tagged.{Tagged}
 use Rattle.dpc_model.specs.Engines.{lies_in, is_serial}
 use Rattle.dpc_model.proofs.Serial.{serial-is}
 use Rattle.dpc_model.specs.Parts.{bucket_at}
-use Rattle.node_model.specs.Nodes.{Home, PlainNode, view_cursor, buckets_of}
+use Rattle.node_model.specs.Nodes.{Home, PlainNode, node_frontier, buckets_of}
 use Rattle.world_model.specs.Orderly.{fits_port, port_columns, closed_in_place}
 use Rattle.law_safety.proofs.Tests.{both, both-of, le-of, le-test}
 use Rattle.law_safety.proofs.Serials.{bucket-lies, AreColumns, bucket-columns}
@@ -52,13 +52,13 @@ pub record AreClosed (home : Home) (c : ℕ) (closed : List (List Tagged)) : Typ
 
 pub closed-of : (home : Home) (n : PlainNode) → closed_in_place home n ≡ true → AreClosed home n.cursor n.closed
 closed-of home n h =
-    let p = both (list_all (is_placed home.plan.width (port_columns home) n.cursor) (enumerate_from 0 n.closed)) (nat_le (view_cursor n) (buckets_of home.plan)) h in
-    record { placed = p.0; within = le-of (view_cursor n) (buckets_of home.plan) p.1 }
+    let p = both (list_all (is_placed home.plan.width (port_columns home) n.cursor) (enumerate_from 0 n.closed)) (nat_le (node_frontier n) (buckets_of home.plan)) h in
+    record { placed = p.0; within = le-of (node_frontier n) (buckets_of home.plan) p.1 }
 
 pub closed-test : (home : Home) (n : PlainNode) → AreClosed home n.cursor n.closed → closed_in_place home n ≡ true
 closed-test home n h =
-    both-of (list_all (is_placed home.plan.width (port_columns home) n.cursor) (enumerate_from 0 n.closed)) (nat_le (view_cursor n) (buckets_of home.plan)) h.placed
-    (le-test (view_cursor n) (buckets_of home.plan) h.within)
+    both-of (list_all (is_placed home.plan.width (port_columns home) n.cursor) (enumerate_from 0 n.closed)) (nat_le (node_frontier n) (buckets_of home.plan)) h.placed
+    (le-test (node_frontier n) (buckets_of home.plan) h.within)
 
 -- more buckets are closed behind those that are
 pub closed-more : (home : Home) (c count : ℕ) (rs : List Reader) (closed : List (List Tagged)) → AreColumns (port_columns home) rs → AreClosed home c closed → c + length closed + count ≤ buckets_of home.plan →

@@ -18,7 +18,7 @@ use Rattle.dpc_model.proofs.Prefixes.{cut-beginning}
 use Rattle.dpc_model.proofs.Order.{tagged_time, fragment-InOrder}
 use Rattle.dpc_model.proofs.Cuts.{ordered-append, none-below}
 use Rattle.dpc_model.proofs.Serial.{serial-ordered}
-use Rattle.node_model.specs.Nodes.{Home, PlainNode, no_fragment, spec_of, inputs_done, view_cursor, out_view}
+use Rattle.node_model.specs.Nodes.{Home, PlainNode, no_fragment, spec_of, inputs_done, node_frontier, out_with_closed}
 use Rattle.world_model.specs.Safe.{IsSafeNode}
 use Rattle.world_model.specs.Orderly.{IsOrderlyNode, fits_port, port_columns}
 use Rattle.law_safety.specs.Plans.{IsPlace}
@@ -85,17 +85,17 @@ view-ordered home n closed =
 
 -- more closed buckets continue the view
 pub view-continues : (home : Home) (most : ℕ) (n m : PlainNode) (more : List (List Tagged)) → IsPlace home → IsSafeNode home n → IsOrderlyNode home most n → AreClosed home m.cursor m.closed →
-    inputs_done home m ≡ inputs_done home n → m.cursor ≡ n.cursor → m.closed ≡ n.closed ++ more → IsPrefixOf (out_view home n) (out_view home m)
-unfolding out_view
+    inputs_done home m ≡ inputs_done home n → m.cursor ≡ n.cursor → m.closed ≡ n.closed ++ more → IsPrefixOf (out_with_closed home n) (out_with_closed home m)
+unfolding out_with_closed
 view-continues home most n m more place safe o closed inputs cursor grown =
     let ops = (spec_of home).ops in
     let w = home.plan.width in
-    let b = view_cursor n * w in
-    let b' = view_cursor m * w in
+    let b = node_frontier n * w in
+    let b' = node_frontier m * w in
     let old = serial (inputs_done home n) ++ all_of n.closed in
     let new = serial (inputs_done home m) ++ all_of m.closed in
     let long = ap length grown ∙ length-append n.closed more in
-    let views : view_cursor n ≤ view_cursor m = omega (arith, long, cursor) in
+    let views : node_frontier n ≤ node_frontier m = omega (arith, long, cursor) in
     let reach : b ≤ b' = grind (arith, common_steps) in
     let same : new ≡ old ++ all_of more =
     ap (λ (tss : List (List Tuple)). serial tss ++ all_of m.closed) inputs
@@ -103,7 +103,7 @@ view-continues home most n m more place safe o closed inputs cursor grown =
     ∙ ap (λ (xs : List Tagged). serial (inputs_done home n) ++ xs) (all-of-append n.closed more)
     ∙ sym (append_assoc (serial (inputs_done home n)) (all_of n.closed) (all_of more)) in
     let placed : list_all (is_placed w (port_columns home) n.cursor) (enumerate_from 0 (n.closed ++ more)) ≡ true = rw (← grown, ← cursor) closed.placed in
-    let behind = closed-later w (port_columns home) n.cursor (0 + length n.closed) (view_cursor n) more (omega arith) (numbered-rest (is_placed w (port_columns home) n.cursor) 0 n.closed more placed) in
+    let behind = closed-later w (port_columns home) n.cursor (0 + length n.closed) (node_frontier n) more (omega arith) (numbered-rest (is_placed w (port_columns home) n.cursor) 0 n.closed more placed) in
     let kept : cut_tagged b new ≡ old =
     ap (λ (xs : List Tagged). cut_tagged b xs) same ∙ filter-append (is_below_tag b) old (all_of more)
     ∙ rw (filter-all (is_below_tag b) old (view-lies home most n place safe o).below, none-below tagged_time b b (all_of more) (omega arith) (past-none_below b (all_of more) behind.past)) (append-nil old) in

@@ -3,7 +3,7 @@ use Rattle.std.proofs.Common.{◌≡◌, ℕ, zero, suc, ◌+◌, Bool, true, fa
 use Rattle.std.proofs.lemmas.Grind.{common_steps}
 use Rattle.dpc_lists.specs.Lists.{nth, changed, list_all, place_of}
 use Rattle.dpc_model.specs.Reading.{Reader}
-use Rattle.dpc_model.specs.Inlets.{same_sess, after_link, take_batch}
+use Rattle.dpc_model.specs.Inlets.{same_sess, after_tally, take_batch}
 use Rattle.dpc_model.specs.Replicas.{with_mark, after_beat}
 use Rattle.dpc_model.specs.Granting.{grants, with_promise, after_peer_beat, later_key, may_enter_by}
 use Rattle.dpc_model.specs.Actors.{role_of, are_peers, sends_stream, replicas_of}
@@ -25,7 +25,7 @@ use Rattle.dpc_model.specs.declared.plans.StreamRef.TheVariants.{Source, Frag}
 use Rattle.node_model.specs.Mails.{Snap, Packet, Plain, SnapFor, mail, Stepped}
 use Rattle.dpc_model.specs.NodeStates.{is_up_failure, is_stabilization}
 use Rattle.node_model.specs.Nodes.{Home, PlainNode, streams_of, own_readers, held_by, out_stable}
-use Rattle.node_model.specs.NodeSteps.{silent_step, with_port, after_taking, on_batch, on_subscribe, on_truncation, after_loss, on_upstream_beat, on_peer_beat, on_ack, with_base, on_ask, on_grant, enter_step, on_snap_ask, snapshot, on_snap, after_adoption, reader_place, replica_number, on_message, on_packet, with_marks_ended, packet_step}
+use Rattle.node_model.specs.NodeSteps.{idle_step, with_port, after_taking, on_batch, on_subscribe, on_truncation, after_loss, on_upstream_beat, on_peer_beat, on_ack, with_base, on_ask, on_grant, enter_step, on_snap_ask, snapshot, on_snap, after_adoption, reader_place, replica_number, on_message, on_packet, with_marks_ended, packet_step}
 use Rattle.world_model.specs.Safe.{IsTruePacket, IsTrueSnap}
 use Rattle.world_model.specs.Orderly.{is_port_sound, item_fits, packet_way, carries_fitting, recovers_empty}
 use Rattle.law_safety.proofs.Milling.{IsSafeNode-same}
@@ -194,14 +194,14 @@ on_truncation-good home most a u base n place g =
 pub beat-sound : (plan : Plan) (s : StreamRef) (i most r : ℕ) (b : Beat) (q : Port) → is_port_sound plan s i most q ≡ true → is_port_sound plan s i most (on_beat r b q) ≡ true
 beat-sound plan s i most r b q h =
     let many = length-changed r (after_beat b.inc b.state b.recovering) q.watches in
-    elim (r == q.chosen) as (λ d. is_port_sound plan s i most (record q { watches = changed r (after_beat b.inc b.state b.recovering) q.watches; inlet = cond d (after_link q.inlet b.link) q.inlet }) ≡ true) [
+    elim (r == q.chosen) as (λ d. is_port_sound plan s i most (record q { watches = changed r (after_beat b.inc b.state b.recovering) q.watches; inlet = cond d (after_tally q.inlet b.tally) q.inlet }) ≡ true) [
       | true ↦ rw many h
       | false ↦ rw many h
     ]
 
 beat-empty : (r : ℕ) (b : Beat) (q : Port) → is_empty_port q ≡ true → is_empty_port (on_beat r b q) ≡ true
 beat-empty r b q h =
-    elim (r == q.chosen) as (λ d. is_empty_port (record q { watches = changed r (after_beat b.inc b.state b.recovering) q.watches; inlet = cond d (after_link q.inlet b.link) q.inlet }) ≡ true) [
+    elim (r == q.chosen) as (λ d. is_empty_port (record q { watches = changed r (after_beat b.inc b.state b.recovering) q.watches; inlet = cond d (after_tally q.inlet b.tally) q.inlet }) ≡ true) [
       | true ↦ let broken = empty-broken q h in rw broken (rw broken at h)
       | false ↦ h
     ]
@@ -307,7 +307,7 @@ on_ask-good home me most sender i ask n actor way g =
     (elim (replica_number home sender) as (λ o. replica_number home sender ≡ o → IsGoodStep home me most ⊥ (on_ask home i ask o n)) [
       | None ↦ λ e. record { after = g; mails = tt }
       | Some r ↦ λ e. elim (grants n.grants n.state r (i, ask)) as (λ b. IsGoodStep home me most ⊥ (cond b
-          (record { after = record n { grants = with_promise n.grants r (i, ask) }; sends = mail (nth 0 (replicas_of home.plan home.frag) r) (message.Grant i ask) ∷ [] }) (silent_step n))) [
+          (record { after = record n { grants = with_promise n.grants r (i, ask) }; sends = mail (nth 0 (replicas_of home.plan home.frag) r) (message.Grant i ask) ∷ [] }) (idle_step n))) [
             | true ↦ record {
               after = record {
                 safe = IsSafeNode-same home n (record n { grants = with_promise n.grants r (i, ask) }) refl refl refl refl g.safe;
@@ -338,8 +338,8 @@ failure-up home most n e g = by-recovering (recovers-or n)
 
 pub on_grant-good : (home : Home) (me most i ask : ℕ) (n : PlainNode) → IsActor home me → IsGood home most n → IsGoodStep home me most ⊥ (on_grant home i ask n)
 on_grant-good home me most i ask n actor g =
-    (elim (is_up_failure n.state) as (λ c. is_up_failure n.state ≡ c → IsGoodStep home me most ⊥ (cond (c && may_enter_by n.grants (i, ask)) (enter_step home n) (silent_step n))) [
-      | true ↦ λ e. elim (may_enter_by n.grants (i, ask)) as (λ b. IsGoodStep home me most ⊥ (cond b (enter_step home n) (silent_step n))) [
+    (elim (is_up_failure n.state) as (λ c. is_up_failure n.state ≡ c → IsGoodStep home me most ⊥ (cond (c && may_enter_by n.grants (i, ask)) (enter_step home n) (idle_step n))) [
+      | true ↦ λ e. elim (may_enter_by n.grants (i, ask)) as (λ b. IsGoodStep home me most ⊥ (cond b (enter_step home n) (idle_step n))) [
         | true ↦ entered-good home me most n actor (failure-up home most n e g) g
         | false ↦ record { after = g; mails = tt }
       ]
@@ -379,7 +379,7 @@ on_snap-good home most i try s n place truth g =
 pub step-bare : (home : Home) (a most : ℕ) (done : Type 0) (s : Stepped PlainNode) → IsGoodStep home a most ⊥ s → IsGoodStep home a (most + 1) done s
 step-bare home a most done s h = record { after = later-good home most s.after h.after; mails = mails-weaker home.plan a ⊥ done (λ e. absurd e) s.sends h.mails }
 
-step-silent : (home : Home) (a most : ℕ) (done : Type 0) (n : PlainNode) → IsGood home most n → IsGoodStep home a most done (silent_step n)
+step-silent : (home : Home) (a most : ℕ) (done : Type 0) (n : PlainNode) → IsGood home most n → IsGoodStep home a most done (idle_step n)
 step-silent home a most done n g = record { after = g; mails = tt }
 
 step-later : (home : Home) (a most : ℕ) (done : Type 0) (s : Stepped PlainNode) → IsGoodStep home a most done s → IsGoodStep home a (most + 1) done s
@@ -387,10 +387,10 @@ step-later home a most done s h = record { after = later-good home most s.after 
 
 -- unless the node recovers
 unless-recovering : (home : Home) (a most : ℕ) (n : PlainNode) (f : PlainNode → Stepped PlainNode) → IsGood home most n → (n.recovering ≡ false → IsGoodStep home a most (IsDoneNode home (f n).after) (f n)) →
-    IsGoodStep home a most (IsDoneNode home (cond n.recovering (silent_step n) (f n)).after) (cond n.recovering (silent_step n) (f n))
+    IsGoodStep home a most (IsDoneNode home (cond n.recovering (idle_step n) (f n)).after) (cond n.recovering (idle_step n) (f n))
 unless-recovering home a most n f g h = by-value n.recovering refl
   where
-    by-value : (b : Bool) → n.recovering ≡ b → IsGoodStep home a most (IsDoneNode home (cond b (silent_step n) (f n)).after) (cond b (silent_step n) (f n))
+    by-value : (b : Bool) → n.recovering ≡ b → IsGoodStep home a most (IsDoneNode home (cond b (idle_step n) (f n)).after) (cond b (idle_step n) (f n))
     by-value true e = record { after = g; mails = tt }
     by-value false e = h e
 
@@ -401,7 +401,7 @@ message-good home me most sender (message.Batch u index items) n actor way fits 
     step-silent home me (most + 1) _ _ (later-good home most _ (on_batch-good home most sender u index items n actor.place truth fits g))
 message-good home me most sender (message.Subscribe asked) n actor way fits truth g =
     let f : PlainNode → Stepped PlainNode = λ x. on_subscribe home asked (reader_place home sender) x in
-    step-later home me most (IsDoneNode home (cond n.recovering (silent_step n) (f n)).after) (cond n.recovering (silent_step n) (f n))
+    step-later home me most (IsDoneNode home (cond n.recovering (idle_step n) (f n)).after) (cond n.recovering (idle_step n) (f n))
     (unless-recovering home me most n f g (λ up. on_subscribe-good home me most asked (reader_place home sender) n actor up g (λ k e. place-below (λ b. sender == b) (own_readers home) k e)))
 message-good home me most sender (message.Truncated u base) n actor way fits truth g = step-silent home me (most + 1) _ _ (on_truncation-good home most sender u base n actor.place g)
 message-good home me most sender (message.Beat b) n actor way fits truth g =
@@ -416,7 +416,7 @@ message-good home me most sender (message.Ask i ask) n actor way fits truth g = 
 message-good home me most sender (message.Grant i ask) n actor way fits truth g = step-bare home me most _ (on_grant home i ask n) (on_grant-good home me most i ask n actor g)
 message-good home me most sender (message.SnapAsk i try) n actor way fits truth g =
     let f : PlainNode → Stepped PlainNode = λ x. on_snap_ask home sender i try x in
-    step-later home me most (IsDoneNode home (cond n.recovering (silent_step n) (f n)).after) (cond n.recovering (silent_step n) (f n))
+    step-later home me most (IsDoneNode home (cond n.recovering (idle_step n) (f n)).after) (cond n.recovering (idle_step n) (f n))
     (unless-recovering home me most n f g (λ up. let s = on_snap_ask-good home me most sender i try n actor up way g in record { after = s.after; mails = mails-weaker home.plan me ⊥ _ (λ e. absurd e) (f n).sends s.mails }))
 
 packet-good : (home : Home) (me most sender : ℕ) (packet : Packet) (n : PlainNode) → IsActor home me → packet_way home.plan (role_of home.plan sender) (IsNode home.frag home.replica) packet ≡ true →

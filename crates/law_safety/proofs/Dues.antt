@@ -6,9 +6,9 @@ use Rattle.std.proofs.lemmas.List.FromFn.{length-range_with_len}
 use Rattle.std.specs.List.{filter}
 use Rattle.dpc_lists.specs.Lists.{list_all, last_below, is_nil, range_with_len}
 use Rattle.dpc_model.specs.Reading.{Reader}
-use Rattle.dpc_model.specs.Due.{Stamps, stamp_of, DueView, is_overdue, is_passed, is_complete, reach, waited_long}
+use Rattle.dpc_model.specs.Due.{Stamps, stamp_of, DueInputs, is_overdue, is_reached, is_complete, reach, waited_long}
 use Rattle.dpc_model.specs.declared.tuples.Tagged.{Tagged}
-use Rattle.node_model.specs.Nodes.{Home, PlainNode, held_by, view_cursor, buckets_of, due_view, due_at, complete_upto, complete_buckets, bucket_of}
+use Rattle.node_model.specs.Nodes.{Home, PlainNode, held_by, node_frontier, buckets_of, due_inputs, due_at, complete_upto, complete_buckets, bucket_of}
 use Rattle.node_model.specs.NodeSteps.{stably, after_stable_buckets, with_closed, with_failure, processing_upto}
 use Rattle.world_model.specs.Safe.{EachReaches}
 use Rattle.law_safety.specs.Plans.{IsPlace}
@@ -60,8 +60,8 @@ stamp-kept c k (s ∷ stamps) h =
 -- ---- buckets behind the last due one
 
 -- the view's cursor has moved past these
-not-due-before : (w : DueView) (now k : ℕ) → k < w.view → (is_overdue w now k || is_passed w k) ≡ false
-not-due-before w now k h = let out : nat_le w.view k ≡ false = grind (arith, common_steps) in
+not-due-before : (w : DueInputs) (now k : ℕ) → k < w.frontier → (is_overdue w now k || is_reached w k) ≡ false
+not-due-before w now k h = let out : nat_le w.frontier k ≡ false = grind (arith, common_steps) in
     rw out (passing-off w.passing (list_all (λ (r : Reader). nat_le ((k + 1) * w.width) (reach r)) w.ports) (w.any_closed || not (is_complete w.width w.ports k)))
   where
     passing-off : (b x y : Bool) → (b && false && x && y) ≡ false
@@ -88,14 +88,14 @@ none-due true false true true false false true e h = refl
 none-due true false true true false false false e h = cc
 
 -- a bucket that was not due and comes behind the view's cursor
-later-none : (home : Home) (n m : PlainNode) (now k : ℕ) → held_by m ≡ held_by n → stamp_of m.stamps k ≡ stamp_of n.stamps k → view_cursor n ≤ k →
+later-none : (home : Home) (n m : PlainNode) (now k : ℕ) → held_by m ≡ held_by n → stamp_of m.stamps k ≡ stamp_of n.stamps k → node_frontier n ≤ k →
     (not (is_nil n.closed) ≡ true) ⊎ ((not (is_nil m.closed) ≡ false) ⊎ (is_complete home.plan.width (held_by n) k ≡ false)) →
-    (is_overdue (due_view home n) now k || is_passed (due_view home n) k) ≡ false → (is_overdue (due_view home m) now k || is_passed (due_view home m) k) ≡ false
+    (is_overdue (due_inputs home n) now k || is_reached (due_inputs home n) k) ≡ false → (is_overdue (due_inputs home m) now k || is_reached (due_inputs home m) k) ≡ false
 later-none home n m now k held stamp low cases e =
-    let here : nat_le (view_cursor n) k ≡ true = le-test (view_cursor n) k low in
-    let w = due_view home n in
+    let here : nat_le (node_frontier n) k ≡ true = le-test (node_frontier n) k low in
+    let w = due_inputs home n in
     rw (held, stamp)
-    (none-due (nat_le (view_cursor m) k) (waited_long (stamp_of n.stamps k) w.delay now) w.passing (list_all (λ (r : Reader). nat_le ((k + 1) * w.width) (reach r)) (held_by n))
+    (none-due (nat_le (node_frontier m) k) (waited_long (stamp_of n.stamps k) w.delay now) w.passing (list_all (λ (r : Reader). nat_le ((k + 1) * w.width) (reach r)) (held_by n))
     (not (is_nil n.closed)) (not (is_nil m.closed)) (is_complete home.plan.width (held_by n) k) (rw here at e) cases)
 
 -- ---- complete buckets
@@ -120,16 +120,16 @@ incomplete home n k place some h =
 -- the node's view, its stamps and what is closed, behind the last due bucket
 pub record HasProcessed (home : Home) (n m : PlainNode) (last : ℕ) : Type 0 where
   pub held : held_by m ≡ held_by n
-  pub view : view_cursor m ≡ last + 1
+  pub frontier : node_frontier m ≡ last + 1
   pub stamps : (k : ℕ) → last < k → stamp_of m.stamps k ≡ stamp_of n.stamps k
   pub closed : (not (is_nil n.closed) ≡ true) ⊎ ((not (is_nil m.closed) ≡ false) ⊎ (complete_upto home n ≤ last))
 
-pub processed-none : (home : Home) (n m : PlainNode) (now last : ℕ) → IsPlace home → 0 < length (held_by n) → view_cursor n ≤ last → due_at home n now ≡ Some last → HasProcessed home n m last →
+pub processed-none : (home : Home) (n m : PlainNode) (now last : ℕ) → IsPlace home → 0 < length (held_by n) → node_frontier n ≤ last → due_at home n now ≡ Some last → HasProcessed home n m last →
     due_at home m now ≡ None
 processed-none home n m now last place some low e h =
-    let w = due_view home n in
-    let l = last_below-last (λ k. is_overdue w now k || is_passed w k) (buckets_of home.plan) last e in
-    all_fail-none (λ k. is_overdue (due_view home m) now k || is_passed (due_view home m) k) (buckets_of home.plan) (λ k below. by-place l k below (nat_le k last) refl)
+    let w = due_inputs home n in
+    let l = last_below-last (λ k. is_overdue w now k || is_reached w k) (buckets_of home.plan) last e in
+    all_fail-none (λ k. is_overdue (due_inputs home m) now k || is_reached (due_inputs home m) k) (buckets_of home.plan) (λ k below. by-place l k below (nat_le k last) refl)
   where
     cases : (k : ℕ) → last < k → (not (is_nil n.closed) ≡ true) ⊎ ((not (is_nil m.closed) ≡ false) ⊎ (complete_upto home n ≤ last)) →
         (not (is_nil n.closed) ≡ true) ⊎ ((not (is_nil m.closed) ≡ false) ⊎ (is_complete home.plan.width (held_by n) k ≡ false))
@@ -137,9 +137,9 @@ processed-none home n m now last place some low e h =
     cases k past (inr (inl f)) = inr (inl f)
     cases k past (inr (inr f)) = inr (inr (incomplete home n k place some (omega (arith, f, past))))
 
-    by-place : IsLast (λ k. is_overdue (due_view home n) now k || is_passed (due_view home n) k) (buckets_of home.plan) last → (k : ℕ) → k < buckets_of home.plan → (b : Bool) → nat_le k last ≡ b →
-        (is_overdue (due_view home m) now k || is_passed (due_view home m) k) ≡ false
-    by-place l k below true f = let view = h.view in let less = le-of k last f in not-due-before (due_view home m) now k (omega (arith, view, less))
+    by-place : IsLast (λ k. is_overdue (due_inputs home n) now k || is_reached (due_inputs home n) k) (buckets_of home.plan) last → (k : ℕ) → k < buckets_of home.plan → (b : Bool) → nat_le k last ≡ b →
+        (is_overdue (due_inputs home m) now k || is_reached (due_inputs home m) k) ≡ false
+    by-place l k below true f = let frontier = h.frontier in let less = le-of k last f in not-due-before (due_inputs home m) now k (omega (arith, frontier, less))
     by-place l k below false f =
         let past : last < k = grind (arith, common_steps) in
         later-none home n m now k h.held (h.stamps k past) (omega (arith, low, past)) (cases k past h.closed) (l.behind k past below)
@@ -151,54 +151,54 @@ due-from false waited true x y e = cc
 due-from false waited false x y e = cc
 
 -- the last due bucket is one of the run, at or past the view's cursor
-pub due-range : (home : Home) (n : PlainNode) (now last : ℕ) → due_at home n now ≡ Some last → (view_cursor n ≤ last) × (last < buckets_of home.plan)
+pub due-range : (home : Home) (n : PlainNode) (now last : ℕ) → due_at home n now ≡ Some last → (node_frontier n ≤ last) × (last < buckets_of home.plan)
 due-range home n now last e =
-    let w = due_view home n in
-    let l = last_below-last (λ k. is_overdue w now k || is_passed w k) (buckets_of home.plan) last e in
-    (le-of (view_cursor n) last (due-from (nat_le (view_cursor n) last) _ w.passing _ _ l.passes), l.below)
+    let w = due_inputs home n in
+    let l = last_below-last (λ k. is_overdue w now k || is_reached w k) (buckets_of home.plan) last e in
+    (le-of (node_frontier n) last (due-from (nat_le (node_frontier n) last) _ w.passing _ _ l.passes), l.below)
 
-closing-closes : (home : Home) (n : PlainNode) (last : ℕ) → view_cursor n ≤ last →
-    let count = last + 1 - view_cursor n in
+closing-closes : (home : Home) (n : PlainNode) (last : ℕ) → node_frontier n ≤ last →
+    let count = last + 1 - node_frontier n in
     let r = stably home n count in
     (not (is_nil n.closed) ≡ true) ⊎ ((not (is_nil (with_closed home (count - r) (after_stable_buckets home r n)).closed) ≡ false) ⊎ (complete_upto home n ≤ last))
 closing-closes home n last low = by-closed n.closed refl
   where
-    by-count : (extra : ℕ) → (from : ℕ) → (n.closed ≡ []) → last + 1 - view_cursor n - stably home n (last + 1 - view_cursor n) ≡ extra →
-        (not (is_nil n.closed) ≡ true) ⊎ ((not (is_nil (n.closed ++ map (bucket_of home (after_stable_buckets home (stably home n (last + 1 - view_cursor n)) n)) (range_with_len from extra))) ≡ false) ⊎ (complete_upto home n ≤ last))
+    by-count : (extra : ℕ) → (from : ℕ) → (n.closed ≡ []) → last + 1 - node_frontier n - stably home n (last + 1 - node_frontier n) ≡ extra →
+        (not (is_nil n.closed) ≡ true) ⊎ ((not (is_nil (n.closed ++ map (bucket_of home (after_stable_buckets home (stably home n (last + 1 - node_frontier n)) n)) (range_with_len from extra))) ≡ false) ⊎ (complete_upto home n ≤ last))
     by-count zero from none e = inr (inl (rw none refl))
     by-count (suc extra) from none e =
         let whole : complete_buckets home n ≡ complete_upto home n - n.cursor = rw none refl in
-        let view : view_cursor n ≡ n.cursor = rw none (omega arith) in
-        inr (inr (omega (arith, whole, view, e, low)))
+        let frontier : node_frontier n ≡ n.cursor = rw none (omega arith) in
+        inr (inr (omega (arith, whole, frontier, e, low)))
 
     by-closed : (closed : List (List Tagged)) → n.closed ≡ closed →
-        (not (is_nil n.closed) ≡ true) ⊎ ((not (is_nil (with_closed home (last + 1 - view_cursor n - stably home n (last + 1 - view_cursor n)) (after_stable_buckets home (stably home n (last + 1 - view_cursor n)) n)).closed) ≡ false) ⊎ (complete_upto home n ≤ last))
-    by-closed [] none = by-count (last + 1 - view_cursor n - stably home n (last + 1 - view_cursor n)) (view_cursor (after_stable_buckets home (stably home n (last + 1 - view_cursor n)) n)) none refl
+        (not (is_nil n.closed) ≡ true) ⊎ ((not (is_nil (with_closed home (last + 1 - node_frontier n - stably home n (last + 1 - node_frontier n)) (after_stable_buckets home (stably home n (last + 1 - node_frontier n)) n)).closed) ≡ false) ⊎ (complete_upto home n ≤ last))
+    by-closed [] none = by-count (last + 1 - node_frontier n - stably home n (last + 1 - node_frontier n)) (node_frontier (after_stable_buckets home (stably home n (last + 1 - node_frontier n)) n)) none refl
     by-closed (b ∷ bs) some = inl (rw some refl)
 
-closing-processed : (home : Home) (n : PlainNode) (last : ℕ) → view_cursor n ≤ last →
-    let count = last + 1 - view_cursor n in
+closing-processed : (home : Home) (n : PlainNode) (last : ℕ) → node_frontier n ≤ last →
+    let count = last + 1 - node_frontier n in
     let r = stably home n count in HasProcessed home n (with_closed home (count - r) (after_stable_buckets home r n)) last
 closing-processed home n last low =
-    let count = last + 1 - view_cursor n in
+    let count = last + 1 - node_frontier n in
     let r = stably home n count in
     let m = after_stable_buckets home r n in
-    let more = map (bucket_of home m) (range_with_len (view_cursor m) (count - r)) in
-    let many : length more ≡ count - r = length-map (range_with_len (view_cursor m) (count - r)) (bucket_of home m) ∙ length-range_with_len (view_cursor m) (count - r) in
+    let more = map (bucket_of home m) (range_with_len (node_frontier m) (count - r)) in
+    let many : length more ≡ count - r = length-map (range_with_len (node_frontier m) (count - r)) (bucket_of home m) ∙ length-range_with_len (node_frontier m) (count - r) in
     record {
       held = refl;
-      view = omega (arith, many, length-append n.closed more, low);
+      frontier = omega (arith, many, length-append n.closed more, low);
       stamps = λ k past. stamp-kept (n.cursor + r) k n.stamps (omega (arith, past, low));
       closed = closing-closes home n last low;
     }
 
 failed-processed : (home : Home) (n m : PlainNode) (last : ℕ) → HasProcessed home n m last → HasProcessed home n (with_failure m) last
-failed-processed home n m last h = record { held = h.held; view = h.view; stamps = h.stamps; closed = h.closed }
+failed-processed home n m last h = record { held = h.held; frontier = h.frontier; stamps = h.stamps; closed = h.closed }
 
 pub processed_upto-none : (home : Home) (n : PlainNode) (now last : ℕ) → IsPlace home → 0 < length (held_by n) → due_at home n now ≡ Some last → due_at home (processing_upto home last n).after now ≡ None
 processed_upto-none home n now last place some e =
     let low = (due-range home n now last e).0 in
-    let count = last + 1 - view_cursor n in
+    let count = last + 1 - node_frontier n in
     let r = stably home n count in
     let h = failed-processed home n (with_closed home (count - r) (after_stable_buckets home r n)) last (closing-processed home n last low) in
-    processed-none home n (processing_upto home last n).after now last place some low e (record { held = h.held; view = h.view; stamps = h.stamps; closed = h.closed })
+    processed-none home n (processing_upto home last n).after now last place some low e (record { held = h.held; frontier = h.frontier; stamps = h.stamps; closed = h.closed })

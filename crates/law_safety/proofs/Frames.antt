@@ -12,7 +12,7 @@ use Rattle.dpc_model.specs.declared.tuples.Tuple.{Tuple}
 use Rattle.dpc_model.specs.declared.tuples.Tagged.{Tagged}
 use Rattle.dpc_model.specs.declared.plans.Plan.{Plan}
 use Rattle.dpc_model.specs.declared.plans.StreamRef.{StreamRef}
-use Rattle.node_model.specs.Nodes.{Home, PlainNode, spec_of, streams_of, held_by, inputs_done, view_cursor, out_stable, out_view, out_tentative}
+use Rattle.node_model.specs.Nodes.{Home, PlainNode, spec_of, streams_of, held_by, inputs_done, node_frontier, out_stable, out_with_closed, out_tentative}
 use Rattle.node_model.specs.NodeSteps.{after_clock, with_marks_ended}
 use Rattle.world_model.specs.Safe.{IsSafeNode}
 use Rattle.world_model.specs.Orderly.{IsOrderlyNode, is_port_sound, are_ports_sound, waits_to_ask, holds_nothing}
@@ -39,17 +39,17 @@ out_stable-held home n m held cursor =
     ap (λ (tss : List (List Tuple)). fragment_value (spec_of home).ops (serial tss) (m.cursor * home.plan.width)) (inputs_done-held home n m held cursor)
     ∙ ap (λ (c : ℕ). fragment_value (spec_of home).ops (serial (inputs_done home n)) (c * home.plan.width)) cursor
 
-pub out_view-held : (home : Home) (n m : PlainNode) → held_by m ≡ held_by n → m.cursor ≡ n.cursor → m.closed ≡ n.closed → out_view home m ≡ out_view home n
-unfolding out_view
-out_view-held home n m held cursor closed =
-    ap (λ (tss : List (List Tuple)). fragment_value (spec_of home).ops (serial tss ++ all_of m.closed) (view_cursor m * home.plan.width)) (inputs_done-held home n m held cursor)
+pub out_with_closed-held : (home : Home) (n m : PlainNode) → held_by m ≡ held_by n → m.cursor ≡ n.cursor → m.closed ≡ n.closed → out_with_closed home m ≡ out_with_closed home n
+unfolding out_with_closed
+out_with_closed-held home n m held cursor closed =
+    ap (λ (tss : List (List Tuple)). fragment_value (spec_of home).ops (serial tss ++ all_of m.closed) (node_frontier m * home.plan.width)) (inputs_done-held home n m held cursor)
     ∙ ap (λ (b : List (List Tagged)). fragment_value (spec_of home).ops (serial (inputs_done home n) ++ all_of b) ((m.cursor + length b) * home.plan.width)) closed
     ∙ ap (λ (c : ℕ). fragment_value (spec_of home).ops (serial (inputs_done home n) ++ all_of n.closed) ((c + length n.closed) * home.plan.width)) cursor
 
 pub out_tentative-held : (home : Home) (n m : PlainNode) → held_by m ≡ held_by n → m.cursor ≡ n.cursor → m.closed ≡ n.closed → out_tentative home m ≡ out_tentative home n
 unfolding out_tentative
 out_tentative-held home n m held cursor closed =
-    rw (out_stable-held home n m held cursor, out_view-held home n m held cursor closed) refl
+    rw (out_stable-held home n m held cursor, out_with_closed-held home n m held cursor closed) refl
 
 pub IsSafeNode-held : (home : Home) (n m : PlainNode) → held_by m ≡ held_by n → m.cursor ≡ n.cursor → m.base ≡ n.base → m.recovering ≡ n.recovering → IsSafeNode home n → IsSafeNode home m
 IsSafeNode-held home n m held cursor base recovering safe =

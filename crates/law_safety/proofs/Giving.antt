@@ -23,8 +23,8 @@ use Rattle.dpc_model.specs.declared.plans.StreamRef.{StreamRef}
 use Rattle.dpc_model.specs.declared.plans.StreamRef.TheVariants.{Frag}
 use Rattle.node_model.specs.Mails.{mail, Stepped}
 use Rattle.dpc_model.specs.NodeStates.{is_stable, is_up_failure, is_stabilization}
-use Rattle.node_model.specs.Nodes.{Home, PlainNode, spec_of, own_readers, inputs_done, view_cursor, buckets_of, out_stable, out_view, out_tentative, out_bound, out_passed, shown, complete_upto, ready, due_at}
-use Rattle.node_model.specs.NodeSteps.{stably, silent_step, give, given_by, given_stable, enter_step, after_stable_buckets, with_closed, with_failure, processing_upto, processing_step, after_last_correction, mill_step, on_subscribe}
+use Rattle.node_model.specs.Nodes.{Home, PlainNode, spec_of, own_readers, inputs_done, node_frontier, buckets_of, out_stable, out_with_closed, out_tentative, out_bound, out_passed, shown, complete_upto, ready, due_at}
+use Rattle.node_model.specs.NodeSteps.{stably, idle_step, give, given_by, given_stable, enter_step, after_stable_buckets, with_closed, with_failure, processing_upto, processing_step, after_last_correction, mill_step, on_subscribe}
 use Rattle.world_model.specs.Safe.{AreTrueItems, IsSafeNode, has_done}
 use Rattle.world_model.specs.Orderly.{fits_stream, item_fits, has_state_of_closed}
 use Rattle.law_safety.proofs.Milling.{advanced-safe, IsSafeNode-same, upto-items-true}
@@ -73,8 +73,8 @@ bound-within home n place safe up =
 
 pub passed-within : (home : Home) (n : PlainNode) → IsPlace home → AreClosed home n.cursor n.closed → IsPassedWithin home.plan (out_passed home n)
 passed-within home n place closed =
-    (elim home.plan.passing as (λ b. home.plan.passing ≡ b → IsPassedWithin home.plan (cond (b && not (is_nil n.closed)) (Some (view_cursor n * home.plan.width)) None)) [
-      | true ↦ λ e. elim (not (is_nil n.closed)) as (λ c. IsPassedWithin home.plan (cond c (Some (view_cursor n * home.plan.width)) None)) [
+    (elim home.plan.passing as (λ b. home.plan.passing ≡ b → IsPassedWithin home.plan (cond (b && not (is_nil n.closed)) (Some (node_frontier n * home.plan.width)) None)) [
+      | true ↦ λ e. elim (not (is_nil n.closed)) as (λ c. IsPassedWithin home.plan (cond c (Some (node_frontier n * home.plan.width)) None)) [
         | true ↦ (e, view-within home n place closed)
         | false ↦ tt
       ]
@@ -93,10 +93,10 @@ given_by-fit home most n new any_stable any_closed place up g =
 -- ---- the step that processes buckets
 
 pub processed_upto-good : (home : Home) (a most last : ℕ) (n : PlainNode) → IsActor home a → IsGood home most n → n.recovering ≡ false → is_stabilization n.state ≡ false →
-    view_cursor n ≤ last → last < buckets_of home.plan → IsGoodStep home a most ⊥ (processing_upto home last n)
+    node_frontier n ≤ last → last < buckets_of home.plan → IsGoodStep home a most ⊥ (processing_upto home last n)
 processed_upto-good home a most last n actor g up calm low high =
     let place = actor.place in
-    let count = last + 1 - view_cursor n in
+    let count = last + 1 - node_frontier n in
     let r = stably home n count in
     let m = with_closed home (count - r) (after_stable_buckets home r n) in
     let new = with_failure m in
@@ -111,9 +111,9 @@ processed_upto-good home a most last n actor g up calm low high =
 
 pub processing-good : (home : Home) (a most : ℕ) (n : PlainNode) → IsActor home a → IsGood home most n → n.recovering ≡ false → IsGoodStep home a most ⊥ (processing_step home n)
 processing-good home a most n actor g up =
-    (elim (is_stabilization n.state) as (λ b. is_stabilization n.state ≡ b → IsGoodStep home a most ⊥ (cond b (silent_step n) (elim (due_at home n n.clock) [ None ↦ silent_step n | Some last ↦ processing_upto home last n ]))) [
+    (elim (is_stabilization n.state) as (λ b. is_stabilization n.state ≡ b → IsGoodStep home a most ⊥ (cond b (idle_step n) (elim (due_at home n n.clock) [ None ↦ idle_step n | Some last ↦ processing_upto home last n ]))) [
       | true ↦ λ e. record { after = g; mails = tt }
-      | false ↦ λ e. (elim (due_at home n n.clock) as (λ o. due_at home n n.clock ≡ o → IsGoodStep home a most ⊥ (elim o [ None ↦ silent_step n | Some last ↦ processing_upto home last n ])) [
+      | false ↦ λ e. (elim (due_at home n n.clock) as (λ o. due_at home n n.clock ≡ o → IsGoodStep home a most ⊥ (elim o [ None ↦ idle_step n | Some last ↦ processing_upto home last n ])) [
         | None ↦ λ f. record { after = g; mails = tt }
         | Some last ↦ λ f. let range = due-range home n n.clock last f in processed_upto-good home a most last n actor g up e range.0 range.1
       ]) refl
@@ -150,10 +150,10 @@ entered-good home a most n actor up g =
 -- ---- milling
 
 pub none-tentative : (home : Home) (n : PlainNode) → n.closed ≡ [] → out_tentative home n ≡ []
-unfolding out_tentative out_view out_stable
+unfolding out_tentative out_with_closed out_stable
 none-tentative home n none =
     let whole : serial (inputs_done home n) ++ all_of n.closed ≡ serial (inputs_done home n) = rw none (append-nil (serial (inputs_done home n))) in
-    let view : view_cursor n ≡ n.cursor = rw none (omega arith) in
+    let view : node_frontier n ≡ n.cursor = rw none (omega arith) in
     rw (whole, view) (drop-all (fragment_value (spec_of home).ops (serial (inputs_done home n)) (n.cursor * home.plan.width)))
   where
     drop-all : (ts : List Tuple) → drop (length ts) ts ≡ []

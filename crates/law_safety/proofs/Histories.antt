@@ -5,7 +5,7 @@ use Rattle.std.proofs.lemmas.List.{append-nil}
 use Rattle.std.proofs.lemmas.Option.{slice_get_within}
 use Rattle.dpc_lists.specs.Lists.{nth}
 use Rattle.dpc_model.specs.Inlets.{same_sess, is_newer}
-use Rattle.dpc_model.specs.Sessions.{Shown, link_of, is_newer_than_kept, with_batch, batches_from}
+use Rattle.dpc_model.specs.Sessions.{Shown, tally_of, is_newer_than_kept, with_batch, batches_from}
 use Rattle.dpc_model.specs.declared.sessions.Sub.{Sub}
 use Rattle.dpc_model.specs.declared.tuples.Item.{Item}
 use Rattle.dpc_model.specs.declared.messages.Sess.{Sess}
@@ -22,7 +22,7 @@ use Rattle.law_safety.proofs.Tests.{both-of, eq-of, eq-test}
 -- and q the subscription that opened it
 pub record HoldsSession (plan : Plan) (s : StreamRef) (x : Shown) (h : Sess → List Item) (q : Sess → Subscribe) (sub : Sub) : Type 0 where
   -- whoever asked for the open session has the sender's view after all that was sent in it
-  pub open_one : (l : Sess × ℕ) → link_of sub ≡ Some l → LeavesView plan s (q l.0) x (h l.0)
+  pub open_one : (l : Sess × ℕ) → tally_of sub ≡ Some l → LeavesView plan s (q l.0) x (h l.0)
   -- nothing was sent in a newer one
   pub newer : (u : Sess) → is_newer_than_kept u sub.kept ≡ true → h u ≡ []
 
@@ -37,7 +37,7 @@ carried-others readers a k j u items [] distinct less few = refl
 carried-others readers a k j u items (sub ∷ subs) distinct less few =
     let l : Channel = record { sender = a; reader = nth 0 readers k; sess = u } in
     let rest = carried-others readers a k (j + 1) u items subs distinct (omega (arith, less)) (omega (arith, few)) in
-    elim (link_of sub) as (λ o. carried l (map (from a) (to_readers readers (elim o [ None ↦ batches_from (j + 1) items subs | Some v ↦ (j, message.Batch v.0 v.1 items) ∷ batches_from (j + 1) items subs ]))) ≡ []) [
+    elim (tally_of sub) as (λ o. carried l (map (from a) (to_readers readers (elim o [ None ↦ batches_from (j + 1) items subs | Some v ↦ (j, message.Batch v.0 v.1 items) ∷ batches_from (j + 1) items subs ]))) ≡ []) [
       | None ↦ rest
       | Some v ↦
           let other : (nth 0 readers j == nth 0 readers k) ≡ false = apart (nth 0 readers j == nth 0 readers k) refl in
@@ -58,7 +58,7 @@ given_in (Some l) u items = cond (same_sess l.0 u) items []
 
 -- to the reader of an open session goes one batch of the items
 pub carried-given : (readers : List ℕ) (a j i : ℕ) (u : Sess) (items : List Item) (subs : List Sub) (sub : Sub) → AreDistinct readers → j + length subs ≤ length readers → slice_get subs i ≡ Some sub →
-    carried (record { sender = a; reader = nth 0 readers (j + i); sess = u }) (map (from a) (to_readers readers (batches_from j items subs))) ≡ given_in (link_of sub) u items
+    carried (record { sender = a; reader = nth 0 readers (j + i); sess = u }) (map (from a) (to_readers readers (batches_from j items subs))) ≡ given_in (tally_of sub) u items
 carried-given readers a j i u items [] sub distinct few e = cc
 carried-given readers a j zero u items (s ∷ subs) sub distinct few e =
     let none : j + 0 ≡ j = omega arith in
@@ -67,19 +67,19 @@ carried-given readers a j zero u items (s ∷ subs) sub distinct few e =
     let rest = carried-others readers a j (j + 1) u items subs distinct (omega arith) (omega (arith, few)) in
     let mine : (a == a) ≡ true = eq-test a a refl in
     let here : (nth 0 readers j == nth 0 readers j) ≡ true = eq-test (nth 0 readers j) (nth 0 readers j) refl in
-    rw (none, ← same) (elim (link_of s) as (λ o. carried l (map (from a) (to_readers readers (elim o [ None ↦ batches_from (j + 1) items subs | Some v ↦ (j, message.Batch v.0 v.1 items) ∷ batches_from (j + 1) items subs ]))) ≡ given_in o u items) [
+    rw (none, ← same) (elim (tally_of s) as (λ o. carried l (map (from a) (to_readers readers (elim o [ None ↦ batches_from (j + 1) items subs | Some v ↦ (j, message.Batch v.0 v.1 items) ∷ batches_from (j + 1) items subs ]))) ≡ given_in o u items) [
       | None ↦ rest
       | Some v ↦ rw (mine, here, rest) (append-nil (cond (same_sess v.0 u) items []))
     ])
 carried-given readers a j (suc i) u items (s ∷ subs) sub distinct few e =
     let next : j + suc i ≡ j + 1 + i = omega arith in
     let l : Channel = record { sender = a; reader = nth 0 readers (j + suc i); sess = u } in
-    let rest : carried l (map (from a) (to_readers readers (batches_from (j + 1) items subs))) ≡ given_in (link_of sub) u items =
+    let rest : carried l (map (from a) (to_readers readers (batches_from (j + 1) items subs))) ≡ given_in (tally_of sub) u items =
     rw next (carried-given readers a (j + 1) i u items subs sub distinct (omega (arith, few)) e) in
     let within = slice_get_within subs i sub e in
     let other : (nth 0 readers j == nth 0 readers (j + suc i)) ≡ false = apart within (nth 0 readers j == nth 0 readers (j + suc i)) refl in
     let mine : (a == a) ≡ true = eq-test a a refl in
-    elim (link_of s) as (λ o. carried l (map (from a) (to_readers readers (elim o [ None ↦ batches_from (j + 1) items subs | Some v ↦ (j, message.Batch v.0 v.1 items) ∷ batches_from (j + 1) items subs ]))) ≡ given_in (link_of sub) u items) [
+    elim (tally_of s) as (λ o. carried l (map (from a) (to_readers readers (elim o [ None ↦ batches_from (j + 1) items subs | Some v ↦ (j, message.Batch v.0 v.1 items) ∷ batches_from (j + 1) items subs ]))) ≡ given_in (tally_of sub) u items) [
       | None ↦ rest
       | Some v ↦ rw (mine, other) rest
     ]
@@ -106,19 +106,19 @@ pub newer-other : (u v : Sess) → is_newer u v ≡ true → same_sess v u ≡ f
 newer-other u v e = grind (arith, common_steps)
 
 -- an open session stays open, with one batch more
-counted-link : (sub : Sub) (l : Sess × ℕ) → link_of (with_batch sub) ≡ Some l → (n : ℕ) × (link_of sub ≡ Some (l.0, n))
-counted-link sub l e = by-parts sub.kept sub.is_open refl refl e
+counted-tally : (sub : Sub) (l : Sess × ℕ) → tally_of (with_batch sub) ≡ Some l → (n : ℕ) × (tally_of sub ≡ Some (l.0, n))
+counted-tally sub l e = by-parts sub.kept sub.is_open refl refl e
   where
     first-same : (v : Sess) (n : ℕ) → ◌≡◌ {A = Option (Sess × ℕ)} (Some (v, n)) (Some l) → v ≡ l.0
     first-same v n f = let same : ◌≡◌ {A = Sess × ℕ} (v, n) l = cc in ap (λ (x : Sess × ℕ). x.0) same
 
-    by-parts : (kept : Option Sess) (is_open : Bool) → sub.kept ≡ kept → sub.is_open ≡ is_open → link_of (with_batch sub) ≡ Some l → (n : ℕ) × (link_of sub ≡ Some (l.0, n))
-    by-parts None true f g h = let none : link_of (with_batch sub) ≡ None = rw (g, f) refl in cc
-    by-parts None false f g h = let none : link_of (with_batch sub) ≡ None = rw (g, f) refl in cc
-    by-parts (Some v) false f g h = let none : link_of (with_batch sub) ≡ None = rw (g, f) refl in cc
+    by-parts : (kept : Option Sess) (is_open : Bool) → sub.kept ≡ kept → sub.is_open ≡ is_open → tally_of (with_batch sub) ≡ Some l → (n : ℕ) × (tally_of sub ≡ Some (l.0, n))
+    by-parts None true f g h = let none : tally_of (with_batch sub) ≡ None = rw (g, f) refl in cc
+    by-parts None false f g h = let none : tally_of (with_batch sub) ≡ None = rw (g, f) refl in cc
+    by-parts (Some v) false f g h = let none : tally_of (with_batch sub) ≡ None = rw (g, f) refl in cc
     by-parts (Some v) true f g h =
-        let now : link_of (with_batch sub) ≡ Some (v, sub.batches + 1) = rw (g, f) refl in
-        let old : link_of sub ≡ Some (v, sub.batches) = rw (f, g) refl in
+        let now : tally_of (with_batch sub) ≡ Some (v, sub.batches + 1) = rw (g, f) refl in
+        let old : tally_of sub ≡ Some (v, sub.batches) = rw (f, g) refl in
         (sub.batches, old ∙ ap (λ (w : Sess). Some (w, sub.batches)) (first-same v (sub.batches + 1) (sym now ∙ h)))
 
 -- what items do to every reader of a session
@@ -131,12 +131,12 @@ pub gave-held : (plan : Plan) (s : StreamRef) (x y : Shown) (items : List Item) 
     HoldsSession plan s y (λ u. h u ++ carried (record { sender = a; reader = nth 0 readers k; sess = u }) (map (from a) (to_readers readers (batches_from 0 items subs)))) q (with_batch sub)
 gave-held plan s x y items h q readers a k subs sub distinct few at carries held =
     let zero_on : 0 + k ≡ k = omega arith in
-    let given : (u : Sess) → carried (record { sender = a; reader = nth 0 readers k; sess = u }) (map (from a) (to_readers readers (batches_from 0 items subs))) ≡ given_in (link_of sub) u items =
+    let given : (u : Sess) → carried (record { sender = a; reader = nth 0 readers k; sess = u }) (map (from a) (to_readers readers (batches_from 0 items subs))) ≡ given_in (tally_of sub) u items =
     λ u. (rw zero_on at (carried-given readers a 0 k u items subs sub distinct (omega (arith, few)) at)) in
     record {
       open_one = λ l e.
-          let old = counted-link sub l e in
-          let all : given_in (link_of sub) l.0 items ≡ items = rw (old.1, same-self l.0) refl in
+          let old = counted-tally sub l e in
+          let all : given_in (tally_of sub) l.0 items ≡ items = rw (old.1, same-self l.0) refl in
           rw (given l.0, all) (carries (q l.0) (h l.0) (held.open_one (l.0, old.0) old.1));
       newer = λ u e.
           let kept : is_newer_than_kept u sub.kept ≡ true = kept-same (λ o. is_newer_than_kept u o) e in
@@ -150,10 +150,10 @@ gave-held plan s x y items h q readers a k subs sub distinct few at carries held
         kept-is true = refl
         kept-is false = refl
 
-    none-newer : (u : Sess) → is_newer_than_kept u sub.kept ≡ true → given_in (link_of sub) u items ≡ []
+    none-newer : (u : Sess) → is_newer_than_kept u sub.kept ≡ true → given_in (tally_of sub) u items ≡ []
     none-newer u e = by-parts sub.kept sub.is_open refl refl e
       where
-        by-parts : (kept : Option Sess) (is_open : Bool) → sub.kept ≡ kept → sub.is_open ≡ is_open → is_newer_than_kept u sub.kept ≡ true → given_in (link_of sub) u items ≡ []
+        by-parts : (kept : Option Sess) (is_open : Bool) → sub.kept ≡ kept → sub.is_open ≡ is_open → is_newer_than_kept u sub.kept ≡ true → given_in (tally_of sub) u items ≡ []
         by-parts None b f o n = rw f refl
         by-parts (Some v) false f o n = rw (f, o) refl
         by-parts (Some v) true f o n = let newer : is_newer u v ≡ true = rw f at n in rw (f, o, newer-other u v newer) refl

@@ -53,7 +53,7 @@ reading-holds plan s r r' (Tentative t) h true_i e =
       | false ↦ λ f. cc
     ]) e
 reading-holds plan s r r' (Passed b) h true_i e =
-    (elim (nat_lt r.bound b && nat_lt r.soft b) as (λ c. cond c (Taken (record r { soft = b })) Skipped ≡ Taken r' → HoldsOf plan s r') [
+    (elim (nat_lt r.bound b && nat_lt r.passed b) as (λ c. cond c (Taken (record r { passed = b })) Skipped ≡ Taken r' → HoldsOf plan s r') [
       | true ↦ λ f. HoldsOf-same plan s r r' (cc) (cc) h
       | false ↦ λ f. cc
     ]) e

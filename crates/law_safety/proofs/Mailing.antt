@@ -4,7 +4,7 @@ use Rattle.std.specs.Prelude.{IsTrue}
 use Rattle.dpc_lists.specs.Lists.{nth, list_all, insert_by}
 use Rattle.dpc_model.specs.Actors.{role_of, reads_from, are_peers, readers_of}
 use Rattle.dpc_model.specs.declared.actors.Role.TheVariants.{Source as IsSource, Node as IsNode}
-use Rattle.dpc_model.specs.Sessions.{link_of, batches_from, batches_of, Given, given_items, stable_items, boundary_item, tentative_items, passed_item, item_if}
+use Rattle.dpc_model.specs.Sessions.{tally_of, batches_from, batches_of, Given, given_items, stable_items, boundary_item, tentative_items, passed_item, item_if}
 use Rattle.dpc_model.specs.declared.sessions.Sub.{Sub}
 use Rattle.dpc_model.specs.declared.tuples.Tuple.{Tuple}
 use Rattle.dpc_model.specs.declared.tuples.Item.{Item}
@@ -128,7 +128,7 @@ pub batches_from-mails : (plan : Plan) (a : ℕ) (s : StreamRef) (done : Type 0)
 batches_from-mails plan a s done items sender truth fits surely k [] few = tt
 batches_from-mails plan a s done items sender truth fits surely k (sub ∷ subs) few =
     let rest = batches_from-mails plan a s done items sender truth fits surely (k + 1) subs (omega (arith, few)) in
-    elim (link_of sub) as (λ o. AreMails plan a done (to_readers (readers_of plan s) (elim o [
+    elim (tally_of sub) as (λ o. AreMails plan a done (to_readers (readers_of plan s) (elim o [
       | None ↦ batches_from (k + 1) items subs
       | Some l ↦ (k, message.Batch l.0 l.1 items) ∷ batches_from (k + 1) items subs
     ]))) [

@@ -15,7 +15,7 @@ use Rattle.dpc_model.specs.declared.plans.StreamRef.TheVariants.{Frag}
 use Rattle.dpc_model.proofs.IdealCausality.{cut-ideal, cut-ideal_upto}
 use Rattle.dpc_model.proofs.Order.{ideal_upto-InOrder}
 use Rattle.dpc_model.proofs.Prefixes.{cut-beginning}
-use Rattle.node_model.specs.Nodes.{Home, PlainNode, held_by, view_cursor, out_stable, out_view, out_tentative, out_bound, out_passed, shown, bucket_of}
+use Rattle.node_model.specs.Nodes.{Home, PlainNode, held_by, node_frontier, out_stable, out_with_closed, out_tentative, out_bound, out_passed, shown, bucket_of}
 use Rattle.node_model.specs.NodeSteps.{stably, given_by, given_stable, after_stable_buckets, with_closed, with_failure}
 use Rattle.world_model.specs.SessionLaw.{bound_of}
 use Rattle.law_safety.proofs.Outputs.{ideal-InOrder}
@@ -43,7 +43,7 @@ earlier plan s b b' checked low = rw (← cut-ideal_upto plan s b b' checked.sou
 pub clear-shown : (home : Home) (n : PlainNode) → n.closed ≡ [] → IsClear (shown home n)
 clear-shown home n none = (none-tentative home n none, no-passed home.plan.passing)
   where
-    no-passed : (b : Bool) → cond (b && not (is_nil n.closed)) (Some (view_cursor n * home.plan.width)) None ≡ None
+    no-passed : (b : Bool) → cond (b && not (is_nil n.closed)) (Some (node_frontier n * home.plan.width)) None ≡ None
     no-passed true = rw none refl
     no-passed false = refl
 
@@ -88,9 +88,9 @@ drop-same xs ys e = ap (λ (zs : List _). drop (length xs) zs) e ∙ all xs
     all [] = refl
     all (x ∷ xs) = all xs
 
-tentative-prefix : (home : Home) (n m : PlainNode) → out_stable home m ≡ out_stable home n → IsPrefixOf (out_view home n) (out_view home m) → IsPrefixOf (out_tentative home n) (out_tentative home m)
+tentative-prefix : (home : Home) (n m : PlainNode) → out_stable home m ≡ out_stable home n → IsPrefixOf (out_with_closed home n) (out_with_closed home m) → IsPrefixOf (out_tentative home n) (out_tentative home m)
 unfolding out_tentative
-tentative-prefix home n m same p = rw same (drop-prefix (length (out_stable home n)) (out_view home n) (out_view home m) p)
+tentative-prefix home n m same p = rw same (drop-prefix (length (out_stable home n)) (out_with_closed home n) (out_with_closed home m) p)
 
 -- a node after r buckets more were processed stably, and others closed
 pub record HasGone (home : Home) (n m : PlainNode) (r : ℕ) (more : List (List Tagged)) : Type 0 where
@@ -134,7 +134,7 @@ module _ (home : Home) (most : ℕ) (n m : PlainNode) (r : ℕ) (more : List (Li
           let same : m.cursor ≡ n.cursor = omega (arith, c, e) in
           tentative-prefix home n m (gone-same e) (view-continues home most n m more place g.safe g.orderly (closed-of home m k.orderly.closed) (inputs_done-held home n m h.held same) same h.closed)
 
-  gone-view : view_cursor n ≤ view_cursor m
+  gone-view : node_frontier n ≤ node_frontier m
   gone-view = let c = h.cursor in let long = ap length h.closed ∙ length-append n.closed more in omega (arith, c, long)
 
   gone-passed : (b : Bool) → nat_lt 0 (length more) ≡ b → IsPassedStep (shown home n) (shown home m) (cond b (out_passed home m) None)
@@ -143,7 +143,7 @@ module _ (home : Home) (most : ℕ) (n m : PlainNode) (r : ℕ) (more : List (Li
       view_time : PlainNode → ℕ
       view_time x = (x.cursor + length x.closed) * home.plan.width
 
-      past : view_cursor n ≤ view_cursor m → (b : Bool) → IsPast (view_cursor m * home.plan.width) (cond b (Some (view_cursor n * home.plan.width)) None)
+      past : node_frontier n ≤ node_frontier m → (b : Bool) → IsPast (node_frontier m * home.plan.width) (cond b (Some (node_frontier n * home.plan.width)) None)
       past low true = grind (arith, common_steps)
       past low false = tt
 
@@ -192,7 +192,7 @@ module _ (home : Home) (most : ℕ) (n m : PlainNode) (r : ℕ) (more : List (Li
 
 -- sessions are no part of what is shown, nor are the state of asks and the base of later use
 pub shown-subs : (home : Home) (n : PlainNode) (subs : List Sub) → shown home (record n { subs = subs }) ≡ shown home n
-unfolding out_stable out_view out_tentative
+unfolding out_stable out_with_closed out_tentative
 shown-subs home n subs = refl
 
 lt-gap : (r count : ℕ) → nat_lt r count ≡ nat_lt 0 (count - r)
@@ -200,18 +200,18 @@ lt-gap r count = grind (arith, common_steps)
 
 -- the step of a tick that processes buckets
 pub processed-step : (home : Home) (most last : ℕ) (n : PlainNode) → IsPlace home → n.recovering ≡ false → IsGood home most n →
-    let count = last + 1 - view_cursor n in
+    let count = last + 1 - node_frontier n in
     let r = stably home n count in
     let new = with_failure (with_closed home (count - r) (after_stable_buckets home r n)) in
     IsGood home most new → IsViewStep home.plan (Frag home.frag) (shown home n) (shown home new) (given_by home n new (nat_lt 0 r) (nat_lt r count))
 processed-step home most last n place up g good =
-    let count = last + 1 - view_cursor n in
+    let count = last + 1 - node_frontier n in
     let r = stably home n count in
     let m = with_closed home (count - r) (after_stable_buckets home r n) in
     let new = with_failure m in
-    let more = map (bucket_of home (after_stable_buckets home r n)) (range_with_len (view_cursor (after_stable_buckets home r n)) (count - r)) in
+    let more = map (bucket_of home (after_stable_buckets home r n)) (range_with_len (node_frontier (after_stable_buckets home r n)) (count - r)) in
     let many : length more ≡ count - r =
-    length-map (range_with_len (view_cursor (after_stable_buckets home r n)) (count - r)) (bucket_of home (after_stable_buckets home r n)) ∙ length-range_with_len (view_cursor (after_stable_buckets home r n)) (count - r) in
+    length-map (range_with_len (node_frontier (after_stable_buckets home r n)) (count - r)) (bucket_of home (after_stable_buckets home r n)) ∙ length-range_with_len (node_frontier (after_stable_buckets home r n)) (count - r) in
     let gone : HasGone home n new r more = record { held = refl; cursor = refl; closed = refl; none = stably-open home n count } in
     let same : nat_lt 0 (length more) ≡ nat_lt r count = ap (λ (l : ℕ). nat_lt 0 l) many ∙ sym (lt-gap r count) in
     subst (λ (b : Bool). IsViewStep home.plan (Frag home.frag) (shown home n) (shown home new) (given_by home n new (nat_lt 0 r) b)) same

@@ -18,7 +18,7 @@ use Rattle.dpc_model.proofs.FragmentValues.{nth-push, nth-pushed, length-push}
 use Rattle.dpc_model.proofs.IdealCausality.{cut-fragment_value}
 use Rattle.dpc_model.proofs.Buckets.{lies-below}
 use Rattle.dpc_model.specs.Engines.{lies_in, is_serial}
-use Rattle.node_model.specs.Nodes.{Home, PlainNode, no_fragment, spec_of, streams_of, held_by, inputs_done, view_cursor, buckets_of, out_stable, out_view, out_tentative}
+use Rattle.node_model.specs.Nodes.{Home, PlainNode, no_fragment, spec_of, streams_of, held_by, inputs_done, node_frontier, buckets_of, out_stable, out_with_closed, out_tentative}
 use Rattle.world_model.specs.Safe.{IsSafeNode}
 use Rattle.world_model.specs.Orderly.{IsOrderlyNode, has_columns, fits_port, fits_stream, port_columns}
 use Rattle.law_safety.proofs.Milling.{reaches-end}
@@ -157,30 +157,30 @@ closed-lies width cs c i top (b ∷ closed) few h =
 
 -- the whole of what a node has processed, also as it stands
 pub view-lies : (home : Home) (most : ℕ) (n : PlainNode) → IsPlace home → IsSafeNode home n → IsOrderlyNode home most n →
-    Lies (view_cursor n * home.plan.width) (port_columns home) (serial (inputs_done home n) ++ all_of n.closed)
+    Lies (node_frontier n * home.plan.width) (port_columns home) (serial (inputs_done home n) ++ all_of n.closed)
 view-lies home most n place safe o =
     let w = home.plan.width in
-    let later : n.cursor * w ≤ view_cursor n * w = grind (arith, common_steps) in
+    let later : n.cursor * w ≤ node_frontier n * w = grind (arith, common_steps) in
     let closed = closed-of home n o.closed in
-    lies-append (view_cursor n * w) (port_columns home) (serial (inputs_done home n)) (all_of n.closed)
+    lies-append (node_frontier n * w) (port_columns home) (serial (inputs_done home n)) (all_of n.closed)
     (record {
-      below = all-sort (is_below_tag (view_cursor n * w)) (λ (x : Tagged). x.tuple.stime) (tagged_from 0 (inputs_done home n)) (inputs-below (view_cursor n * w) (n.cursor * w) 0 n.ports later);
+      below = all-sort (is_below_tag (node_frontier n * w)) (λ (x : Tagged). x.tuple.stime) (tagged_from 0 (inputs_done home n)) (inputs-below (node_frontier n * w) (n.cursor * w) 0 n.ports later);
       columns = serial-columns (port_columns home) (inputs_done home n) (inputs-columns (n.cursor * w) (port_columns home) n.ports (node-columns home most n place.checked safe o));
     })
-    (closed-lies w (port_columns home) n.cursor 0 (view_cursor n) n.closed (omega arith) closed.placed)
+    (closed-lies w (port_columns home) n.cursor 0 (node_frontier n) n.closed (omega arith) closed.placed)
 
-pub view-within : (home : Home) (n : PlainNode) → IsPlace home → AreClosed home n.cursor n.closed → view_cursor n * home.plan.width ≤ home.plan.end
+pub view-within : (home : Home) (n : PlainNode) → IsPlace home → AreClosed home n.cursor n.closed → node_frontier n * home.plan.width ≤ home.plan.end
 view-within home n place closed =
     let whole = place.checked.whole in
     let few = closed.within in
-    let grown : view_cursor n * home.plan.width ≤ buckets_of home.plan * home.plan.width = grind (arith, common_steps) in
+    let grown : node_frontier n * home.plan.width ≤ buckets_of home.plan * home.plan.width = grind (arith, common_steps) in
     omega (arith, whole, grown)
 
-pub out_view-fits : (home : Home) (most : ℕ) (n : PlainNode) → IsPlace home → IsSafeNode home n → IsOrderlyNode home most n → list_all (fits_stream home.plan (Frag home.frag)) (out_view home n) ≡ true
-unfolding out_view
-out_view-fits home most n place safe o =
+pub out_with_closed-fits : (home : Home) (most : ℕ) (n : PlainNode) → IsPlace home → IsSafeNode home n → IsOrderlyNode home most n → list_all (fits_stream home.plan (Frag home.frag)) (out_with_closed home n) ≡ true
+unfolding out_with_closed
+out_with_closed-fits home most n place safe o =
     let xs = serial (inputs_done home n) ++ all_of n.closed in
-    let b = view_cursor n * home.plan.width in
+    let b = node_frontier n * home.plan.width in
     let l = view-lies home most n place safe o in
     fits-of home.plan (Frag home.frag) b (fragment_value (spec_of home).ops xs b) (view-within home n place (closed-of home n o.closed))
     (value-below home xs b place l.below) (value-columns home xs b place l.columns)
@@ -195,7 +195,7 @@ drop-fits plan s k ts h = all-drop (fits_stream plan s) k ts h
 
 pub out_tentative-fits : (home : Home) (most : ℕ) (n : PlainNode) → IsPlace home → IsSafeNode home n → IsOrderlyNode home most n → list_all (fits_stream home.plan (Frag home.frag)) (out_tentative home n) ≡ true
 unfolding out_tentative
-out_tentative-fits home most n place safe o = drop-fits home.plan (Frag home.frag) (length (out_stable home n)) (out_view home n) (out_view-fits home most n place safe o)
+out_tentative-fits home most n place safe o = drop-fits home.plan (Frag home.frag) (length (out_stable home n)) (out_with_closed home n) (out_with_closed-fits home most n place safe o)
 
 -- the bound of what a node has processed stably
 pub cursor-within : (home : Home) (n : PlainNode) → IsPlace home → IsSafeNode home n → n.recovering ≡ false → n.cursor * home.plan.width ≤ home.plan.end

@@ -13,7 +13,7 @@ use Rattle.dpc_model.specs.declared.plans.Plan.{Plan}
 use Rattle.dpc_model.specs.declared.plans.StreamRef.{StreamRef}
 use Rattle.dpc_model.specs.declared.plans.StreamRef.TheVariants.{Frag}
 use Rattle.dpc_model.specs.NodeStates.{is_up_failure, is_stabilization}
-use Rattle.node_model.specs.Nodes.{Home, PlainNode, streams_of, held_by, view_cursor, bucket_of, buckets_of, out_stable, out_bound, complete_upto}
+use Rattle.node_model.specs.Nodes.{Home, PlainNode, streams_of, held_by, node_frontier, bucket_of, buckets_of, out_stable, out_bound, complete_upto}
 use Rattle.node_model.specs.NodeSteps.{stably, after_stable_buckets, with_closed, with_failure, give, given_by}
 use Rattle.world_model.specs.Safe.{EachReaches, IsSafeNode, EachHolds, AreTrueItems}
 use Rattle.world_model.specs.Orderly.{IsOrderlyNode, closed_in_place, stamps_in_place, base_follows, has_shape, has_state_of_closed, are_ports_sound, port_columns}
@@ -58,7 +58,7 @@ stably-open home n count = by-closed n.closed
 
 -- ---- the closed buckets
 
-pub closing-closed : (home : Home) (r extra : ℕ) (n : PlainNode) → AreColumns (port_columns home) (held_by n) → AreClosed home n.cursor n.closed → (r ≡ 0) ⊎ (n.closed ≡ []) → view_cursor n + r + extra ≤ buckets_of home.plan →
+pub closing-closed : (home : Home) (r extra : ℕ) (n : PlainNode) → AreColumns (port_columns home) (held_by n) → AreClosed home n.cursor n.closed → (r ≡ 0) ⊎ (n.closed ≡ []) → node_frontier n + r + extra ≤ buckets_of home.plan →
     AreClosed home (n.cursor + r) (with_closed home extra (after_stable_buckets home r n)).closed
 closing-closed home r extra n fits h none few =
     closed-more home (n.cursor + r) extra (held_by n) n.closed fits (moved-closed none) (omega (arith, few))
@@ -101,12 +101,12 @@ open-state n up e h = not-of (is_up_failure n.state) (rw (up, e) at h)
 
 -- the state after r buckets were processed stably and more of them closed
 pub processed-orderly : (home : Home) (most r extra : ℕ) (n : PlainNode) → AreColumns (port_columns home) (held_by n) → IsOrderlyNode home most n → n.recovering ≡ false → is_stabilization n.state ≡ false →
-    (r ≡ 0) ⊎ (n.closed ≡ []) → view_cursor n + r + extra ≤ buckets_of home.plan → IsOrderlyNode home most (with_failure (with_closed home extra (after_stable_buckets home r n)))
+    (r ≡ 0) ⊎ (n.closed ≡ []) → node_frontier n + r + extra ≤ buckets_of home.plan → IsOrderlyNode home most (with_failure (with_closed home extra (after_stable_buckets home r n)))
 unfolding out_stable
 processed-orderly home most r extra n fits o up calm none few =
     let m = with_closed home extra (after_stable_buckets home r n) in
     with_failure-orderly home most m o.ports up
-    (λ e. open-state n up (nil-first n.closed (map (bucket_of home (after_stable_buckets home r n)) (range_with_len (view_cursor (after_stable_buckets home r n)) extra)) e) o.state)
+    (λ e. open-state n up (nil-first n.closed (map (bucket_of home (after_stable_buckets home r n)) (range_with_len (node_frontier (after_stable_buckets home r n)) extra)) e) o.state)
     (closed-test home m (closing-closed home r extra n fits (closed-of home n o.closed) none few))
     (stamps-moved n.cursor r (buckets_of home.plan) n.stamps o.stamps)
     (base-follows n.base _ _) o.shape

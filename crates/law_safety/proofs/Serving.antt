@@ -7,18 +7,18 @@ use Rattle.std.proofs.lemmas.List.Elements.{Contains-append_left, Contains-appen
 use Rattle.std.proofs.Math.Seq.{drop-length}
 use Rattle.std.proofs.lemmas.List.FromFn.{length-range_with_len}
 use Rattle.dpc_lists.specs.Lists.{nth, list_all, range_with_len}
-use Rattle.dpc_model.specs.Replicas.{is_silent}
+use Rattle.dpc_model.specs.Replicas.{is_absent}
 use Rattle.dpc_model.specs.Granting.{with_ask, own_key}
 use Rattle.dpc_model.specs.Ports.{port_after_choice, port_after_tick, without_ended_marks}
-use Rattle.dpc_model.specs.Sessions.{link_of, Given, given_items}
+use Rattle.dpc_model.specs.Sessions.{tally_of, Given, given_items}
 use Rattle.dpc_model.specs.declared.sessions.Sub.{Sub}
 use Rattle.dpc_model.specs.declared.tuples.Item.{Item}
 use Rattle.dpc_model.specs.declared.messages.Sess.{Sess}
 use Rattle.dpc_model.specs.declared.messages.Message.TheVariants as message
 use Rattle.node_model.specs.Mails.{Mail, to_each, Stepped}
 use Rattle.dpc_model.specs.NodeStates.{is_stabilization}
-use Rattle.node_model.specs.Nodes.{Home, PlainNode, streams_of, own_readers, held_by, view_cursor, out_stable, out_view, out_tentative, bucket_of, due_at, wants_to_reconcile}
-use Rattle.node_model.specs.NodeSteps.{stably, silent_step, then_do, given_by, peers_of, peer_watches, after_clock, may_start_afresh, choice_step, ask_step, enter_step, after_stable_buckets, with_closed, with_failure, processing_upto, processing_step, announcing_step, serving_step, snapshot_ask_step, rest_of_tick, with_fresh_start, with_marks_ended, tick_step}
+use Rattle.node_model.specs.Nodes.{Home, PlainNode, streams_of, own_readers, held_by, node_frontier, out_stable, out_with_closed, out_tentative, bucket_of, due_at, wants_to_reconcile}
+use Rattle.node_model.specs.NodeSteps.{stably, idle_step, then_do, given_by, peers_of, peer_watches, after_clock, may_start_afresh, choice_step, ask_step, enter_step, after_stable_buckets, with_closed, with_failure, processing_upto, processing_step, announcing_step, serving_step, snapshot_ask_step, rest_of_tick, with_fresh_start, with_marks_ended, tick_step}
 use Rattle.world_model.specs.Safe.{CarriesLast, Serves, IsSafeNode}
 use Rattle.law_safety.specs.Plans.{IsPlace}
 use Rattle.law_safety.proofs.Processing.{holds-length}
@@ -32,7 +32,7 @@ use Rattle.law_safety.proofs.Ticked.{chosen-held}
 -- ---- what sessions leave
 
 given_by-subs : (home : Home) (x new : PlainNode) (subs : List Sub) (b c : Bool) → given_by home x (record new { subs = subs }) b c ≡ given_by home x new b c
-unfolding out_stable out_view out_tentative
+unfolding out_stable out_with_closed out_tentative
 given_by-subs home x new subs b c = refl
 
 lt-shift : (c r : ℕ) → nat_lt c (c + r) ≡ nat_lt 0 r
@@ -56,20 +56,20 @@ IsGiven home x s = (k : ℕ) → let items = given_items (length (out_stable hom
     in items ≢ [] → IsGivenIn s.sends s.after.subs (own_readers home) items k
 
 processed-items : (home : Home) (x : PlainNode) (last : ℕ) →
-    let count = last + 1 - view_cursor x in
+    let count = last + 1 - node_frontier x in
     let r = stably home x count in
     let s = processing_upto home last x in
     given_items (length (out_stable home x)) (given_by home x s.after (nat_lt x.cursor s.after.cursor) (nat_lt (length x.closed) (length s.after.closed)))
     ≡ given_items (length (out_stable home x)) (given_by home x (with_failure (with_closed home (count - r) (after_stable_buckets home r x))) (nat_lt 0 r) (nat_lt r count))
 processed-items home x last =
-    let count = last + 1 - view_cursor x in
+    let count = last + 1 - node_frontier x in
     let r = stably home x count in
     let m = with_closed home (count - r) (after_stable_buckets home r x) in
     let new = with_failure m in
     let s = processing_upto home last x in
-    let more = map (bucket_of home (after_stable_buckets home r x)) (range_with_len (view_cursor (after_stable_buckets home r x)) (count - r)) in
+    let more = map (bucket_of home (after_stable_buckets home r x)) (range_with_len (node_frontier (after_stable_buckets home r x)) (count - r)) in
     let many : length more ≡ count - r =
-    length-map (range_with_len (view_cursor (after_stable_buckets home r x)) (count - r)) (bucket_of home (after_stable_buckets home r x)) ∙ length-range_with_len (view_cursor (after_stable_buckets home r x)) (count - r) in
+    length-map (range_with_len (node_frontier (after_stable_buckets home r x)) (count - r)) (bucket_of home (after_stable_buckets home r x)) ∙ length-range_with_len (node_frontier (after_stable_buckets home r x)) (count - r) in
     let cursor : nat_lt x.cursor s.after.cursor ≡ nat_lt 0 r = lt-shift x.cursor r in
     let long : length m.closed ≡ length x.closed + (count - r) = length-append x.closed more ∙ ap (λ (l : ℕ). length x.closed + l) many in
     let closed : nat_lt (length x.closed) (length s.after.closed) ≡ nat_lt r count =
@@ -81,7 +81,7 @@ processed-items home x last =
 
 processed-given : (home : Home) (x : PlainNode) (last : ℕ) → IsGiven home x (processing_upto home last x)
 processed-given home x last k some =
-    let count = last + 1 - view_cursor x in
+    let count = last + 1 - node_frontier x in
     let r = stably home x count in
     let new = with_failure (with_closed home (count - r) (after_stable_buckets home r x)) in
     let items = given_items (length (out_stable home x)) (given_by home x new (nat_lt 0 r) (nat_lt r count)) in
@@ -89,7 +89,7 @@ processed-given home x last k some =
     let same = processed-items home x last in
     subst (λ (xs : List Item). IsGivenIn s.sends s.after.subs (own_readers home) xs k) (sym same) (give-given home items new k (λ e. some (same ∙ e)))
 
-silent-given : (home : Home) (x : PlainNode) → IsGiven home x (silent_step x)
+silent-given : (home : Home) (x : PlainNode) → IsGiven home x (idle_step x)
 silent-given home x k some =
     absurd (some (ap (λ (b : Bool). given_items (length (out_stable home x)) (given_by home x x b (nat_lt (length x.closed) (length x.closed)))) (lt-self x.cursor)
     ∙ ap (λ (c : Bool). given_items (length (out_stable home x)) (given_by home x x false c)) (lt-self (length x.closed)) ∙ none-given home x (length (out_stable home x))))
@@ -101,7 +101,7 @@ pub record HasServed (home : Home) (x : PlainNode) (s : Stepped PlainNode) : Typ
 
 processing-served : (home : Home) (x : PlainNode) → IsPlace home → 0 < length (held_by x) → is_stabilization x.state ≡ false → HasServed home x (processing_step home x)
 processing-served home x place some calm =
-    rw calm ((elim (due_at home x x.clock) as (λ o. due_at home x x.clock ≡ o → HasServed home x (elim o [ None ↦ silent_step x | Some last ↦ processing_upto home last x ])) [
+    rw calm ((elim (due_at home x x.clock) as (λ o. due_at home x x.clock ≡ o → HasServed home x (elim o [ None ↦ idle_step x | Some last ↦ processing_upto home last x ])) [
       | None ↦ λ e. record { nothing_due = e; given = silent-given home x }
       | Some last ↦ λ e. record { nothing_due = processed_upto-none home x x.clock last place some e; given = processed-given home x last }
     ]) refl)
@@ -124,9 +124,9 @@ reconciling-same : (home : Home) (x : PlainNode) → is_stabilization (ask_step 
 unfolding enter_step
 reconciling-same home x =
     let asks : Stepped PlainNode = record { after = record x { grants = with_ask x.grants }; sends = to_each (message.Ask (own_key x.grants).0 (own_key x.grants).1) (peers_of home) } in
-    elim (wants_to_reconcile home x && is_none x.grants.promise) as (λ b. is_stabilization (cond b (cond (list_all is_silent (peer_watches home x)) (enter_step home x) asks) (silent_step x)).after.state ≡ false →
-    SameView x (cond b (cond (list_all is_silent (peer_watches home x)) (enter_step home x) asks) (silent_step x)).after × ((cond b (cond (list_all is_silent (peer_watches home x)) (enter_step home x) asks) (silent_step x)).after.clock ≡ x.clock)) [
-      | true ↦ elim (list_all is_silent (peer_watches home x)) as (λ b. is_stabilization (cond b (enter_step home x) asks).after.state ≡ false →
+    elim (wants_to_reconcile home x && is_none x.grants.promise) as (λ b. is_stabilization (cond b (cond (list_all is_absent (peer_watches home x)) (enter_step home x) asks) (idle_step x)).after.state ≡ false →
+    SameView x (cond b (cond (list_all is_absent (peer_watches home x)) (enter_step home x) asks) (idle_step x)).after × ((cond b (cond (list_all is_absent (peer_watches home x)) (enter_step home x) asks) (idle_step x)).after.clock ≡ x.clock)) [
+      | true ↦ elim (list_all is_absent (peer_watches home x)) as (λ b. is_stabilization (cond b (enter_step home x) asks).after.state ≡ false →
           SameView x (cond b (enter_step home x) asks).after × ((cond b (enter_step home x) asks).after.clock ≡ x.clock)) [
             | true ↦ λ e. cc
             | false ↦ λ e. (record { held = refl; cursor = refl; closed = refl }, refl)
@@ -164,7 +164,7 @@ serving-serves home now n x place safe view clock calm =
       given = λ k some sub e.
           let items = items-same home n b.after c.after seen in
           let found = subst (λ (xs : List Item). IsGivenIn c.sends c.after.subs (own_readers home) xs k) (sym items) (served.given k (λ f. some (items ∙ f))) sub e in
-          within (link_of sub) (a.sends ++ b.sends) c.sends (announcing_step home c.after).sends (nth 0 (own_readers home) k) _ found;
+          within (tally_of sub) (a.sends ++ b.sends) c.sends (announcing_step home c.after).sends (nth 0 (own_readers home) k) _ found;
     }
   where
     within : (o : Option (Sess × ℕ)) (before middle behind : List Mail) (to : ℕ) (items : List Item) →

@@ -6,7 +6,7 @@ use Rattle.dpc_model.specs.Streams.{cut, is_below, count_below}
 use Rattle.dpc_model.specs.Fragments.{log_of, ideal, ideal_upto}
 use Rattle.dpc_model.specs.Actors.{role_of, reads_from, are_peers}
 use Rattle.dpc_model.specs.declared.actors.Role.TheVariants.{Source as IsSource}
-use Rattle.dpc_model.specs.Sessions.{no_session, link_of, answer_to, given_items, stable_items, boundary_item}
+use Rattle.dpc_model.specs.Sessions.{no_session, tally_of, answer_to, given_items, stable_items, boundary_item}
 use Rattle.dpc_model.specs.declared.tuples.Tuple.{Tuple}
 use Rattle.dpc_model.specs.declared.messages.Message.{Message}
 use Rattle.dpc_model.specs.declared.messages.Message.TheVariants as message
@@ -186,7 +186,7 @@ source_ticked-step plan a s now x role h =
       fine = record { within = h.within; below = h.below; few = h.few; subs = h.subs };
       subs = refl;
       mails = mails-weaker plan a ⊥ (Unit {0}) (λ e. tt) (source_tick_step plan s now x).sends
-          (zipped-mails plan a (IsSource s) (λ sub. source_beat (link_of sub)) (source_readers plan s) x.subs
+          (zipped-mails plan a (IsSource s) (λ sub. source_beat (tally_of sub)) (source_readers plan s) x.subs
           (λ to sub way. record {
             truth = rw role tt;
             fits = rw role (both-of (reads_from plan (role_of plan to) (IsSource s) || are_peers (IsSource s) (role_of plan to)) true

@@ -14,7 +14,7 @@ use Rattle.dpc_model.specs.declared.messages.Sess.{Sess}
 use Rattle.dpc_model.specs.declared.plans.Plan.{Plan}
 use Rattle.dpc_model.specs.declared.plans.StreamRef.{StreamRef}
 use Rattle.node_model.specs.Nodes.{buckets_of}
-use Rattle.world_model.specs.Orderly.{is_soft_mark, is_tentative_past, fits_stream, item_fits}
+use Rattle.world_model.specs.Orderly.{is_passed_mark, is_tentative_past, fits_stream, item_fits}
 use Rattle.law_safety.specs.Plans.{IsChecked}
 use Rattle.law_safety.proofs.Tests.{both, both-of, le-test, lt-of, lt-test, all-append}
 use Rattle.law_safety.proofs.Closing.{is_stamp_in}
@@ -25,13 +25,13 @@ pub record IsSoundReader (plan : Plan) (s : StreamRef) (r : Reader) : Type 0 whe
   pub fits : list_all (fits_stream plan s) r.tentative ≡ true
 
 -- a reader that is sure is sound
-sure-past : (plan : Plan) (r : Reader) (ts : List Tuple) (b : ℕ) → is_sure r ≡ true → is_tentative_past plan (record { stable = ts; bound = b; tentative = r.tentative; soft = r.soft }) ≡ true
-sure-past plan r ts b e = by-parts r.tentative r.soft e
+sure-past : (plan : Plan) (r : Reader) (ts : List Tuple) (b : ℕ) → is_sure r ≡ true → is_tentative_past plan (record { stable = ts; bound = b; tentative = r.tentative; passed = r.passed }) ≡ true
+sure-past plan r ts b e = by-parts r.tentative r.passed e
   where
-    by-parts : (tentative : List Tuple) (soft : ℕ) → (is_nil tentative && soft == 0) ≡ true →
-        (list_all (λ (t : Tuple). nat_le b t.stime) tentative && is_soft_mark plan b soft) ≡ true
-    by-parts [] soft f = let none : (soft == 0) ≡ true = f in rw none refl
-    by-parts (t ∷ more) soft f = cc
+    by-parts : (tentative : List Tuple) (passed : ℕ) → (is_nil tentative && passed == 0) ≡ true →
+        (list_all (λ (t : Tuple). nat_le b t.stime) tentative && is_passed_mark plan b passed) ≡ true
+    by-parts [] passed f = let none : (passed == 0) ≡ true = f in rw none refl
+    by-parts (t ∷ more) passed f = cc
 
 -- an item that is taken
 reading-sound : (plan : Plan) (s : StreamRef) (r r' : Reader) (i : Item) → IsSoundReader plan s r → item_fits plan s i ≡ true → reading r i ≡ Taken r' → IsSoundReader plan s r'
@@ -47,21 +47,21 @@ reading-sound plan s r r' (Tentative t) h fit e =
     (elim (nat_le r.bound t.stime) as (λ b. nat_le r.bound t.stime ≡ b → cond b (Taken (record r { tentative = push r.tentative t })) Skipped ≡ Taken r' → IsSoundReader plan s r') [
       | true ↦ λ g f.
           let same : r' ≡ record r { tentative = push r.tentative t } = cc in
-          let p = both (list_all (λ (t : Tuple). nat_le r.bound t.stime) r.tentative) (is_soft_mark plan r.bound r.soft) h.past in
+          let p = both (list_all (λ (t : Tuple). nat_le r.bound t.stime) r.tentative) (is_passed_mark plan r.bound r.passed) h.past in
           rw same (record {
-            past = both-of (list_all (λ (t : Tuple). nat_le r.bound t.stime) (r.tentative ++ t ∷ [])) (is_soft_mark plan r.bound r.soft)
+            past = both-of (list_all (λ (t : Tuple). nat_le r.bound t.stime) (r.tentative ++ t ∷ [])) (is_passed_mark plan r.bound r.passed)
                 (all-append (λ (t : Tuple). nat_le r.bound t.stime) r.tentative (t ∷ []) p.0 (both-of (nat_le r.bound t.stime) true g refl)) p.1;
             fits = all-append (fits_stream plan s) r.tentative (t ∷ []) h.fits (both-of (fits_stream plan s t) true fit refl);
           })
       | false ↦ λ g f. cc
     ]) refl e
 reading-sound plan s r r' (Passed b) h fit e =
-    (elim (nat_lt r.bound b) as (λ c. nat_lt r.bound b ≡ c → cond (c && nat_lt r.soft b) (Taken (record r { soft = b })) Skipped ≡ Taken r' → IsSoundReader plan s r') [
-      | true ↦ λ g. elim (nat_lt r.soft b) as (λ c. cond c (Taken (record r { soft = b })) Skipped ≡ Taken r' → IsSoundReader plan s r') [
+    (elim (nat_lt r.bound b) as (λ c. nat_lt r.bound b ≡ c → cond (c && nat_lt r.passed b) (Taken (record r { passed = b })) Skipped ≡ Taken r' → IsSoundReader plan s r') [
+      | true ↦ λ g. elim (nat_lt r.passed b) as (λ c. cond c (Taken (record r { passed = b })) Skipped ≡ Taken r' → IsSoundReader plan s r') [
         | true ↦ λ f.
-            let same : r' ≡ record r { soft = b } = cc in
-            let p = both (list_all (λ (t : Tuple). nat_le r.bound t.stime) r.tentative) (is_soft_mark plan r.bound r.soft) h.past in
-            rw same (record { past = both-of (list_all (λ (t : Tuple). nat_le r.bound t.stime) r.tentative) (is_soft_mark plan r.bound b) p.0 (or-right (b == 0) (plan.passing && nat_lt r.bound b) (both-of plan.passing (nat_lt r.bound b) (both plan.passing (nat_le b plan.end) fit).0 g)); fits = h.fits })
+            let same : r' ≡ record r { passed = b } = cc in
+            let p = both (list_all (λ (t : Tuple). nat_le r.bound t.stime) r.tentative) (is_passed_mark plan r.bound r.passed) h.past in
+            rw same (record { past = both-of (list_all (λ (t : Tuple). nat_le r.bound t.stime) r.tentative) (is_passed_mark plan r.bound b) p.0 (or-right (b == 0) (plan.passing && nat_lt r.bound b) (both-of plan.passing (nat_lt r.bound b) (both plan.passing (nat_le b plan.end) fit).0 g)); fits = h.fits })
         | false ↦ λ f. cc
       ]
       | false ↦ λ g f. cc
@@ -81,7 +81,7 @@ reading-sound plan s r r' (Boundary b m) h fit e =
         ]
       ]) refl
     ]) e
-reading-sound plan s r r' (Undo n) h fit e = let same : r' ≡ record r { tentative = []; soft = 0 } = cc in rw same (record { past = refl; fits = refl })
+reading-sound plan s r r' (Undo n) h fit e = let same : r' ≡ record r { tentative = []; passed = 0 } = cc in rw same (record { past = refl; fits = refl })
 reading-sound plan s r r' RecDone h fit e =
     (elim (is_sure r) as (λ c. cond c (Taken r) NoReading ≡ Taken r' → IsSoundReader plan s r') [
       | true ↦ λ f. let same : r' ≡ r = cc in rw same h

@@ -5,13 +5,13 @@ use Rattle.std.proofs.lemmas.List.{length-map}
 use Rattle.std.specs.List.{filter}
 use Rattle.dpc_lists.specs.Lists.{nth, list_all, least, place_of}
 use Rattle.dpc_model.specs.Inlets.{with_next_session, asked_by}
-use Rattle.dpc_model.specs.Replicas.{rank_of, rank_order, choose, is_silent}
+use Rattle.dpc_model.specs.Replicas.{rank_of, rank_order, choose, is_absent}
 use Rattle.dpc_model.specs.Granting.{with_ask, own_key}
 use Rattle.dpc_model.specs.Actors.{role_of, are_peers, reads_from, senders_of, replicas_of, is_replica_of}
 use Rattle.dpc_model.specs.declared.actors.Role.{Role}
 use Rattle.dpc_model.specs.declared.actors.Role.TheVariants.{Source as IsSource, Node as IsNode, Client as IsClient, Nobody}
 use Rattle.dpc_model.specs.Ports.{Port, held_at, choice_at, must_reopen, port_after_choice, subscriptions, acks_to}
-use Rattle.dpc_model.specs.Sessions.{link_of}
+use Rattle.dpc_model.specs.Sessions.{tally_of}
 use Rattle.dpc_model.specs.declared.sessions.Sub.{Sub}
 use Rattle.dpc_model.specs.declared.messages.Rank.{Rank}
 use Rattle.dpc_model.specs.declared.messages.Message.{Message}
@@ -21,7 +21,7 @@ use Rattle.dpc_model.specs.declared.plans.StreamRef.{StreamRef}
 use Rattle.dpc_model.specs.declared.plans.StreamRef.TheVariants.{Frag}
 use Rattle.node_model.specs.Mails.{mail, mails, in_actor_order, to_each, Stepped}
 use Rattle.node_model.specs.Nodes.{Home, PlainNode, streams_of, own_readers, held_by, out_stable, wants_to_reconcile}
-use Rattle.node_model.specs.NodeSteps.{silent_step, then_do, peers_of, peer_watches, after_clock, may_start_afresh, choice_step, ask_step, enter_step, processing_step, done_at, acks_from, beat_of, beats, announcing_step, serving_step, snapshot_ask_step, rest_of_tick, with_fresh_start, with_marks_ended, tick_step}
+use Rattle.node_model.specs.NodeSteps.{idle_step, then_do, peers_of, peer_watches, after_clock, may_start_afresh, choice_step, ask_step, enter_step, processing_step, done_at, acks_from, beat_of, beats, announcing_step, serving_step, snapshot_ask_step, rest_of_tick, with_fresh_start, with_marks_ended, tick_step}
 use Rattle.world_model.specs.Orderly.{is_port_sound, are_ports_sound}
 use Rattle.law_safety.proofs.Milling.{IsSafeNode-same}
 use Rattle.law_safety.proofs.Tests.{both, both-of, eq-of, eq-test}
@@ -173,11 +173,11 @@ or-right false b e = e
 beats-mails : (home : Home) (me : ℕ) (n : PlainNode) → IsActor home me → AreMails home.plan me ⊥ (beats home n)
 beats-mails home me n actor =
     let role = IsNode home.frag home.replica in
-    mails-append home.plan me ⊥ (to_each (beat_of n None) (peers_of home)) (map (λ (x : ℕ × Sub). mail x.0 (beat_of n (link_of x.1))) (zip (own_readers home) n.subs))
+    mails-append home.plan me ⊥ (to_each (beat_of n None) (peers_of home)) (map (λ (x : ℕ × Sub). mail x.0 (beat_of n (tally_of x.1))) (zip (own_readers home) n.subs))
     (to_peers-mails home me (beat_of n None) (peers_of home)
     (λ to way. node-mail home me to (beat_of n None) ⊥ actor tt (or-right (reads_from home.plan (role_of home.plan to) role) (are_peers role (role_of home.plan to)) way) refl (λ e. cc)) (peers-are home me actor))
-    (zipped-mails home.plan me role (λ sub. beat_of n (link_of sub)) (own_readers home) n.subs
-    (λ to sub way. node-mail home me to (beat_of n (link_of sub)) ⊥ actor tt (or-left (reads_from home.plan (role_of home.plan to) role) (are_peers role (role_of home.plan to)) way) refl (λ e. cc))
+    (zipped-mails home.plan me role (λ sub. beat_of n (tally_of sub)) (own_readers home) n.subs
+    (λ to sub way. node-mail home me to (beat_of n (tally_of sub)) ⊥ actor tt (or-left (reads_from home.plan (role_of home.plan to) role) (are_peers role (role_of home.plan to)) way) refl (λ e. cc))
     (readers-read home.plan (Frag home.frag) role (node-sends-it home.frag home.replica)))
 
 -- ---- the steps of a tick
@@ -220,8 +220,8 @@ reconciling-good home me most n actor up g =
     let m = record n { grants = with_ask n.grants } in
     let o = g.orderly in
     let asks = to_each (message.Ask (own_key n.grants).0 (own_key n.grants).1) (peers_of home) in
-    elim (wants_to_reconcile home n && is_none n.grants.promise) as (λ b. IsGoodStep home me most ⊥ (cond b (cond (list_all is_silent (peer_watches home n)) (enter_step home n) (record { after = m; sends = asks })) (silent_step n))) [
-      | true ↦ elim (list_all is_silent (peer_watches home n)) as (λ b. IsGoodStep home me most ⊥ (cond b (enter_step home n) (record { after = m; sends = asks }))) [
+    elim (wants_to_reconcile home n && is_none n.grants.promise) as (λ b. IsGoodStep home me most ⊥ (cond b (cond (list_all is_absent (peer_watches home n)) (enter_step home n) (record { after = m; sends = asks })) (idle_step n))) [
+      | true ↦ elim (list_all is_absent (peer_watches home n)) as (λ b. IsGoodStep home me most ⊥ (cond b (enter_step home n) (record { after = m; sends = asks }))) [
         | true ↦ entered-good home me most n actor up g
         | false ↦ record {
           after = record {
@@ -238,9 +238,9 @@ reconciling-good home me most n actor up g =
 pub reconciling-recovering : (home : Home) (n : PlainNode) → (ask_step home n).after.recovering ≡ n.recovering
 unfolding enter_step
 reconciling-recovering home n =
-    elim (wants_to_reconcile home n && is_none n.grants.promise) as (λ b. (cond b (cond (list_all is_silent (peer_watches home n)) (enter_step home n)
-    (record { after = record n { grants = with_ask n.grants }; sends = to_each (message.Ask (own_key n.grants).0 (own_key n.grants).1) (peers_of home) })) (silent_step n)).after.recovering ≡ n.recovering) [
-      | true ↦ elim (list_all is_silent (peer_watches home n)) as (λ b. (cond b (enter_step home n)
+    elim (wants_to_reconcile home n && is_none n.grants.promise) as (λ b. (cond b (cond (list_all is_absent (peer_watches home n)) (enter_step home n)
+    (record { after = record n { grants = with_ask n.grants }; sends = to_each (message.Ask (own_key n.grants).0 (own_key n.grants).1) (peers_of home) })) (idle_step n)).after.recovering ≡ n.recovering) [
+      | true ↦ elim (list_all is_absent (peer_watches home n)) as (λ b. (cond b (enter_step home n)
           (record { after = record n { grants = with_ask n.grants }; sends = to_each (message.Ask (own_key n.grants).0 (own_key n.grants).1) (peers_of home) })).after.recovering ≡ n.recovering) [
             | true ↦ refl
             | false ↦ refl

@@ -17,7 +17,7 @@ use Rattle.std.proofs.lemmas.List.Elements.{filter-append}
 use Rattle.dpc_model.proofs.Prefixes.{get-prefix}
 use Rattle.dpc_lists.proofs.Elements.{get-drop}
 use Rattle.dpc_model.specs.Engines.{from_time}
-use Rattle.world_model.specs.SessionLaw.{Fits, bound_of, soft_of, taken_whole, LeavesView}
+use Rattle.world_model.specs.SessionLaw.{Fits, bound_of, passed_of, taken_whole, LeavesView}
 use Rattle.law_safety.proofs.Tests.{both, le-test, lt-of, lt-test, eq-of, eq-test}
 use Rattle.law_safety.proofs.Clienting.{fold-append}
 
@@ -124,22 +124,22 @@ tentative-leaves r (t ∷ ts) =
     ]) refl
 
 -- a soft mark, from one that tentative output went to before
-pub passed-leaves : (r : Reader) (v : ℕ) → r.soft ≤ v → (r.soft ≡ 0) ⊎ (r.bound < r.soft) → Leaves r (Passed v ∷ []) (record r { soft = soft_of r.bound (Some v) })
+pub passed-leaves : (r : Reader) (v : ℕ) → r.passed ≤ v → (r.passed ≡ 0) ⊎ (r.bound < r.passed) → Leaves r (Passed v ∷ []) (record r { passed = passed_of r.bound (Some v) })
 passed-leaves r v low mark =
-    (elim (nat_lt r.bound v) as (λ b. nat_lt r.bound v ≡ b → Leaves r (Passed v ∷ []) (record r { soft = cond b v 0 })) [
-      | true ↦ λ e. (elim (nat_lt r.soft v) as (λ b. nat_lt r.soft v ≡ b → Leaves r (Passed v ∷ []) (record r { soft = v })) [
-        | true ↦ λ f. leaves-take r (record r { soft = v }) (record r { soft = v }) (Passed v) [] (rw (e, f) refl) (leaves-none (record r { soft = v }))
+    (elim (nat_lt r.bound v) as (λ b. nat_lt r.bound v ≡ b → Leaves r (Passed v ∷ []) (record r { passed = cond b v 0 })) [
+      | true ↦ λ e. (elim (nat_lt r.passed v) as (λ b. nat_lt r.passed v ≡ b → Leaves r (Passed v ∷ []) (record r { passed = v })) [
+        | true ↦ λ f. leaves-take r (record r { passed = v }) (record r { passed = v }) (Passed v) [] (rw (e, f) refl) (leaves-none (record r { passed = v }))
         | false ↦ λ f.
-            let high : v ≤ r.soft = grind (arith, common_steps) in
-            let same : r.soft ≡ v = omega (arith, low, high) in
-            leaves-skip r (record r { soft = v }) (Passed v) [] (rw (e, f) refl) (subst (λ (c : ℕ). Leaves r [] (record r { soft = c })) same (leaves-none r))
+            let high : v ≤ r.passed = grind (arith, common_steps) in
+            let same : r.passed ≡ v = omega (arith, low, high) in
+            leaves-skip r (record r { passed = v }) (Passed v) [] (rw (e, f) refl) (subst (λ (c : ℕ). Leaves r [] (record r { passed = c })) same (leaves-none r))
       ]) refl
       | false ↦ λ e.
           let high : v ≤ r.bound = grind (arith, common_steps) in
-          leaves-skip r (record r { soft = 0 }) (Passed v) [] (rw e refl) (subst (λ (c : ℕ). Leaves r [] (record r { soft = c })) (none high mark) (leaves-none r))
+          leaves-skip r (record r { passed = 0 }) (Passed v) [] (rw e refl) (subst (λ (c : ℕ). Leaves r [] (record r { passed = c })) (none high mark) (leaves-none r))
     ]) refl
   where
-    none : v ≤ r.bound → (r.soft ≡ 0) ⊎ (r.bound < r.soft) → r.soft ≡ 0
+    none : v ≤ r.bound → (r.passed ≡ 0) ⊎ (r.bound < r.passed) → r.passed ≡ 0
     none high (inl e) = e
     none high (inr less) = absurd (omega (arith, high, less, low))
 
@@ -151,7 +151,7 @@ done-leaves r false sure = leaves-none r
 
 -- what a reader holds behind a view: n or k stable tuples, this bound, and the view's tentative output past it
 abbrev pub held_view : List Tuple → ℕ → ℕ → ℕ → List Tuple → Option ℕ → Reader
-held_view whole n k b tentative passed = record { stable = take (max n k) whole; bound = b; tentative = from_time b tentative; soft = soft_of b passed }
+held_view whole n k b tentative passed = record { stable = take (max n k) whole; bound = b; tentative = from_time b tentative; passed = passed_of b passed }
 
 abbrev pub IsBoundStep : Shown → Shown → Option (ℕ × ℕ) → Type 0
 IsBoundStep x y None = bound_of y.bound ≡ bound_of x.bound
@@ -215,13 +215,13 @@ clear-leaves whole n b b' xs ts o few p top low =
         let low = h m refl in
         rw e (boundary-leaves r m.0 m.1 (omega (arith, long, low)) refl)
 
-soft-low : (b v : ℕ) (o : Option ℕ) → IsPast v o → soft_of b o ≤ v
-soft-low b v None h = omega arith
-soft-low b v (Some u) h = elim (nat_lt b u) as (λ c. cond c u 0 ≤ v) [ true ↦ h | false ↦ omega arith ]
+passed-low : (b v : ℕ) (o : Option ℕ) → IsPast v o → passed_of b o ≤ v
+passed-low b v None h = omega arith
+passed-low b v (Some u) h = elim (nat_lt b u) as (λ c. cond c u 0 ≤ v) [ true ↦ h | false ↦ omega arith ]
 
-soft-mark : (b : ℕ) (o : Option ℕ) → (soft_of b o ≡ 0) ⊎ (b < soft_of b o)
-soft-mark b None = inl refl
-soft-mark b (Some u) = (elim (nat_lt b u) as (λ c. nat_lt b u ≡ c → (cond c u 0 ≡ 0) ⊎ (b < cond c u 0)) [
+passed-mark : (b : ℕ) (o : Option ℕ) → (passed_of b o ≡ 0) ⊎ (b < passed_of b o)
+passed-mark b None = inl refl
+passed-mark b (Some u) = (elim (nat_lt b u) as (λ c. nat_lt b u ≡ c → (cond c u 0 ≡ 0) ⊎ (b < cond c u 0)) [
   | true ↦ λ e. inr (lt-of b u e)
   | false ↦ λ e. inl refl
 ]) refl
@@ -286,15 +286,15 @@ given-leaves plan s asked x y g start few step =
     to-passed (Some v) e =
         let b = max start.bound (bound_of y.bound) in
         let r = held_view (ideal plan s) asked.n (length y.stable) b y.tentative x.passed in
-        subst (λ (o : Option ℕ). Leaves r (Passed v ∷ []) (record r { soft = soft_of b o })) (sym e.0) (passed-leaves r v (soft-low b v x.passed e.1) (soft-mark b x.passed))
+        subst (λ (o : Option ℕ). Leaves r (Passed v ∷ []) (record r { passed = passed_of b o })) (sym e.0) (passed-leaves r v (passed-low b v x.passed e.1) (passed-mark b x.passed))
 
 -- a correction of all tentative output
 pub undo-leaves : (plan : Plan) (s : StreamRef) (asked : Subscribe) (x y : Shown) (start : Reader) (m : ℕ) → y.stable ≡ x.stable → y.bound ≡ x.bound → IsClear y →
     Leaves (taken_whole plan s asked x start) (Undo m ∷ []) (taken_whole plan s asked y start)
 undo-leaves plan s asked x y start m stable bound clear =
     rw (stable, bound, clear.0, clear.1)
-    (leaves-take (taken_whole plan s asked x start) (record (taken_whole plan s asked x start) { tentative = []; soft = 0 }) (record (taken_whole plan s asked x start) { tentative = []; soft = 0 }) (Undo m) [] refl
-    (leaves-none (record (taken_whole plan s asked x start) { tentative = []; soft = 0 })))
+    (leaves-take (taken_whole plan s asked x start) (record (taken_whole plan s asked x start) { tentative = []; passed = 0 }) (record (taken_whole plan s asked x start) { tentative = []; passed = 0 }) (Undo m) [] refl
+    (leaves-none (record (taken_whole plan s asked x start) { tentative = []; passed = 0 })))
 
 -- ---- the first batch
 
@@ -304,8 +304,8 @@ pub record IsView (plan : Plan) (s : StreamRef) (x : Shown) : Type 0 where
   pub bound : (b : ℕ × ℕ) → x.bound ≡ Some b → b.1 ≤ length x.stable
   pub stable : x.is_stable ≡ true → IsClear x
 
-start-clear : (r : Reader) → is_sure r ≡ true → (r.tentative ≡ []) × (r.soft ≡ 0)
-start-clear r h = let p = both (is_nil r.tentative) (r.soft == 0) h in (by-list r.tentative p.0, eq-of r.soft 0 p.1)
+start-clear : (r : Reader) → is_sure r ≡ true → (r.tentative ≡ []) × (r.passed ≡ 0)
+start-clear r h = let p = both (is_nil r.tentative) (r.passed == 0) h in (by-list r.tentative p.0, eq-of r.passed 0 p.1)
   where
     by-list : (ts : List Tuple) → is_nil ts ≡ true → ts ≡ []
     by-list [] e = refl
@@ -329,10 +329,10 @@ first-leaves plan s asked x start view fit =
     let bound = boundary_item x.bound in
     let tentative = tentative_items x.tentative in
     let passed = passed_item x.passed in
-    let r0 : Reader = record { stable = take n whole; bound = start.bound; tentative = []; soft = 0 } in
-    let r1 : Reader = record { stable = take (max n (length x.stable)) whole; bound = start.bound; tentative = []; soft = 0 } in
-    let r2 : Reader = record { stable = take (max n (length x.stable)) whole; bound = b'; tentative = []; soft = 0 } in
-    let r3 : Reader = record { stable = take (max n (length x.stable)) whole; bound = b'; tentative = from_time b' x.tentative; soft = 0 } in
+    let r0 : Reader = record { stable = take n whole; bound = start.bound; tentative = []; passed = 0 } in
+    let r1 : Reader = record { stable = take (max n (length x.stable)) whole; bound = start.bound; tentative = []; passed = 0 } in
+    let r2 : Reader = record { stable = take (max n (length x.stable)) whole; bound = b'; tentative = []; passed = 0 } in
+    let r3 : Reader = record { stable = take (max n (length x.stable)) whole; bound = b'; tentative = from_time b' x.tentative; passed = 0 } in
     let r4 = taken_whole plan s asked x start in
     let left : length (drop n x.stable) ≡ length x.stable - n = length-drop n x.stable in
     let top : max n n ≡ n = omega arith in
@@ -350,24 +350,24 @@ first-leaves plan s asked x start view fit =
     (leaves-append start r2 r3 (undo ++ stable ++ bound) tentative
     (leaves-append start r1 r2 (undo ++ stable) bound (leaves-append start r0 r1 undo stable one two) three) four) five) six
   where
-    by-tentative : (b : Bool) → asked.tentative ≡ b → Leaves start (item_if b (Undo asked.n)) (record { stable = take asked.n (ideal plan s); bound = start.bound; tentative = []; soft = 0 })
+    by-tentative : (b : Bool) → asked.tentative ≡ b → Leaves start (item_if b (Undo asked.n)) (record { stable = take asked.n (ideal plan s); bound = start.bound; tentative = []; passed = 0 })
     by-tentative true e =
-        subst (λ (ts : List Tuple). Leaves start (Undo asked.n ∷ []) (record { stable = ts; bound = start.bound; tentative = []; soft = 0 })) fit.stable
-        (leaves-take start (record start { tentative = []; soft = 0 }) (record start { tentative = []; soft = 0 }) (Undo asked.n) [] refl (leaves-none (record start { tentative = []; soft = 0 })))
+        subst (λ (ts : List Tuple). Leaves start (Undo asked.n ∷ []) (record { stable = ts; bound = start.bound; tentative = []; passed = 0 })) fit.stable
+        (leaves-take start (record start { tentative = []; passed = 0 }) (record start { tentative = []; passed = 0 }) (Undo asked.n) [] refl (leaves-none (record start { tentative = []; passed = 0 })))
     by-tentative false e =
         let clear = start-clear start (fit.tentative ∙ ap not e) in
-        subst (λ (c : ℕ). Leaves start [] (record { stable = take asked.n (ideal plan s); bound = start.bound; tentative = []; soft = c })) clear.1
-        (subst (λ (us : List Tuple). Leaves start [] (record { stable = take asked.n (ideal plan s); bound = start.bound; tentative = us; soft = start.soft })) clear.0
-        (subst (λ (ts : List Tuple). Leaves start [] (record { stable = ts; bound = start.bound; tentative = start.tentative; soft = start.soft })) fit.stable (leaves-none start)))
+        subst (λ (c : ℕ). Leaves start [] (record { stable = take asked.n (ideal plan s); bound = start.bound; tentative = []; passed = c })) clear.1
+        (subst (λ (us : List Tuple). Leaves start [] (record { stable = take asked.n (ideal plan s); bound = start.bound; tentative = us; passed = start.passed })) clear.0
+        (subst (λ (ts : List Tuple). Leaves start [] (record { stable = ts; bound = start.bound; tentative = start.tentative; passed = start.passed })) fit.stable (leaves-none start)))
 
     by-bound : (o : Option (ℕ × ℕ)) → x.bound ≡ o →
-        Leaves (record { stable = take (max asked.n (length x.stable)) (ideal plan s); bound = start.bound; tentative = []; soft = 0 }) (boundary_item o)
-        (record { stable = take (max asked.n (length x.stable)) (ideal plan s); bound = max start.bound (bound_of x.bound); tentative = []; soft = 0 })
+        Leaves (record { stable = take (max asked.n (length x.stable)) (ideal plan s); bound = start.bound; tentative = []; passed = 0 }) (boundary_item o)
+        (record { stable = take (max asked.n (length x.stable)) (ideal plan s); bound = max start.bound (bound_of x.bound); tentative = []; passed = 0 })
     by-bound None e =
-        let r : Reader = record { stable = take (max asked.n (length x.stable)) (ideal plan s); bound = start.bound; tentative = []; soft = 0 } in
+        let r : Reader = record { stable = take (max asked.n (length x.stable)) (ideal plan s); bound = start.bound; tentative = []; passed = 0 } in
         let same : start.bound ≡ max start.bound 0 = omega arith in rw e (subst (λ (c : ℕ). Leaves r [] (record r { bound = c })) same (leaves-none r))
     by-bound (Some m) e =
-        let r : Reader = record { stable = take (max asked.n (length x.stable)) (ideal plan s); bound = start.bound; tentative = []; soft = 0 } in
+        let r : Reader = record { stable = take (max asked.n (length x.stable)) (ideal plan s); bound = start.bound; tentative = []; passed = 0 } in
         let few = fits-few plan s asked start fit in
         let all = prefix-few x.stable (ideal plan s) view.beginning in
         let long = length-take-le (max asked.n (length x.stable)) (ideal plan s) (omega (arith, few, all)) in
@@ -375,14 +375,14 @@ first-leaves plan s asked x start view fit =
         rw e (boundary-leaves r m.0 m.1 (omega (arith, long, low)) refl)
 
     by-passed : (o : Option ℕ) → x.passed ≡ o →
-        Leaves (record { stable = take (max asked.n (length x.stable)) (ideal plan s); bound = max start.bound (bound_of x.bound); tentative = from_time (max start.bound (bound_of x.bound)) x.tentative; soft = 0 })
+        Leaves (record { stable = take (max asked.n (length x.stable)) (ideal plan s); bound = max start.bound (bound_of x.bound); tentative = from_time (max start.bound (bound_of x.bound)) x.tentative; passed = 0 })
         (passed_item o) (taken_whole plan s asked x start)
     by-passed None e =
-        rw e (leaves-none (record { stable = take (max asked.n (length x.stable)) (ideal plan s); bound = max start.bound (bound_of x.bound); tentative = from_time (max start.bound (bound_of x.bound)) x.tentative; soft = 0 }))
+        rw e (leaves-none (record { stable = take (max asked.n (length x.stable)) (ideal plan s); bound = max start.bound (bound_of x.bound); tentative = from_time (max start.bound (bound_of x.bound)) x.tentative; passed = 0 }))
     by-passed (Some v) e =
         let b = max start.bound (bound_of x.bound) in
-        let r : Reader = record { stable = take (max asked.n (length x.stable)) (ideal plan s); bound = b; tentative = from_time b x.tentative; soft = 0 } in
-        subst (λ (o : Option ℕ). Leaves r (Passed v ∷ []) (record r { soft = soft_of b o })) (sym e) (passed-leaves r v (omega arith) (inl refl))
+        let r : Reader = record { stable = take (max asked.n (length x.stable)) (ideal plan s); bound = b; tentative = from_time b x.tentative; passed = 0 } in
+        subst (λ (o : Option ℕ). Leaves r (Passed v ∷ []) (record r { passed = passed_of b o })) (sym e) (passed-leaves r v (omega arith) (inl refl))
 
 -- ---- the law, one event more
 

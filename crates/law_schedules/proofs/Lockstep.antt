@@ -10,7 +10,7 @@ use Rattle.dpc_model.specs.declared.scripts.Phase.{Phase as PhaseSpec}
 use Rattle.dpc_model.specs.declared.scripts.Script.{Script}
 use Rattle.node_model.specs.Nodes.{Home, new_node}
 use Rattle.world_model.specs.Worlds.{home_of, new_world, run_from, run, all_settled}
-use Rattle.world_model.specs.Schedules.{Progress, Told, tell_phase, tell_phases, tell_quiet, lockstep, lock_of, first_progress, next_progress, progress_from, progress, is_live_so_far, is_live, is_phase_complete, phase_left, phase_of, last_clock, quiet_limit}
+use Rattle.world_model.specs.Schedules.{Progress, Told, tell_phase, tell_phases, tell_quiet, lockstep, lockstep_journal, first_progress, next_progress, progress_from, progress, is_live_so_far, is_live, is_phase_complete, phase_left, phase_of, last_clock, quiet_limit}
 use Rattle.law_safety.proofs.Tests.{both-of, lt-test, lt-of}
 use Rattle.law_schedules.proofs.Stages.{Reached, reached}
 use Rattle.law_schedules.proofs.Nodes.{IsZeroed}
@@ -156,8 +156,8 @@ lockstep-reached script =
         phases-told script 0 1 0 script.phases (record { world = new_world script.plan; events = [] }) refl (omega arith) (λ i. let none : 0 + i ≡ i = omega arith in ap (λ (j : ℕ). slice_get script.phases j) none)
         (reached script (IsBetween script 1 0) (first_progress script) [] (record { come = refl; live = refl }) (opening-between script))
 
-pub lock-live : (script : Script) → is_live script (lock_of script) ≡ true
-unfolding lock_of is_live is_live_so_far progress
+pub lock-live : (script : Script) → is_live script (lockstep_journal script) ≡ true
+unfolding lockstep_journal is_live is_live_so_far progress
 lock-live script =
     let r = lockstep-reached script in
     let f = r.follows in
@@ -169,8 +169,8 @@ pub progress-world : (script : Script) (x : Progress) (es : List Event) → (pro
 progress-world script x [] = refl
 progress-world script x (e ∷ es) = progress-world script (next_progress script x e) es
 
-pub lock-world : (script : Script) → (lockstep script).world ≡ run script.plan (lock_of script)
-unfolding lock_of run
+pub lock-world : (script : Script) → (lockstep script).world ≡ run script.plan (lockstep_journal script)
+unfolding lockstep_journal run
 lock-world script =
     let r = lockstep-reached script in
     ap (λ (z : Told). z.world) r.is_told ∙ ap (λ (y : Progress). y.world) (sym r.follows.come) ∙ progress-world script (first_progress script) (reverse (lockstep script).events)

@@ -5,7 +5,7 @@ use Rattle.dpc_model.specs.Inlets.{same_sess, AfterBatch, take_batch}
 use Rattle.dpc_model.specs.Granting.{own_key, grants, with_promise, may_enter_by, with_ask}
 use Rattle.dpc_model.specs.Actors.{replicas_of}
 use Rattle.dpc_model.specs.Ports.{no_port, sender_at, on_truncated, all_truncated}
-use Rattle.dpc_model.specs.Replicas.{is_silent}
+use Rattle.dpc_model.specs.Replicas.{is_absent}
 use Rattle.dpc_model.specs.declared.tuples.Item.{Item}
 use Rattle.dpc_model.specs.declared.batches.Taken.{Taken}
 use Rattle.dpc_model.specs.declared.batches.Taken.TheVariants.{Used, Old, Broken}
@@ -17,7 +17,7 @@ use Rattle.dpc_model.specs.declared.messages.Message.TheVariants as message
 use Rattle.node_model.specs.Mails.{Snap, Packet, Plain, SnapFor, mail, to_each, Stepped}
 use Rattle.dpc_model.specs.NodeStates.{is_up_failure, is_stabilization}
 use Rattle.node_model.specs.Nodes.{Home, streams_of, PlainNode, due_at, wants_to_reconcile}
-use Rattle.node_model.specs.NodeSteps.{silent_step, then_do, on_snap_ask, snapshot_ask_step, announcing_step, peers_of, enter_step, after_loss, after_adoption, with_fresh_start, with_stamps_of, after_taking, on_batch, on_subscribe, with_port, on_truncation, on_upstream_beat, on_peer_beat, on_ack, on_ask, on_grant, on_message, on_snap, on_packet, with_marks_ended, packet_step, replica_number, reader_place, mill_step, after_clock, may_start_afresh, peer_watches, choice_step, ask_step, processing_upto, processing_step, serving_step, rest_of_tick, tick_step}
+use Rattle.node_model.specs.NodeSteps.{idle_step, then_do, on_snap_ask, snapshot_ask_step, announcing_step, peers_of, enter_step, after_loss, after_adoption, with_fresh_start, with_stamps_of, after_taking, on_batch, on_subscribe, with_port, on_truncation, on_upstream_beat, on_peer_beat, on_ack, on_ask, on_grant, on_message, on_snap, on_packet, with_marks_ended, packet_step, replica_number, reader_place, mill_step, after_clock, may_start_afresh, peer_watches, choice_step, ask_step, processing_upto, processing_step, serving_step, rest_of_tick, tick_step}
 use Rattle.law_safety.proofs.Tests.{both}
 
 -- a node that recovers has no bucket done
@@ -116,7 +116,7 @@ ack-still home i count (Some k) n = record { same = refl; also = refl; clock = r
 ask-still : (home : Home) (i ask : ℕ) (o : Option ℕ) (n : PlainNode) → IsStill n (on_ask home i ask o n).after
 ask-still home i ask None n = itself n
 ask-still home i ask (Some r) n =
-    elim (grants n.grants n.state r (i, ask)) as (λ b. IsStill n (Stepped.after (cond b (record { after = record n { grants = with_promise n.grants r (i, ask) }; sends = mail (nth 0 (replicas_of home.plan home.frag) r) (message.Grant i ask) ∷ [] }) (silent_step n)))) [
+    elim (grants n.grants n.state r (i, ask)) as (λ b. IsStill n (Stepped.after (cond b (record { after = record n { grants = with_promise n.grants r (i, ask) }; sends = mail (nth 0 (replicas_of home.plan home.frag) r) (message.Grant i ask) ∷ [] }) (idle_step n)))) [
       | true ↦ record { same = refl; also = refl; clock = refl }
       | false ↦ itself n
     ]
@@ -127,7 +127,7 @@ entered-still home n = record { same = refl; also = refl; clock = refl }
 
 grant-still : (home : Home) (i ask : ℕ) (n : PlainNode) → IsStill n (on_grant home i ask n).after
 grant-still home i ask n =
-    elim (is_up_failure n.state && may_enter_by n.grants (i, ask)) as (λ b. IsStill n (Stepped.after (cond b (enter_step home n) (silent_step n)))) [
+    elim (is_up_failure n.state && may_enter_by n.grants (i, ask)) as (λ b. IsStill n (Stepped.after (cond b (enter_step home n) (idle_step n)))) [
       | true ↦ entered-still home n
       | false ↦ itself n
     ]
@@ -135,7 +135,7 @@ grant-still home i ask n =
 message-calm : (home : Home) (a : ℕ) (m : Message) (n : PlainNode) → IsCalmNode n (on_message home a m n).after
 message-calm home a (message.Batch s index items) n = still-calm n _ (batch-still home s index items (sender_at home.plan (streams_of home) a) n)
 message-calm home a (message.Subscribe asked) n =
-    elim (n.recovering) as (λ b. IsCalmNode n (Stepped.after (cond b (silent_step n) (on_subscribe home asked (reader_place home a) n)))) [
+    elim (n.recovering) as (λ b. IsCalmNode n (Stepped.after (cond b (idle_step n) (on_subscribe home asked (reader_place home a) n)))) [
       | true ↦ still-calm n n (itself n)
       | false ↦ still-calm n _ (subscribe-still home asked (reader_place home a) n)
     ]
@@ -149,7 +149,7 @@ message-calm home a (message.Ack i count) n =
 message-calm home a (message.Ask i ask) n = still-calm n _ (ask-still home i ask (replica_number home a) n)
 message-calm home a (message.Grant i ask) n = still-calm n _ (grant-still home i ask n)
 message-calm home a (message.SnapAsk i try) n =
-    elim (n.recovering) as (λ b. IsCalmNode n (Stepped.after (cond b (silent_step n) (on_snap_ask home a i try n)))) [
+    elim (n.recovering) as (λ b. IsCalmNode n (Stepped.after (cond b (idle_step n) (on_snap_ask home a i try n)))) [
       | true ↦ still-calm n n (itself n)
       | false ↦ still-calm n n (itself n)
     ]
@@ -177,11 +177,11 @@ delivered-calm home a p n = let c = packet-calm home a p (with_marks_ended n) in
 
 reconciling-still : (home : Home) (n : PlainNode) → IsStill n (ask_step home n).after
 reconciling-still home n =
-    elim (wants_to_reconcile home n && is_none n.grants.promise) as (λ b. IsStill n (Stepped.after (cond b (cond (list_all is_silent (peer_watches home n)) (enter_step home n) (record {
+    elim (wants_to_reconcile home n && is_none n.grants.promise) as (λ b. IsStill n (Stepped.after (cond b (cond (list_all is_absent (peer_watches home n)) (enter_step home n) (record {
       after = record n { grants = with_ask n.grants };
       sends = to_each (message.Ask (own_key n.grants).0 (own_key n.grants).1) (peers_of home);
-    })) (silent_step n)))) [
-      | true ↦ elim (list_all is_silent (peer_watches home n)) as (λ b. IsStill n (Stepped.after (cond b (enter_step home n) (record {
+    })) (idle_step n)))) [
+      | true ↦ elim (list_all is_absent (peer_watches home n)) as (λ b. IsStill n (Stepped.after (cond b (enter_step home n) (record {
         after = record n { grants = with_ask n.grants };
         sends = to_each (message.Ask (own_key n.grants).0 (own_key n.grants).1) (peers_of home);
       })))) [
@@ -196,9 +196,9 @@ processed-onward home last n = record { grown = omega arith; also = refl; clock 
 
 processing-onward : (home : Home) (n : PlainNode) → IsOnward n (processing_step home n).after
 processing-onward home n =
-    elim (is_stabilization n.state) as (λ b. IsOnward n (Stepped.after (cond b (silent_step n) (elim (due_at home n n.clock) [ None ↦ silent_step n | Some last ↦ processing_upto home last n ])))) [
+    elim (is_stabilization n.state) as (λ b. IsOnward n (Stepped.after (cond b (idle_step n) (elim (due_at home n n.clock) [ None ↦ idle_step n | Some last ↦ processing_upto home last n ])))) [
       | true ↦ record { grown = omega arith; also = refl; clock = refl }
-      | false ↦ elim (due_at home n n.clock) as (λ o. IsOnward n (Stepped.after (elim o [ None ↦ silent_step n | Some last ↦ processing_upto home last n ]))) [
+      | false ↦ elim (due_at home n n.clock) as (λ o. IsOnward n (Stepped.after (elim o [ None ↦ idle_step n | Some last ↦ processing_upto home last n ]))) [
         | None ↦ record { grown = omega arith; also = refl; clock = refl }
         | Some last ↦ processed-onward home last n
       ]
@@ -264,7 +264,7 @@ truncation-clock home s base (Some (p, r)) n =
 message-clock : (home : Home) (a : ℕ) (m : Message) (n : PlainNode) → (on_message home a m n).after.clock ≡ n.clock
 message-clock home a (message.Batch s index items) n = (batch-still home s index items (sender_at home.plan (streams_of home) a) n).clock
 message-clock home a (message.Subscribe asked) n =
-    elim (n.recovering) as (λ b. PlainNode.clock (Stepped.after (cond b (silent_step n) (on_subscribe home asked (reader_place home a) n))) ≡ n.clock) [
+    elim (n.recovering) as (λ b. PlainNode.clock (Stepped.after (cond b (idle_step n) (on_subscribe home asked (reader_place home a) n))) ≡ n.clock) [
       | true ↦ refl
       | false ↦ (subscribe-still home asked (reader_place home a) n).clock
     ]
@@ -278,7 +278,7 @@ message-clock home a (message.Ack i count) n =
 message-clock home a (message.Ask i ask) n = (ask-still home i ask (replica_number home a) n).clock
 message-clock home a (message.Grant i ask) n = (grant-still home i ask n).clock
 message-clock home a (message.SnapAsk i try) n =
-    elim (n.recovering) as (λ b. PlainNode.clock (Stepped.after (cond b (silent_step n) (on_snap_ask home a i try n))) ≡ n.clock) [
+    elim (n.recovering) as (λ b. PlainNode.clock (Stepped.after (cond b (idle_step n) (on_snap_ask home a i try n))) ≡ n.clock) [
       | true ↦ refl
       | false ↦ refl
     ]

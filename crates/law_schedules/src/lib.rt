@@ -6,17 +6,17 @@ ghost use Rattle.dpc_model.specs.declared.messages.Event.{Event};
 ghost use Rattle.dpc_model.specs.declared.messages.Event.TheVariants.{Deliver, Tick, Mill};
 ghost use Rattle.dpc_model.specs.declared.scripts.Script.{Script};
 ghost use Rattle.world_model.specs.Worlds.{run, all_settled};
-ghost use Rattle.world_model.specs.Schedules.{lockstep, lock_of, progress, may, is_live_so_far, is_live, is_phase_complete, phase_of, last_clock, quiet_limit};
+ghost use Rattle.world_model.specs.Schedules.{lockstep, lockstep_journal, progress, may, is_live_so_far, is_live, is_phase_complete, phase_of, last_clock, quiet_limit};
 ghost use Rattle.law_schedules.specs.Journals.{phases_in, most_phases, Comes, Mills, Ticks, are_rising, IsClocked};
 
 /// A script's one-thread run ends in the world that its journal leads to.
-pub fn the_lock_gives_its_world()
-    ensures { (script : Script) → (lockstep script).world ≡ run script.plan (lock_of script) }
+pub fn the_lockstep_journal_gives_its_world()
+    ensures { (script : Script) → (lockstep script).world ≡ run script.plan (lockstep_journal script) }
 {}
 
 /// And that journal is live, whatever the script says, with its quiet phases where the script ends with settle.
-pub fn the_lock_is_live()
-    ensures { (script : Script) → is_live script (lock_of script) ≡ true }
+pub fn the_lockstep_journal_is_live()
+    ensures { (script : Script) → is_live script (lockstep_journal script) ≡ true }
 {}
 
 /// A journal is live so far exactly where each event may follow those before it; a live one is live so far. The progress after any journal has the world of its run.

@@ -8,7 +8,7 @@ use Rattle.dpc_model.specs.Inlets.{same_sess, sess_of}
 use Rattle.dpc_model.specs.Actors.{role_of}
 use Rattle.dpc_model.specs.declared.actors.Role.{Role}
 use Rattle.dpc_model.specs.declared.actors.Role.TheVariants.{Source as IsSource, Node as IsNode, Client as IsClient, Nobody}
-use Rattle.dpc_model.specs.Sessions.{no_session, opening_session, link_of}
+use Rattle.dpc_model.specs.Sessions.{no_session, opening_session, tally_of}
 use Rattle.dpc_model.specs.declared.sessions.Sub.{Sub}
 use Rattle.dpc_model.specs.declared.messages.Event.{Event}
 use Rattle.dpc_model.specs.declared.messages.Sess.{Sess}
@@ -96,21 +96,21 @@ get-nth : (subs : List Sub) (k : ℕ) (sub : Sub) → slice_get subs k ≡ Some 
 get-nth subs k sub e = ap (λ (o : Option Sub). unwrap_or o no_session) e
 
 -- what is open is not shut
-open-shut : (subs : List Sub) (k : ℕ) (sub : Sub) (u : Sess × ℕ) → slice_get subs k ≡ Some sub → link_of sub ≡ Some u → NotOpen u.0 (nth no_session subs k) → ⊥
-open-shut subs k sub u there link shut =
-    let k = (subst (λ (z : Sub). NotOpen u.0 z) (get-nth subs k sub there) shut).other u.0 u.1 link in let clash : true ≡ false = sym (same-self u.0) ∙ k in cc
+open-shut : (subs : List Sub) (k : ℕ) (sub : Sub) (u : Sess × ℕ) → slice_get subs k ≡ Some sub → tally_of sub ≡ Some u → NotOpen u.0 (nth no_session subs k) → ⊥
+open-shut subs k sub u there tally shut =
+    let k = (subst (λ (z : Sub). NotOpen u.0 z) (get-nth subs k sub there) shut).other u.0 u.1 tally in let clash : true ≡ false = sym (same-self u.0) ∙ k in cc
 
 -- what was opened by a subscription, where every open session but the first was
 opened-at : (plan : Plan) (events : List Event) (a : ℕ) (readers : List ℕ) (subs : List Sub) →
-    ((k : ℕ) (sub : Sub) (u : Sess × ℕ) → slice_get subs k ≡ Some sub → link_of sub ≡ Some u → same_sess u.0 (sess_of 1 1) ≡ false →
+    ((k : ℕ) (sub : Sub) (u : Sess × ℕ) → slice_get subs k ≡ Some sub → tally_of sub ≡ Some u → same_sess u.0 (sess_of 1 1) ≡ false →
     let l : Channel = record { sender = a; reader = nth 0 readers k; sess = u.0 } in IsSentFor l (run plan events).envelopes (opened_by l (first_subscription l) (new_world plan) events)) →
     OpenedByAsking plan events a readers subs
-opened-at plan events a readers subs h k sub there = by-link (link_of sub) refl
+opened-at plan events a readers subs h k sub there = by-tally (tally_of sub) refl
   where
-    by-link : (o : Option (Sess × ℕ)) → link_of sub ≡ o → IfSome o (λ u. same_sess u.0 (sess_of 1 1) ≡ false →
+    by-tally : (o : Option (Sess × ℕ)) → tally_of sub ≡ o → IfSome o (λ u. same_sess u.0 (sess_of 1 1) ≡ false →
         let l : Channel = record { sender = a; reader = nth 0 readers k; sess = u.0 } in IsSentFor l (run plan events).envelopes (opened_by l (first_subscription l) (new_world plan) events))
-    by-link None link = tt
-    by-link (Some u) link = h k sub u there link
+    by-tally None tally = tt
+    by-tally (Some u) tally = h k sub u there tally
 
 module _ (plan : Plan) (events : List Event) (a : ℕ) (checked : IsCheckedPlan plan) where
   abbrev line_for : ℕ → Sess → Channel
@@ -119,7 +119,7 @@ module _ (plan : Plan) (events : List Event) (a : ℕ) (checked : IsCheckedPlan 
   source-law : (u : ℕ) → role_of plan a ≡ IsSource u → OpenedByAsking plan events a (source_readers plan u) (source_at (run plan events) u).subs
   unfolding run
   source-law u role =
-      opened-at plan events a (source_readers plan u) (source_at (run plan events) u).subs (λ k sub v there link other.
+      opened-at plan events a (source_readers plan u) (source_at (run plan events) u).subs (λ k sub v there tally other.
       let start = new_world plan in
       let last = run_from start events in
       let x = nth 0 (source_readers plan u) k in
@@ -130,13 +130,13 @@ module _ (plan : Plan) (events : List Event) (a : ℕ) (checked : IsCheckedPlan 
       let line : IsSourceLine plan a x u k = record { role = role; reader = refl; low = omega (arith, within, few, of_plan) } in
       elim (source-opened start events a x u k v.0 (first_subscription l) (subst (λ (p : Plan). IsSourceLine p a x u k) (sym (new_world-plan plan)) line) (inr (new-sources-shut plan a u k v.0 role other))) [
         | inl sent ↦ sent
-        | inr shut ↦ absurd (open-shut (source_at last u).subs k sub v there link shut.none)
+        | inr shut ↦ absurd (open-shut (source_at last u).subs k sub v there tally shut.none)
       ])
 
   node-law : (f r : ℕ) (n : PlainNode) → role_of plan a ≡ IsNode f r → (slot_of (run plan events) a).node ≡ Some n → OpenedByAsking plan events a (own_readers (home_of plan (f, r))) n.subs
   unfolding run
   node-law f r n role up =
-      opened-at plan events a (own_readers (home_of plan (f, r))) n.subs (λ k sub v there link other.
+      opened-at plan events a (own_readers (home_of plan (f, r))) n.subs (λ k sub v there tally other.
       let start = new_world plan in
       let last = run_from start events in
       let x = nth 0 (own_readers (home_of plan (f, r))) k in
@@ -150,7 +150,7 @@ module _ (plan : Plan) (events : List Event) (a : ℕ) (checked : IsCheckedPlan 
       let line : IsNodeLine plan a x f r k = record { role = role; reader = refl; distinct = readers-distinct plan (Frag f); low = omega (arith, within, many, same) } in
       elim (node-opened start 1 events a x f r k v.0 (first_subscription l) (new_world-fine plan checked) (subst (λ (p : Plan). IsNodeLine p a x f r k) (sym (new_world-plan plan)) line) (inr (new-nodes-shut plan a f r k v.0 role other))) [
         | inl sent ↦ sent
-        | inr shut ↦ absurd (open-shut n.subs k sub v there link (shut n up))
+        | inr shut ↦ absurd (open-shut n.subs k sub v there tally (shut n up))
       ])
 
   by-role : (role : Role) → role_of plan a ≡ role → OpenedOf plan events (run plan events) a role

@@ -5,11 +5,11 @@ use Rattle.std.proofs.lemmas.Grind.{common_steps}
 use Rattle.dpc_lists.specs.Lists.{nth, list_all}
 use Rattle.dpc_model.specs.Inlets.{same_sess, sess_of, new_inlet, restarted_inlet, with_next_session, asked_by}
 use Rattle.dpc_model.specs.Reading.{stable_reader}
-use Rattle.dpc_model.specs.Replicas.{is_silent}
+use Rattle.dpc_model.specs.Replicas.{is_absent}
 use Rattle.dpc_model.specs.Granting.{own_key, with_ask, may_enter_by, grants, with_promise}
 use Rattle.dpc_model.specs.Actors.{replicas_of, senders_of}
 use Rattle.dpc_model.specs.Ports.{Port, port_at, choice_at, must_reopen, subscriptions, acks_to, without_ended_marks, port_after_tick}
-use Rattle.dpc_model.specs.Sessions.{Shown, Answered, answer_to, is_newer_than_kept, first_batch, given_items, link_of}
+use Rattle.dpc_model.specs.Sessions.{Shown, Answered, answer_to, is_newer_than_kept, first_batch, given_items, tally_of}
 use Rattle.dpc_model.specs.declared.sessions.Sub.{Sub}
 use Rattle.dpc_model.specs.declared.tuples.Item.{Item}
 use Rattle.dpc_model.specs.declared.tuples.Item.TheVariants as item
@@ -22,8 +22,8 @@ use Rattle.dpc_model.specs.declared.plans.Plan.{Plan}
 use Rattle.dpc_model.specs.declared.plans.StreamRef.{StreamRef}
 use Rattle.node_model.specs.Mails.{Packet, Plain, SnapFor, Mail, mail, mails, in_actor_order, to_each, Stepped}
 use Rattle.dpc_model.specs.NodeStates.{is_up_failure, is_stabilization}
-use Rattle.node_model.specs.Nodes.{Home, PlainNode, streams_of, own_readers, view_cursor, out_stable, shown, complete_buckets, ready, due_at, wants_to_reconcile, new_node, restarted_node}
-use Rattle.node_model.specs.NodeSteps.{silent_step, then_do, peers_of, peer_watches, replica_number, give, given_by, given_stable, enter_step, on_subscribe, on_ask, on_snap_ask, reader_place, on_message, on_packet, with_marks_ended, packet_step, after_stable_buckets, after_last_correction, mill_step, after_clock, may_start_afresh, choice_step, ask_step, with_closed, with_failure, processing_upto, processing_step, acks_from, beats, announcing_step, serving_step, snapshot_ask_step, rest_of_tick, with_fresh_start, tick_step}
+use Rattle.node_model.specs.Nodes.{Home, PlainNode, streams_of, own_readers, node_frontier, out_stable, shown, complete_buckets, ready, due_at, wants_to_reconcile, new_node, restarted_node}
+use Rattle.node_model.specs.NodeSteps.{idle_step, then_do, peers_of, peer_watches, replica_number, give, given_by, given_stable, enter_step, on_subscribe, on_ask, on_snap_ask, reader_place, on_message, on_packet, with_marks_ended, packet_step, after_stable_buckets, after_last_correction, mill_step, after_clock, may_start_afresh, choice_step, ask_step, with_closed, with_failure, processing_upto, processing_step, acks_from, beats, announcing_step, serving_step, snapshot_ask_step, rest_of_tick, with_fresh_start, tick_step}
 use Rattle.node_model.specs.Sources.{SourceState, source_readers, source_shown, source_given, source_gives, source_emits, source_releases, source_subscribed, source_packet_step, source_beat, source_tick_step, bound_at}
 use Rattle.node_model.specs.Clients.{ClientState, client_stream, client_tick_step}
 use Rattle.law_safety.proofs.Tests.{both, both-of}
@@ -134,8 +134,8 @@ entered-later : (home : Home) (n : PlainNode) → SendsLater (enter_step home n)
 unfolding enter_step
 entered-later home n = give-later home (item.Undo (length (out_stable home n)) ∷ []) (record n { closed = []; state = Stabilization; grants = with_ask n.grants })
 
-unless-later : (n : PlainNode) (s : Stepped PlainNode) → SendsLater s → SendsLater (cond n.recovering (silent_step n) s)
-unless-later n s h = elim n.recovering as (λ b. SendsLater (cond b (silent_step n) s)) [ true ↦ tt | false ↦ h ]
+unless-later : (n : PlainNode) (s : Stepped PlainNode) → SendsLater s → SendsLater (cond n.recovering (idle_step n) s)
+unless-later n s h = elim n.recovering as (λ b. SendsLater (cond b (idle_step n) s)) [ true ↦ tt | false ↦ h ]
 
 subscribed-later : (home : Home) (asked : Subscribe) (o : Option ℕ) (n : PlainNode) → SendsLater (on_subscribe home asked o n)
 subscribed-later home asked None n = tt
@@ -144,7 +144,7 @@ subscribed-later home asked (Some k) n = answer-later (shown home n) (nth (recor
 ask-later : (home : Home) (i ask : ℕ) (o : Option ℕ) (n : PlainNode) → SendsLater (on_ask home i ask o n)
 ask-later home i ask None n = tt
 ask-later home i ask (Some r) n =
-    elim (grants n.grants n.state r (i, ask)) as (λ b. SendsLater (cond b (record { after = record n { grants = with_promise n.grants r (i, ask) }; sends = mail (nth 0 (replicas_of home.plan home.frag) r) (message.Grant i ask) ∷ [] }) (silent_step n))) [ true ↦ (refl, tt) | false ↦ tt ]
+    elim (grants n.grants n.state r (i, ask)) as (λ b. SendsLater (cond b (record { after = record n { grants = with_promise n.grants r (i, ask) }; sends = mail (nth 0 (replicas_of home.plan home.frag) r) (message.Grant i ask) ∷ [] }) (idle_step n))) [ true ↦ (refl, tt) | false ↦ tt ]
 
 message-later : (home : Home) (a : ℕ) (m : Message) (n : PlainNode) → SendsLater (on_message home a m n)
 message-later home a (message.Batch s index items) n = tt
@@ -154,7 +154,7 @@ message-later home a (message.Beat b) n = tt
 message-later home a (message.Ack i count) n = tt
 message-later home a (message.Ask i ask) n = ask-later home i ask (replica_number home a) n
 message-later home a (message.Grant i ask) n =
-    elim (is_up_failure n.state && may_enter_by n.grants (i, ask)) as (λ b. SendsLater (cond b (enter_step home n) (silent_step n))) [ true ↦ entered-later home n | false ↦ tt ]
+    elim (is_up_failure n.state && may_enter_by n.grants (i, ask)) as (λ b. SendsLater (cond b (enter_step home n) (idle_step n))) [ true ↦ entered-later home n | false ↦ tt ]
 message-later home a (message.SnapAsk i try) n = unless-later n (on_snap_ask home a i try n) (refl, tt)
 
 packet-later : (home : Home) (a : ℕ) (packet : Packet) (n : PlainNode) → SendsLater (on_packet home a packet n)
@@ -174,9 +174,9 @@ milled-later home r n =
 
 processing-later : (home : Home) (n : PlainNode) → SendsLater (processing_step home n)
 processing-later home n =
-    elim (is_stabilization n.state) as (λ b. SendsLater (cond b (silent_step n) (elim (due_at home n n.clock) [ None ↦ silent_step n | Some last ↦ processing_upto home last n ]))) [
+    elim (is_stabilization n.state) as (λ b. SendsLater (cond b (idle_step n) (elim (due_at home n n.clock) [ None ↦ idle_step n | Some last ↦ processing_upto home last n ]))) [
       | true ↦ tt
-      | false ↦ elim (due_at home n n.clock) as (λ o. SendsLater (elim o [ None ↦ silent_step n | Some last ↦ processing_upto home last n ])) [
+      | false ↦ elim (due_at home n n.clock) as (λ o. SendsLater (elim o [ None ↦ idle_step n | Some last ↦ processing_upto home last n ])) [
         | None ↦ tt
         | Some last ↦ processed last
       ]
@@ -184,7 +184,7 @@ processing-later home n =
   where
     processed : (last : ℕ) → SendsLater (processing_upto home last n)
     processed last =
-        let count = last + 1 - view_cursor n in
+        let count = last + 1 - node_frontier n in
         let stably = min count (complete_buckets home n) in
         let new = with_failure (with_closed home (count - stably) (after_stable_buckets home stably n)) in
         give-later home (given_items (length (out_stable home n)) (given_by home n new (nat_lt 0 stably) (nat_lt stably count))) new
@@ -192,8 +192,8 @@ processing-later home n =
 reconciling-later : (home : Home) (n : PlainNode) → SendsLater (ask_step home n)
 reconciling-later home n =
     let asks : Stepped PlainNode = record { after = record n { grants = with_ask n.grants }; sends = to_each (message.Ask (own_key n.grants).0 (own_key n.grants).1) (peers_of home) } in
-    elim (wants_to_reconcile home n && is_none n.grants.promise) as (λ b. SendsLater (cond b (cond (list_all is_silent (peer_watches home n)) (enter_step home n) asks) (silent_step n))) [
-      | true ↦ elim (list_all is_silent (peer_watches home n)) as (λ b. SendsLater (cond b (enter_step home n) asks)) [
+    elim (wants_to_reconcile home n && is_none n.grants.promise) as (λ b. SendsLater (cond b (cond (list_all is_absent (peer_watches home n)) (enter_step home n) asks) (idle_step n))) [
+      | true ↦ elim (list_all is_absent (peer_watches home n)) as (λ b. SendsLater (cond b (enter_step home n) asks)) [
         | true ↦ entered-later home n
         | false ↦ each-to IsLater (message.Ask (own_key n.grants).0 (own_key n.grants).1) (peers_of home) (λ to. refl)
       ]
@@ -264,7 +264,7 @@ source_took-later plan u a (Plain (message.Grant i n)) x = tt
 source_took-later plan u a (Plain (message.SnapAsk i n)) x = tt
 source_took-later plan u a (SnapFor i try snap) x = tt
 
-beats-later : (ids : List ℕ) (subs : List Sub) → Each IsLater (map (λ (y : ℕ × Sub). mail y.0 (source_beat (link_of y.1))) (zip ids subs))
+beats-later : (ids : List ℕ) (subs : List Sub) → Each IsLater (map (λ (y : ℕ × Sub). mail y.0 (source_beat (tally_of y.1))) (zip ids subs))
 beats-later [] [] = tt
 beats-later [] (sub ∷ subs) = tt
 beats-later (b ∷ ids) [] = tt

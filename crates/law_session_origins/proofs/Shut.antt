@@ -6,7 +6,7 @@ use Rattle.dpc_model.specs.Inlets.{same_sess, sess_of}
 use Rattle.dpc_model.specs.Actors.{role_of}
 use Rattle.dpc_model.specs.declared.actors.Role.{Role}
 use Rattle.dpc_model.specs.declared.actors.Role.TheVariants.{Source as IsSource, Node as IsNode, Client as IsClient, Nobody}
-use Rattle.dpc_model.specs.Sessions.{no_session, link_of}
+use Rattle.dpc_model.specs.Sessions.{no_session, tally_of}
 use Rattle.dpc_model.specs.declared.sessions.Sub.{Sub}
 use Rattle.dpc_model.specs.declared.messages.Event.{Event}
 use Rattle.dpc_model.specs.declared.messages.Sess.{Sess}
@@ -40,15 +40,15 @@ use Rattle.law_session_origins.proofs.OpenedSources.{source-goes}
 
 -- ---- what is not open
 
-shut-of : (sub : Sub) → is_first_link (link_of sub) ≡ false → NotOpen (sess_of 1 1) sub
-shut-of sub e = record { other = λ v m link. ap is_first_link (sym link) ∙ e }
+shut-of : (sub : Sub) → is_first_link (tally_of sub) ≡ false → NotOpen (sess_of 1 1) sub
+shut-of sub e = record { other = λ v m tally. ap is_first_link (sym tally) ∙ e }
 
-of-shut : (sub : Sub) → NotOpen (sess_of 1 1) sub → is_first_link (link_of sub) ≡ false
-of-shut sub h = by-link (link_of sub) refl
+of-shut : (sub : Sub) → NotOpen (sess_of 1 1) sub → is_first_link (tally_of sub) ≡ false
+of-shut sub h = by-tally (tally_of sub) refl
   where
-    by-link : (o : Option (Sess × ℕ)) → link_of sub ≡ o → is_first_link o ≡ false
-    by-link None link = refl
-    by-link (Some u) link = h.other u.0 u.1 link
+    by-tally : (o : Option (Sess × ℕ)) → tally_of sub ≡ o → is_first_link o ≡ false
+    by-tally None tally = refl
+    by-tally (Some u) tally = h.other u.0 u.1 tally
 
 -- nobody brings a subscription to it
 no-bringing : (l : Channel) (w : World) (e : Event) → same_sess l.sess (sess_of 1 1) ≡ true → IsPastWorld w → Brings l w e → ⊥
@@ -112,12 +112,12 @@ event-shut w most a k e fine past shut = ap (λ (p : Plan). role_keeps (happens 
     of-plan : (happens w e).plan ≡ w.plan
     of-plan = (event-grows w e).plan
 
-    source-shut : (u : ℕ) → role_of w.plan a ≡ IsSource u → is_first_link (link_of (nth no_session (source_at w u).subs k)) ≡ false → u < length w.sources → is_first_link (link_of (nth no_session (source_at (happens w e) u).subs k)) ≡ false
+    source-shut : (u : ℕ) → role_of w.plan a ≡ IsSource u → is_first_link (tally_of (nth no_session (source_at w u).subs k)) ≡ false → u < length w.sources → is_first_link (tally_of (nth no_session (source_at (happens w e) u).subs k)) ≡ false
     source-shut u is h within =
         let few = (source-here (happens w e) (most + 1) u next-fine).subs in
         let same : length (source_readers (happens w e).plan u) ≡ length (source_readers w.plan u) = ap (λ (p : Plan). length (source_readers p u)) of-plan in
         elim (low-or-past (source_at (happens w e) u).subs k (length (source_readers w.plan u)) (omega (arith, few, same))) [
-          | inr far ↦ ap (λ (z : Sub). is_first_link (link_of z)) far
+          | inr far ↦ ap (λ (z : Sub). is_first_link (tally_of z)) far
           | inl low ↦ elim (source-goes w a (nth 0 (source_readers w.plan u) k) u k (sess_of 1 1) (record { role = is; reader = refl; low = low })
               (record { few = source-many w most u fine within; none = shut-of (nth no_session (source_at w u).subs k) h }) e) [
                 | inl opens ↦ absurd (no-bringing (record { sender = a; reader = nth 0 (source_readers w.plan u) k; sess = sess_of 1 1 }) w e refl past opens.1)
@@ -133,8 +133,8 @@ event-shut w most a k e fine past shut = ap (λ (p : Plan). role_keeps (happens 
         many : length (happens w e).sources ≡ length w.sources
         many = by-event w (λ e next. length next.sources ≡ length w.sources) (same-many w) e
 
-        by-place : (b : Bool) → nat_lt u (length w.sources) ≡ b → is_first_link (link_of (nth no_session (source_at (happens w e) u).subs k)) ≡ false
-        by-place false f = let far = not-lt u (length w.sources) f in ap (λ (z : Sub). is_first_link (link_of z)) (no-subs (happens w e) u k (omega (arith, far, many)))
+        by-place : (b : Bool) → nat_lt u (length w.sources) ≡ b → is_first_link (tally_of (nth no_session (source_at (happens w e) u).subs k)) ≡ false
+        by-place false f = let far = not-lt u (length w.sources) f in ap (λ (z : Sub). is_first_link (tally_of z)) (no-subs (happens w e) u k (omega (arith, far, many)))
         by-place true f = source-shut u is h (lt-of u (length w.sources) f)
     by-role (IsNode f r) is h = by-node (slot_of (happens w e) a).node refl
       where
@@ -148,7 +148,7 @@ event-shut w most a k e fine past shut = ap (λ (p : Plan). role_keeps (happens 
             let many = (shape-of (home_of (happens w e).plan (f, r)) (most + 1) n (node-here (happens w e) (most + 1) a f r n next-fine role_next up).orderly.shape).subs in
             let same : length (own_readers (home_of (happens w e).plan (f, r))) ≡ length (own_readers (home_of w.plan (f, r))) = ap (λ (p : Plan). length (own_readers (home_of p (f, r)))) of-plan in
             elim (low-or-past n.subs k (length (own_readers (home_of w.plan (f, r)))) (omega (arith, many, same))) [
-              | inr far ↦ ap (λ (z : Sub). is_first_link (link_of z)) far
+              | inr far ↦ ap (λ (z : Sub). is_first_link (tally_of z)) far
               | inl low ↦ elim (node-goes w most a (nth 0 (own_readers (home_of w.plan (f, r))) k) f r k (sess_of 1 1) fine (record { role = is; reader = refl; distinct = readers-distinct w.plan (Frag f); low = low }) none-here e) [
                 | inl opens ↦ absurd (no-bringing (record { sender = a; reader = nth 0 (own_readers (home_of w.plan (f, r))) k; sess = sess_of 1 1 }) w e refl past opens.1)
                 | inr still ↦ of-shut (nth no_session n.subs k) (still n up)

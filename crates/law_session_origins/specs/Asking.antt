@@ -3,7 +3,7 @@ use Rattle.std.specs.Prelude.{◌≡◌, false, ⊤, ℕ, List, Some, IfSome, sl
 use Rattle.dpc_lists.specs.Lists.{nth}
 use Rattle.dpc_model.specs.Inlets.{same_sess, sess_of}
 use Rattle.dpc_model.specs.Actors.{role_of}
-use Rattle.dpc_model.specs.Sessions.{link_of}
+use Rattle.dpc_model.specs.Sessions.{tally_of}
 use Rattle.dpc_model.specs.declared.actors.Role.{Role}
 use Rattle.dpc_model.specs.declared.actors.Role.TheVariants.{Source as IsSource, Node as IsNode, Client as IsClient, Nobody}
 use Rattle.dpc_model.specs.declared.messages.Event.{Event}
@@ -26,7 +26,7 @@ pub record IsSentFor (l : Channel) (es : List Envelope) (asked : Subscribe) : Ty
 -- the sessions that a sender keeps open
 abbrev pub OpenedByAsking : Plan → List Event → ℕ → List ℕ → List Sub → Type 0
 OpenedByAsking plan events a readers subs =
-    (k : ℕ) (sub : Sub) → slice_get subs k ≡ Some sub → IfSome (link_of sub) (λ u. same_sess u.0 (sess_of 1 1) ≡ false →
+    (k : ℕ) (sub : Sub) → slice_get subs k ≡ Some sub → IfSome (tally_of sub) (λ u. same_sess u.0 (sess_of 1 1) ≡ false →
     let l : Channel = record { sender = a; reader = nth 0 readers k; sess = u.0 } in
     IsSentFor l (run plan events).envelopes (opened_by l (first_subscription l) (new_world plan) events))
 

@@ -4,7 +4,7 @@ use Rattle.dpc_lists.specs.Lists.{nth, IsPrefixOf}
 use Rattle.dpc_model.specs.Inlets.{same_sess, sess_of}
 use Rattle.dpc_model.specs.Actors.{role_of, inputs_of}
 use Rattle.dpc_model.specs.Ports.{Port}
-use Rattle.dpc_model.specs.Sessions.{no_session, link_of}
+use Rattle.dpc_model.specs.Sessions.{no_session, tally_of}
 use Rattle.dpc_model.specs.declared.actors.Role.{Role}
 use Rattle.dpc_model.specs.declared.actors.Role.TheVariants.{Source as IsSource, Node as IsNode, Client as IsClient, Nobody}
 use Rattle.dpc_model.specs.declared.messages.Sess.{Sess}
@@ -36,10 +36,10 @@ is_first_link (Some u) = same_sess u.0 (sess_of 1 1)
 
 abbrev pub node_keeps : ℕ → Option PlainNode → Bool
 node_keeps k None = false
-node_keeps k (Some n) = is_first_link (link_of (nth no_session n.subs k))
+node_keeps k (Some n) = is_first_link (tally_of (nth no_session n.subs k))
 
 abbrev pub role_keeps : World → ℕ → ℕ → Role → Bool
-role_keeps w a k (IsSource s) = is_first_link (link_of (nth no_session (source_at w s).subs k))
+role_keeps w a k (IsSource s) = is_first_link (tally_of (nth no_session (source_at w s).subs k))
 role_keeps w a k (IsNode f r) = node_keeps k (slot_of w a).node
 role_keeps w a k (IsClient c) = false
 role_keeps w a k Nobody = false

@@ -79,14 +79,14 @@ module _ (plan : Plan) (s : StreamRef) (a : ℕ) (readers : List ℕ) (x : Shown
                 newer = λ u f. rw (mine, here) (no-more (h u) ([] ++ []) refl ∙ held.newer u (newer-kept u asked.sess sub.kept f e));
               }
               | false ↦ record {
-                open_one = λ l f. by-link e l f;
+                open_one = λ l f. by-tally e l f;
                 newer = λ u f. rw (mine, here, newer-other u asked.sess f) (no-more (h u) ([] ++ []) refl ∙ held.newer u (newer-kept u asked.sess sub.kept f e));
               }
             ]
       ]) refl
     where
-      link-same : (n : ℕ) (v : Sess) (l : Sess × ℕ) → ◌≡◌ {A = Option (Sess × ℕ)} (Some (v, n)) (Some l) → v ≡ l.0
-      link-same n v l f = let same : ◌≡◌ {A = Sess × ℕ} (v, n) l = cc in ap (λ (y : Sess × ℕ). y.0) same
+      tally-same : (n : ℕ) (v : Sess) (l : Sess × ℕ) → ◌≡◌ {A = Option (Sess × ℕ)} (Some (v, n)) (Some l) → v ≡ l.0
+      tally-same n v l f = let same : ◌≡◌ {A = Sess × ℕ} (v, n) l = cc in ap (λ (y : Sess × ℕ). y.0) same
 
       first-mail : Message
       first-mail = message.Batch asked.sess 0 (first_batch x asked)
@@ -97,10 +97,10 @@ module _ (plan : Plan) (s : StreamRef) (a : ℕ) (readers : List ℕ) (x : Shown
           let here : (nth 0 readers k == nth 0 readers k) ≡ true = eq-test (nth 0 readers k) (nth 0 readers k) refl in
           rw (mine, here, same-self asked.sess, held.newer asked.sess e) (subst (λ (xs : List Item). LeavesView plan s asked x xs) (sym (append-nil (first_batch x asked))) (first-law plan s asked x view))
 
-      by-link : is_newer_than_kept asked.sess sub.kept ≡ true → (l : Sess × ℕ) → ◌≡◌ {A = Option (Sess × ℕ)} (Some (asked.sess, 1)) (Some l) →
+      by-tally : is_newer_than_kept asked.sess sub.kept ≡ true → (l : Sess × ℕ) → ◌≡◌ {A = Option (Sess × ℕ)} (Some (asked.sess, 1)) (Some l) →
           LeavesView plan s (opens a readers (mail (nth 0 readers k) first-mail ∷ []) came q k l.0) x (h l.0 ++ mailed a readers (mail (nth 0 readers k) first-mail ∷ []) k l.0)
-      by-link e l f =
-          subst (λ (v : Sess). LeavesView plan s (opens a readers (mail (nth 0 readers k) first-mail ∷ []) came q k v) x (h v ++ mailed a readers (mail (nth 0 readers k) first-mail ∷ []) k v)) (link-same 1 asked.sess l f) (at-own e)
+      by-tally e l f =
+          subst (λ (v : Sess). LeavesView plan s (opens a readers (mail (nth 0 readers k) first-mail ∷ []) came q k v) x (h v ++ mailed a readers (mail (nth 0 readers k) first-mail ∷ []) k v)) (tally-same 1 asked.sess l f) (at-own e)
 
   -- all sessions of the sender
   pub asked-held : (d : Sub) (subs : List Sub) (h : ℕ → Sess → List Item) (q : ℕ → Sess → Subscribe) → AreDistinct readers → length subs ≤ length readers → k < length readers → IsView plan s x → HeldBy plan s x h q subs →

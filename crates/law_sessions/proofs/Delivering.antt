@@ -21,7 +21,7 @@ use Rattle.dpc_model.specs.declared.plans.StreamRef.TheVariants.{Frag}
 use Rattle.node_model.specs.Mails.{Snap, Packet, Plain, SnapFor, mail, Stepped}
 use Rattle.dpc_model.specs.NodeStates.{is_up_failure}
 use Rattle.node_model.specs.Nodes.{Home, PlainNode, streams_of, own_readers, shown}
-use Rattle.node_model.specs.NodeSteps.{silent_step, with_port, after_taking, with_stamps_of, on_batch, on_subscribe, on_truncation, after_loss, on_upstream_beat, on_peer_beat, on_ack, on_ask, on_grant, enter_step, on_snap_ask, on_snap, after_adoption, reader_place, replica_number, on_message, on_packet, with_marks_ended, packet_step}
+use Rattle.node_model.specs.NodeSteps.{idle_step, with_port, after_taking, with_stamps_of, on_batch, on_subscribe, on_truncation, after_loss, on_upstream_beat, on_peer_beat, on_ack, on_ask, on_grant, enter_step, on_snap_ask, on_snap, after_adoption, reader_place, replica_number, on_message, on_packet, with_marks_ended, packet_step}
 use Rattle.world_model.specs.Worlds.{Envelope, from}
 use Rattle.world_model.specs.SessionLaw.{Channel}
 use Rattle.world_model.specs.Safe.{IsTruePacket}
@@ -60,14 +60,14 @@ batch-rest home u index items (Some (p, r)) n =
 
 -- ---- a truncation, a beat, an acknowledgement
 
-truncation-goes : (home : Home) (a most more : ℕ) (u : Sess) (base : ℕ) (o : Option (ℕ × ℕ)) (n : PlainNode) → IsPlace home → IsGood home most n → IsGood home more (on_truncation home u base o n) → Goes home a n (silent_step (on_truncation home u base o n))
+truncation-goes : (home : Home) (a most more : ℕ) (u : Sess) (base : ℕ) (o : Option (ℕ × ℕ)) (n : PlainNode) → IsPlace home → IsGood home most n → IsGood home more (on_truncation home u base o n) → Goes home a n (idle_step (on_truncation home u base o n))
 unfolding after_loss
 truncation-goes home a most more u base None n place g k = silent-goes home a n [] refl
 truncation-goes home a most more u base (Some (p, r)) n place g k =
     let old = nth no_port n.ports p in
     let port = on_truncated r u base old in
     let m = with_port p (λ _. port) n in
-    (elim (same_sess u old.inlet.sess && all_truncated port) as (λ b. IsGood home more (cond b (after_loss home m) m) → Goes home a n (silent_step (cond b (after_loss home m) m))) [
+    (elim (same_sess u old.inlet.sess && all_truncated port) as (λ b. IsGood home more (cond b (after_loss home m) m) → Goes home a n (idle_step (cond b (after_loss home m) m))) [
       | true ↦ λ h. shut-goes home a n (after_loss home m) refl
       | false ↦ λ h. rest-goes home a most more n m [] place g h (port-rest p (λ _. port) n) refl
     ]) k
@@ -90,20 +90,20 @@ ask-goes : (home : Home) (a most : ℕ) (i ask : ℕ) (o : Option ℕ) (n : Plai
 ask-goes home a most i ask None n place g k = silent-goes home a n [] refl
 ask-goes home a most i ask (Some r) n place g k =
     let granting : Stepped PlainNode = record { after = record n { grants = with_promise n.grants r (i, ask) }; sends = mail (nth 0 (replicas_of home.plan home.frag) r) (message.Grant i ask) ∷ [] } in
-    (elim (grants n.grants n.state r (i, ask)) as (λ b. IsGood home most (cond b granting (silent_step n)).after → Goes home a n (cond b granting (silent_step n))) [
+    (elim (grants n.grants n.state r (i, ask)) as (λ b. IsGood home most (cond b granting (idle_step n)).after → Goes home a n (cond b granting (idle_step n))) [
       | true ↦ λ h. rest-goes home a most most n granting.after granting.sends place g h (record { recovering = refl; cursor = refl; closed = refl; subs = refl }) refl
       | false ↦ λ h. silent-goes home a n [] refl
     ]) k
 
 grant-goes : (home : Home) (a i ask : ℕ) (n : PlainNode) → IsServer home n → Goes home a n (on_grant home i ask n)
-grant-goes home a i ask n server = elim (is_up_failure n.state && may_enter_by n.grants (i, ask)) as (λ b. Goes home a n (cond b (enter_step home n) (silent_step n))) [
+grant-goes home a i ask n server = elim (is_up_failure n.state && may_enter_by n.grants (i, ask)) as (λ b. Goes home a n (cond b (enter_step home n) (idle_step n))) [
   | true ↦ entered-goes home a n server
   | false ↦ silent-goes home a n [] refl
 ]
 
-snap-goes : (home : Home) (a i try : ℕ) (s : Snap) (n : PlainNode) → Goes home a n (silent_step (on_snap home i try s n))
+snap-goes : (home : Home) (a i try : ℕ) (s : Snap) (n : PlainNode) → Goes home a n (idle_step (on_snap home i try s n))
 unfolding after_adoption
-snap-goes home a i try s n = elim (n.recovering && i == n.grants.inc && try == n.tries) as (λ b. Goes home a n (silent_step (cond b (after_adoption home s n) n))) [
+snap-goes home a i try s n = elim (n.recovering && i == n.grants.inc && try == n.tries) as (λ b. Goes home a n (idle_step (cond b (after_adoption home s n) n))) [
   | true ↦ shut-goes home a n (after_adoption home s n) refl
   | false ↦ silent-goes home a n [] refl
 ]
@@ -138,7 +138,7 @@ subscribe-takes home a most sender asked n place distinct g = by-recovering n.re
     e : Envelope
     e = record { sender = sender; to = a; packet = Plain (message.Subscribe asked) }
 
-    quiet : Takes home a (record { sender = sender; to = a; packet = Plain (message.Subscribe asked) }) n (silent_step n)
+    quiet : Takes home a (record { sender = sender; to = a; packet = Plain (message.Subscribe asked) }) n (idle_step n)
     quiet h q held = silent-goes home a n [] refl h q held
 
     at-place : n.recovering ≡ false → (o : Option ℕ) → reader_place home sender ≡ o → Takes home a (record { sender = sender; to = a; packet = Plain (message.Subscribe asked) }) n (on_subscribe home asked o n)
@@ -155,7 +155,7 @@ subscribe-takes home a most sender asked n place distinct g = by-recovering n.re
         subst (λ (y : Shown). HeldBy home.plan (Frag home.frag) y (λ j u. h j u ++ mailed a readers (on_subscribe home asked (Some k) n).sends j u) (opens a readers (on_subscribe home asked (Some k) n).sends (record { sender = sender; to = a; packet = Plain (message.Subscribe asked) }) q) subs) (sym (shown-subs home n subs))
         (subst (λ (b : ℕ). HeldBy home.plan (Frag home.frag) (shown home n) (λ j u. h j u ++ mailed a readers (on_subscribe home asked (Some k) n).sends j u) (opens a readers (on_subscribe home asked (Some k) n).sends (record { sender = b; to = a; packet = Plain (message.Subscribe asked) }) q) subs) here taken)
 
-    by-recovering : (b : Bool) → n.recovering ≡ b → Takes home a (record { sender = sender; to = a; packet = Plain (message.Subscribe asked) }) n (cond b (silent_step n) (on_subscribe home asked (reader_place home sender) n))
+    by-recovering : (b : Bool) → n.recovering ≡ b → Takes home a (record { sender = sender; to = a; packet = Plain (message.Subscribe asked) }) n (cond b (idle_step n) (on_subscribe home asked (reader_place home sender) n))
     by-recovering true f = quiet
     by-recovering false f = at-place f (reader_place home sender) refl
 
@@ -177,7 +177,7 @@ message-takes home a most sender (message.Beat b) n actor distinct way fits trut
 message-takes home a most sender (message.Ack i count) n actor distinct way fits truth g =
     goes-opens home a (record { sender = sender; to = a; packet = Plain (message.Ack i count) }) n (on_message home sender (message.Ack i count) n) (λ l. refl) (by-recovering n.recovering refl)
   where
-    by-recovering : (b : Bool) → n.recovering ≡ b → Goes home a n (silent_step (cond b n (on_ack home i count (reader_place home sender) n)))
+    by-recovering : (b : Bool) → n.recovering ≡ b → Goes home a n (idle_step (cond b n (on_ack home i count (reader_place home sender) n)))
     by-recovering true f = silent-goes home a n [] refl
     by-recovering false f = rest-goes home a most most n (on_ack home i count (reader_place home sender) n) [] actor.place g (on_ack-good home most i count (reader_place home sender) n f g) (ack-rest home i count (reader_place home sender) n) refl
 message-takes home a most sender (message.Ask i ask) n actor distinct way fits truth g =
@@ -186,7 +186,7 @@ message-takes home a most sender (message.Grant i ask) n actor distinct way fits
     goes-opens home a (record { sender = sender; to = a; packet = Plain (message.Grant i ask) }) n (on_message home sender (message.Grant i ask) n) (λ l. refl) (grant-goes home a i ask n (server-of home most n distinct g))
 message-takes home a most sender (message.SnapAsk i try) n actor distinct way fits truth g =
     goes-opens home a (record { sender = sender; to = a; packet = Plain (message.SnapAsk i try) }) n (on_message home sender (message.SnapAsk i try) n) (λ l. refl)
-    (elim n.recovering as (λ b. Goes home a n (cond b (silent_step n) (on_snap_ask home sender i try n))) [
+    (elim n.recovering as (λ b. Goes home a n (cond b (idle_step n) (on_snap_ask home sender i try n))) [
       | true ↦ silent-goes home a n [] refl
       | false ↦ silent-goes home a n (on_snap_ask home sender i try n).sends refl
     ])

@@ -2,7 +2,7 @@
 use Rattle.std.proofs.Common.{◌≡◌, ℕ, zero, suc, ◌≤◌, Bool, true, false, cond, ◌&&◌, ◌==◌, List, [], ◌∷◌, ◌++◌, map, length, refl, sym, ap, subst, ◌∙◌, Option, Some, None, slice_get, append_assoc}
 use Rattle.std.proofs.lemmas.List.{append-nil}
 use Rattle.dpc_lists.specs.Lists.{nth, list_all}
-use Rattle.dpc_model.specs.Sessions.{Shown, link_of, with_batch, with_batches, batches_of, is_newer_than_kept}
+use Rattle.dpc_model.specs.Sessions.{Shown, tally_of, with_batch, with_batches, batches_of, is_newer_than_kept}
 use Rattle.dpc_model.specs.declared.sessions.Sub.{Sub}
 use Rattle.dpc_model.specs.declared.tuples.Item.{Item}
 use Rattle.dpc_model.specs.declared.messages.Sess.{Sess}
@@ -125,10 +125,10 @@ module _ (plan : Plan) (s : StreamRef) (a : ℕ) (readers : List ℕ) where
       (view-held plan s x y (h k) (q k) sub same (held k sub (ap (λ (l : List Sub). slice_get l k) (sym e) ∙ f)))
 
   -- a session that is not open
-  shut-link : (sub : Sub) → sub.is_open ≡ false → link_of sub ≡ None
-  shut-link sub e = by-kept sub.kept refl
+  shut-tally : (sub : Sub) → sub.is_open ≡ false → tally_of sub ≡ None
+  shut-tally sub e = by-kept sub.kept refl
     where
-      by-kept : (o : Option Sess) → sub.kept ≡ o → link_of sub ≡ None
+      by-kept : (o : Option Sess) → sub.kept ≡ o → tally_of sub ≡ None
       by-kept None f = rw f refl
       by-kept (Some u) f = rw (f, e) refl
 
@@ -139,7 +139,7 @@ module _ (plan : Plan) (s : StreamRef) (a : ℕ) (readers : List ℕ) where
       let f = shuts k sub' e in
       let old = held k f.0 f.1 in
       record {
-        open_one = λ l g. let none = shut-link sub' f.3 in cc;
+        open_one = λ l g. let none = shut-tally sub' f.3 in cc;
         newer = λ u g. no-more (h k u) (mailed a readers ms k u) (bare-carried (line_of a readers k u) a ms bare) ∙ old.newer u (subst (λ (o : Option Sess). is_newer_than_kept u o ≡ true) f.2 g);
       }
 

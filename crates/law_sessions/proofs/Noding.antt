@@ -4,12 +4,12 @@ use Rattle.std.specs.Prelude.{zip, is_none}
 use Rattle.dpc_lists.specs.Lists.{nth, list_all}
 use Rattle.dpc_model.specs.Fragments.{serial, fragment_value, ideal_upto}
 use Rattle.dpc_model.specs.Operators.{all_of}
-use Rattle.dpc_model.specs.Replicas.{is_silent}
+use Rattle.dpc_model.specs.Replicas.{is_absent}
 use Rattle.dpc_model.specs.Granting.{with_ask, own_key}
 use Rattle.dpc_model.specs.Ports.{Port, must_reopen, choice_at, subscriptions, acks_to}
 use Rattle.dpc_model.specs.Inlets.{with_next_session, asked_by}
 use Rattle.dpc_model.specs.Actors.{senders_of}
-use Rattle.dpc_model.specs.Sessions.{Shown, with_session_shut, link_of, given_items, with_batches}
+use Rattle.dpc_model.specs.Sessions.{Shown, with_session_shut, tally_of, given_items, with_batches}
 use Rattle.dpc_model.specs.declared.sessions.Sub.{Sub}
 use Rattle.dpc_model.specs.declared.tuples.Tuple.{Tuple}
 use Rattle.dpc_model.specs.declared.tuples.Tagged.{Tagged}
@@ -23,8 +23,8 @@ use Rattle.dpc_model.specs.declared.plans.StreamRef.{StreamRef}
 use Rattle.dpc_model.specs.declared.plans.StreamRef.TheVariants.{Frag}
 use Rattle.node_model.specs.Mails.{Mail, mail, mails, in_actor_order, to_each, Stepped}
 use Rattle.dpc_model.specs.NodeStates.{is_stabilization}
-use Rattle.node_model.specs.Nodes.{Home, PlainNode, spec_of, streams_of, own_readers, inputs_done, view_cursor, out_stable, out_view, out_tentative, shown, ready, complete_upto, due_at, wants_to_reconcile, buckets_of}
-use Rattle.node_model.specs.NodeSteps.{silent_step, then_do, give, given_by, given_stable, enter_step, after_stable_buckets, with_closed, with_failure, stably, processing_upto, processing_step, after_last_correction, mill_step, peers_of, peer_watches, after_clock, may_start_afresh, choice_step, ask_step, done_at, acks_from, beat_of, beats, announcing_step, serving_step, snapshot_ask_step, rest_of_tick, with_fresh_start, with_marks_ended, tick_step}
+use Rattle.node_model.specs.Nodes.{Home, PlainNode, spec_of, streams_of, own_readers, inputs_done, node_frontier, out_stable, out_with_closed, out_tentative, shown, ready, complete_upto, due_at, wants_to_reconcile, buckets_of}
+use Rattle.node_model.specs.NodeSteps.{idle_step, then_do, give, given_by, given_stable, enter_step, after_stable_buckets, with_closed, with_failure, stably, processing_upto, processing_step, after_last_correction, mill_step, peers_of, peer_watches, after_clock, may_start_afresh, choice_step, ask_step, done_at, acks_from, beat_of, beats, announcing_step, serving_step, snapshot_ask_step, rest_of_tick, with_fresh_start, with_marks_ended, tick_step}
 use Rattle.law_safety.proofs.Outputs.{inputs-held}
 use Rattle.law_safety.specs.Plans.{IsPlace}
 use Rattle.law_safety.proofs.Tests.{all-append, all-sort, all-map}
@@ -77,14 +77,14 @@ stable-same home n m inputs cursor =
     ap (λ (tss : List (List Tuple)). fragment_value (spec_of home).ops (serial tss) (m.cursor * home.plan.width)) inputs
     ∙ ap (λ (c : ℕ). fragment_value (spec_of home).ops (serial (inputs_done home n)) (c * home.plan.width)) cursor
 
-view-same : (home : Home) (n m : PlainNode) → inputs_done home m ≡ inputs_done home n → m.cursor ≡ n.cursor → m.closed ≡ n.closed → out_view home m ≡ out_view home n
-unfolding out_view
+view-same : (home : Home) (n m : PlainNode) → inputs_done home m ≡ inputs_done home n → m.cursor ≡ n.cursor → m.closed ≡ n.closed → out_with_closed home m ≡ out_with_closed home n
+unfolding out_with_closed
 view-same home n m inputs cursor closed =
-    ap (λ (tss : List (List Tuple)). fragment_value (spec_of home).ops (serial tss ++ all_of m.closed) (view_cursor m * home.plan.width)) inputs
+    ap (λ (tss : List (List Tuple)). fragment_value (spec_of home).ops (serial tss ++ all_of m.closed) (node_frontier m * home.plan.width)) inputs
     ∙ ap (λ (b : List (List Tagged)). fragment_value (spec_of home).ops (serial (inputs_done home n) ++ all_of b) ((m.cursor + length b) * home.plan.width)) closed
     ∙ ap (λ (c : ℕ). fragment_value (spec_of home).ops (serial (inputs_done home n) ++ all_of n.closed) ((c + length n.closed) * home.plan.width)) cursor
 
-tentative-same : (home : Home) (n m : PlainNode) → out_stable home m ≡ out_stable home n → out_view home m ≡ out_view home n → out_tentative home m ≡ out_tentative home n
+tentative-same : (home : Home) (n m : PlainNode) → out_stable home m ≡ out_stable home n → out_with_closed home m ≡ out_with_closed home n → out_tentative home m ≡ out_tentative home n
 unfolding out_tentative
 tentative-same home n m stable view = rw (stable, view) refl
 
@@ -110,7 +110,7 @@ recovering-goes home a most n m ms down g same bare =
     (λ k sub e. let f = ap (λ (l : List Sub). slice_get l k) (sym same) ∙ e in (sub, f, refl, all-shut n.subs (emptied-of n down g.orderly.recovering).subs k sub f)) bare
 
 -- one whose sessions are shut has none
-pub shut-goes : (home : Home) (a : ℕ) (n m : PlainNode) → m.subs ≡ map with_session_shut n.subs → Goes home a n (silent_step m)
+pub shut-goes : (home : Home) (a : ℕ) (n m : PlainNode) → m.subs ≡ map with_session_shut n.subs → Goes home a n (idle_step m)
 shut-goes home a n m same =
     keeps-shut home.plan (Frag home.frag) a (own_readers home) (shown home n) (shown home m) n.subs m.subs []
     (λ k sub e. let f = mapped with_session_shut n.subs k sub (ap (λ (l : List Sub). slice_get l k) (sym same) ∙ e) in (f.0, f.1, ap (λ (x : Sub). x.kept) f.2, ap (λ (x : Sub). x.is_open) f.2)) refl
@@ -157,9 +157,9 @@ with_failure-subs : (m : PlainNode) → (with_failure m).subs ≡ m.subs
 with_failure-subs m = refl
 
 processed_upto-goes : (home : Home) (a most last : ℕ) (n : PlainNode) → IsPlace home → IsServer home n → IsGood home most n → n.recovering ≡ false → is_stabilization n.state ≡ false →
-    view_cursor n ≤ last → suc last ≤ buckets_of home.plan → Goes home a n (processing_upto home last n)
+    node_frontier n ≤ last → suc last ≤ buckets_of home.plan → Goes home a n (processing_upto home last n)
 processed_upto-goes home a most last n place server g up calm low high =
-    let count = last + 1 - view_cursor n in
+    let count = last + 1 - node_frontier n in
     let r = stably home n count in
     let m = with_closed home (count - r) (after_stable_buckets home r n) in
     let new = with_failure m in
@@ -173,9 +173,9 @@ processed_upto-goes home a most last n place server g up calm low high =
 
 processing-goes : (home : Home) (a most : ℕ) (n : PlainNode) → IsPlace home → IsServer home n → IsGood home most n → n.recovering ≡ false → Goes home a n (processing_step home n)
 processing-goes home a most n place server g up =
-    (elim (is_stabilization n.state) as (λ b. is_stabilization n.state ≡ b → Goes home a n (cond b (silent_step n) (elim (due_at home n n.clock) [ None ↦ silent_step n | Some last ↦ processing_upto home last n ]))) [
+    (elim (is_stabilization n.state) as (λ b. is_stabilization n.state ≡ b → Goes home a n (cond b (idle_step n) (elim (due_at home n n.clock) [ None ↦ idle_step n | Some last ↦ processing_upto home last n ]))) [
       | true ↦ λ e. silent-goes home a n [] refl
-      | false ↦ λ e. (elim (due_at home n n.clock) as (λ o. due_at home n n.clock ≡ o → Goes home a n (elim o [ None ↦ silent_step n | Some last ↦ processing_upto home last n ])) [
+      | false ↦ λ e. (elim (due_at home n n.clock) as (λ o. due_at home n n.clock ≡ o → Goes home a n (elim o [ None ↦ idle_step n | Some last ↦ processing_upto home last n ])) [
         | None ↦ λ f. silent-goes home a n [] refl
         | Some last ↦ λ f. let range = due-range home n n.clock last f in processed_upto-goes home a most last n place server g up e range.0 range.1
       ]) refl
@@ -223,8 +223,8 @@ each-bare m ids h = all-map is_bare (λ a. mail a m) ids h
 
 beats-bare : (home : Home) (n : PlainNode) → list_all is_bare (beats home n) ≡ true
 beats-bare home n =
-    all-append is_bare (to_each (beat_of n None) (peers_of home)) (map (λ (x : ℕ × Sub). mail x.0 (beat_of n (link_of x.1))) (zip (own_readers home) n.subs))
-    (each-bare (beat_of n None) (peers_of home) (λ a. refl)) (all-map is_bare (λ (x : ℕ × Sub). mail x.0 (beat_of n (link_of x.1))) (zip (own_readers home) n.subs) (λ x. refl))
+    all-append is_bare (to_each (beat_of n None) (peers_of home)) (map (λ (x : ℕ × Sub). mail x.0 (beat_of n (tally_of x.1))) (zip (own_readers home) n.subs))
+    (each-bare (beat_of n None) (peers_of home) (λ a. refl)) (all-map is_bare (λ (x : ℕ × Sub). mail x.0 (beat_of n (tally_of x.1))) (zip (own_readers home) n.subs) (λ x. refl))
 
 pub choosing-bare : (home : Home) (n : PlainNode) → list_all is_bare (choice_step home n).sends ≡ true
 choosing-bare home n = all-sort is_bare (λ (m : Mail). m.to) (mails (subscriptions home.plan n.ports (streams_of home))) (subscriptions-bare home.plan n.ports (streams_of home))
@@ -237,9 +237,9 @@ reconciling-goes : (home : Home) (a most : ℕ) (n : PlainNode) → IsActor home
 reconciling-goes home a most n actor server up g =
     let m = record n { grants = with_ask n.grants } in
     let asks = to_each (message.Ask (own_key n.grants).0 (own_key n.grants).1) (peers_of home) in
-    (elim (wants_to_reconcile home n && is_none n.grants.promise) as (λ b. IsGood home most (cond b (cond (list_all is_silent (peer_watches home n)) (enter_step home n) (record { after = m; sends = asks })) (silent_step n)).after →
-    Goes home a n (cond b (cond (list_all is_silent (peer_watches home n)) (enter_step home n) (record { after = m; sends = asks })) (silent_step n))) [
-      | true ↦ elim (list_all is_silent (peer_watches home n)) as (λ b. IsGood home most (cond b (enter_step home n) (record { after = m; sends = asks })).after → Goes home a n (cond b (enter_step home n) (record { after = m; sends = asks }))) [
+    (elim (wants_to_reconcile home n && is_none n.grants.promise) as (λ b. IsGood home most (cond b (cond (list_all is_absent (peer_watches home n)) (enter_step home n) (record { after = m; sends = asks })) (idle_step n)).after →
+    Goes home a n (cond b (cond (list_all is_absent (peer_watches home n)) (enter_step home n) (record { after = m; sends = asks })) (idle_step n))) [
+      | true ↦ elim (list_all is_absent (peer_watches home n)) as (λ b. IsGood home most (cond b (enter_step home n) (record { after = m; sends = asks })).after → Goes home a n (cond b (enter_step home n) (record { after = m; sends = asks }))) [
         | true ↦ λ k. entered-goes home a n server
         | false ↦ λ k. rest-goes home a most most n m asks actor.place g k (record { recovering = refl; cursor = refl; closed = refl; subs = refl }) (each-bare (message.Ask (own_key n.grants).0 (own_key n.grants).1) (peers_of home) (λ b. refl))
       ]
@@ -275,8 +275,8 @@ snapshots-goes : (home : Home) (a : ℕ) (n : PlainNode) → Goes home a n (snap
 snapshots-goes home a n = silent-goes home a n (snapshot_ask_step home n).sends (each-bare (message.SnapAsk n.grants.inc n.tries) (peers_of home) (λ b. refl))
 
 -- a step behind one that sends nothing
-pub behind : (home : Home) (a : ℕ) (n m : PlainNode) (s : Stepped PlainNode) → Goes home a n (silent_step m) → Goes home a m s → Goes home a n s
-behind home a n m s h k = goes-then home a n (silent_step m) (λ _. s) h k
+pub behind : (home : Home) (a : ℕ) (n m : PlainNode) (s : Stepped PlainNode) → Goes home a n (idle_step m) → Goes home a m s → Goes home a n s
+behind home a n m s h k = goes-then home a n (idle_step m) (λ _. s) h k
 
 going_on-goes : (home : Home) (a most : ℕ) (n : PlainNode) → IsActor home a → AreDistinct (own_readers home) → IsGood home most n → Goes home a n (rest_of_tick home n)
 going_on-goes home a most n actor distinct g =
@@ -289,7 +289,7 @@ going_on-goes home a most n actor distinct g =
       ]
     ]) refl
 
-pub marks-goes : (home : Home) (a most : ℕ) (n : PlainNode) → IsPlace home → IsGood home most n → Goes home a n (silent_step (with_marks_ended n))
+pub marks-goes : (home : Home) (a most : ℕ) (n : PlainNode) → IsPlace home → IsGood home most n → Goes home a n (idle_step (with_marks_ended n))
 marks-goes home a most n place g =
     rest-goes home a most most n (with_marks_ended n) [] place g (marks-good home most n g) (record { recovering = refl; cursor = refl; closed = refl; subs = refl }) refl
 

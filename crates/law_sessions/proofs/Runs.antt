@@ -6,7 +6,7 @@ use Rattle.dpc_model.specs.Fragments.{ideal, ideal_upto}
 use Rattle.dpc_model.specs.Actors.{role_of, nodes_of}
 use Rattle.dpc_model.specs.declared.actors.Role.{Role}
 use Rattle.dpc_model.specs.declared.actors.Role.TheVariants.{Source as IsSource, Node as IsNode, Client as IsClient, Nobody}
-use Rattle.dpc_model.specs.Sessions.{Shown, link_of}
+use Rattle.dpc_model.specs.Sessions.{Shown, tally_of}
 use Rattle.dpc_model.specs.declared.sessions.Sub.{Sub}
 use Rattle.dpc_model.specs.declared.messages.Event.{Event}
 use Rattle.dpc_model.specs.declared.messages.Sess.{Sess}
@@ -94,25 +94,25 @@ new-world-held plan checked a =
 -- ---- a run
 
 law-of : (plan : Plan) (events : List Event) (w : World) (a : ℕ) (role : Role) → w.plan ≡ plan → HeldAt plan w.sources w.nodes (λ l. sent_after l [] (new_world plan) events) (λ l. opened_by l (first_subscription l) (new_world plan) events) a role → SessionLawOf plan events w a role
-law-of plan events w a (IsSource s) same held = λ k sub e. by-link k sub (link_of sub) refl (held k sub e)
+law-of plan events w a (IsSource s) same held = λ k sub e. by-tally k sub (tally_of sub) refl (held k sub e)
   where
-    by-link : (k : ℕ) (sub : Sub) (o : Option (Sess × ℕ)) → link_of sub ≡ o → HoldsSession plan (Source s) (source_shown plan s (nth no_source w.sources s)) (λ u. sent_after (line_of a (source_readers plan s) k u) [] (new_world plan) events) (λ u. opened_by (line_of a (source_readers plan s) k u) (first_subscription (line_of a (source_readers plan s) k u)) (new_world plan) events) sub →
+    by-tally : (k : ℕ) (sub : Sub) (o : Option (Sess × ℕ)) → tally_of sub ≡ o → HoldsSession plan (Source s) (source_shown plan s (nth no_source w.sources s)) (λ u. sent_after (line_of a (source_readers plan s) k u) [] (new_world plan) events) (λ u. opened_by (line_of a (source_readers plan s) k u) (first_subscription (line_of a (source_readers plan s) k u)) (new_world plan) events) sub →
         IfSome o (λ (l : Sess × ℕ). LeavesView plan (Source s) (opened_by (line_of a (source_readers plan s) k l.0) (first_subscription (line_of a (source_readers plan s) k l.0)) (new_world plan) events) (source_shown plan s (nth no_source w.sources s)) (sent_after (line_of a (source_readers plan s) k l.0) [] (new_world plan) events))
-    by-link k sub None f h = tt
-    by-link k sub (Some l) f h = h.open_one l f
+    by-tally k sub None f h = tt
+    by-tally k sub (Some l) f h = h.open_one l f
 law-of plan events w a (IsNode f r) same held =
     let slot : slot_of w a ≡ nth no_slot w.nodes (node_place plan a) = ap (λ (p : Plan). nth no_slot w.nodes (node_place p a)) same in
     subst (λ (x : Slot). IfSome x.node (λ (n : PlainNode). let home = home_of plan (f, r) in SessionsLeaveView plan events a (Frag f) (own_readers home) (shown home n) n.subs)) (sym slot) (by-node (nth no_slot w.nodes (node_place plan a)).node held)
   where
-    by-link : (n : PlainNode) (k : ℕ) (sub : Sub) (o : Option (Sess × ℕ)) → link_of sub ≡ o → HoldsSession plan (Frag f) (shown (home_of plan (f, r)) n) (λ u. sent_after (line_of a (own_readers (home_of plan (f, r))) k u) [] (new_world plan) events) (λ u. opened_by (line_of a (own_readers (home_of plan (f, r))) k u) (first_subscription (line_of a (own_readers (home_of plan (f, r))) k u)) (new_world plan) events) sub →
+    by-tally : (n : PlainNode) (k : ℕ) (sub : Sub) (o : Option (Sess × ℕ)) → tally_of sub ≡ o → HoldsSession plan (Frag f) (shown (home_of plan (f, r)) n) (λ u. sent_after (line_of a (own_readers (home_of plan (f, r))) k u) [] (new_world plan) events) (λ u. opened_by (line_of a (own_readers (home_of plan (f, r))) k u) (first_subscription (line_of a (own_readers (home_of plan (f, r))) k u)) (new_world plan) events) sub →
         IfSome o (λ (l : Sess × ℕ). LeavesView plan (Frag f) (opened_by (line_of a (own_readers (home_of plan (f, r))) k l.0) (first_subscription (line_of a (own_readers (home_of plan (f, r))) k l.0)) (new_world plan) events) (shown (home_of plan (f, r)) n) (sent_after (line_of a (own_readers (home_of plan (f, r))) k l.0) [] (new_world plan) events))
-    by-link n k sub None g h = tt
-    by-link n k sub (Some l) g h = h.open_one l g
+    by-tally n k sub None g h = tt
+    by-tally n k sub (Some l) g h = h.open_one l g
 
     by-node : (o : Option PlainNode) → HeldNode (home_of plan (f, r)) a (λ l. sent_after l [] (new_world plan) events) (λ l. opened_by l (first_subscription l) (new_world plan) events) o →
         IfSome o (λ (n : PlainNode). let home = home_of plan (f, r) in SessionsLeaveView plan events a (Frag f) (own_readers home) (shown home n) n.subs)
     by-node None h = tt
-    by-node (Some n) h = λ k sub e. by-link n k sub (link_of sub) refl (h k sub e)
+    by-node (Some n) h = λ k sub e. by-tally n k sub (tally_of sub) refl (h k sub e)
 law-of plan events w a (IsClient c) same held = tt
 law-of plan events w a Nobody same held = tt
 

@@ -6,7 +6,7 @@ use Rattle.std.proofs.lemmas.List.{length-take-le}
 use Rattle.dpc_lists.specs.Lists.{nth, list_all, changed, place_of, IsPrefixOf}
 use Rattle.dpc_model.specs.Streams.{count_below}
 use Rattle.dpc_model.specs.Fragments.{log_of, ideal}
-use Rattle.dpc_model.specs.Sessions.{no_session, link_of, answer_to, given_items}
+use Rattle.dpc_model.specs.Sessions.{no_session, tally_of, answer_to, given_items}
 use Rattle.dpc_model.specs.declared.sessions.Sub.{Sub}
 use Rattle.dpc_model.specs.declared.tuples.Tuple.{Tuple}
 use Rattle.dpc_model.specs.declared.tuples.Item.{Item}
@@ -177,7 +177,7 @@ source_delivered-takes plan a s sender (SnapFor i try snap) x checked fine = sil
 
 pub source_ticked-bare : (plan : Plan) (s now : ℕ) (x : SourceState) → list_all is_bare (source_tick_step plan s now x).sends ≡ true
 unfolding source_tick_step
-source_ticked-bare plan s now x = all-map is_bare (λ (y : ℕ × Sub). mail y.0 (source_beat (link_of y.1))) (zip (source_readers plan s) x.subs) (λ y. refl)
+source_ticked-bare plan s now x = all-map is_bare (λ (y : ℕ × Sub). mail y.0 (source_beat (tally_of y.1))) (zip (source_readers plan s) x.subs) (λ y. refl)
 
 pub source_ticked-goes : (plan : Plan) (a s now : ℕ) (x : SourceState) → SourceGoes plan a s x (source_tick_step plan s now x)
 unfolding source_tick_step

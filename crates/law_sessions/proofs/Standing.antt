@@ -2,10 +2,10 @@
 use Rattle.std.proofs.Common.{◌≡◌, ℕ, zero, suc, ◌+◌, ◌-◌, max, Bool, true, false, cond, not, ◌&&◌, ◌==◌, nat_lt, List, [], ◌∷◌, ◌++◌, length, drop, refl, sym, subst, arith, Option, Some, None}
 use Rattle.std.specs.Prelude.{Contains, is_none}
 use Rattle.dpc_lists.specs.Lists.{nth, changed, list_all}
-use Rattle.dpc_model.specs.Replicas.{is_silent}
+use Rattle.dpc_model.specs.Replicas.{is_absent}
 use Rattle.dpc_model.specs.Granting.{may_enter_by, own_key, with_ask, grants, with_promise}
 use Rattle.dpc_model.specs.Actors.{replicas_of}
-use Rattle.dpc_model.specs.Sessions.{Shown, Given, Answered, answer_to, is_newer_than_kept, link_of, first_batch, batches_from, batches_of, given_items, stable_items, boundary_item, tentative_items, passed_item, item_if, with_batches}
+use Rattle.dpc_model.specs.Sessions.{Shown, Given, Answered, answer_to, is_newer_than_kept, tally_of, first_batch, batches_from, batches_of, given_items, stable_items, boundary_item, tentative_items, passed_item, item_if, with_batches}
 use Rattle.dpc_model.specs.declared.sessions.Sub.{Sub}
 use Rattle.dpc_model.specs.declared.tuples.Tuple.{Tuple}
 use Rattle.dpc_model.specs.declared.tuples.Item.{Item}
@@ -16,8 +16,8 @@ use Rattle.dpc_model.specs.declared.messages.Message.TheVariants as message
 use Rattle.dpc_model.specs.declared.plans.Plan.{Plan}
 use Rattle.node_model.specs.Mails.{Packet, Plain, SnapFor, Mail, mail, to_readers, to_each, Stepped}
 use Rattle.dpc_model.specs.NodeStates.{is_up_failure, is_stabilization}
-use Rattle.node_model.specs.Nodes.{Home, PlainNode, own_readers, out_stable, out_view, out_tentative, shown, due_at, view_cursor, ready, wants_to_reconcile}
-use Rattle.node_model.specs.NodeSteps.{silent_step, then_do, give, given_by, given_stable, enter_step, after_stable_buckets, with_closed, with_failure, stably, processing_upto, processing_step, after_last_correction, mill_step, peers_of, peer_watches, choice_step, ask_step, announcing_step, serving_step, snapshot_ask_step, rest_of_tick, with_fresh_start, after_clock, with_marks_ended, may_start_afresh, tick_step, on_subscribe, on_ask, on_snap_ask, on_message, on_packet, reader_place, replica_number, packet_step}
+use Rattle.node_model.specs.Nodes.{Home, PlainNode, own_readers, out_stable, out_with_closed, out_tentative, shown, due_at, node_frontier, ready, wants_to_reconcile}
+use Rattle.node_model.specs.NodeSteps.{idle_step, then_do, give, given_by, given_stable, enter_step, after_stable_buckets, with_closed, with_failure, stably, processing_upto, processing_step, after_last_correction, mill_step, peers_of, peer_watches, choice_step, ask_step, announcing_step, serving_step, snapshot_ask_step, rest_of_tick, with_fresh_start, after_clock, with_marks_ended, may_start_afresh, tick_step, on_subscribe, on_ask, on_snap_ask, on_message, on_packet, reader_place, replica_number, packet_step}
 use Rattle.node_model.specs.Sources.{SourceState, bound_at, source_readers, source_shown, source_given, source_gives, source_emits, source_releases, source_subscribed, source_message, source_packet_step, source_tick_step}
 use Rattle.world_model.specs.Orderly.{items_carried}
 use Rattle.law_safety.proofs.Carried.{here, there}
@@ -124,7 +124,7 @@ standing-append out (m ∷ ms) ns h k = (h.0, standing-append out ms ns h.1 k)
 batches_from-standing : (out : List Tuple) (readers : List ℕ) (k : ℕ) (items : List Item) (subs : List Sub) → TentativesStand out items → AreStanding out (to_readers readers (batches_from k items subs))
 batches_from-standing out readers k items [] h = tt
 batches_from-standing out readers k items (sub ∷ subs) h =
-    elim (link_of sub) as (λ o. AreStanding out (to_readers readers (elim o [ None ↦ batches_from (k + 1) items subs | Some l ↦ (k, message.Batch l.0 l.1 items) ∷ batches_from (k + 1) items subs ]))) [
+    elim (tally_of sub) as (λ o. AreStanding out (to_readers readers (elim o [ None ↦ batches_from (k + 1) items subs | Some l ↦ (k, message.Batch l.0 l.1 items) ∷ batches_from (k + 1) items subs ]))) [
       | None ↦ batches_from-standing out readers (k + 1) items subs h
       | Some l ↦ (h, batches_from-standing out readers (k + 1) items subs h)
     ]
@@ -155,7 +155,7 @@ abbrev pub Stands : Home → Stepped PlainNode → Type 0
 Stands home s = AreStanding (out_tentative home s.after) s.sends
 
 tentative-subs : (home : Home) (n : PlainNode) (subs : List Sub) → out_tentative home (record n { subs = subs }) ≡ out_tentative home n
-unfolding out_tentative out_stable out_view
+unfolding out_tentative out_stable out_with_closed
 tentative-subs home n subs = refl
 
 give-stands : (home : Home) (items : List Item) (n : PlainNode) → TentativesStand (out_tentative home n) items → Stands home (give home items n)
@@ -168,7 +168,7 @@ entered-standing home out n = batches-standing out (own_readers home) (Undo (len
 
 processed-stands : (home : Home) (last : ℕ) (n : PlainNode) → Stands home (processing_upto home last n)
 processed-stands home last n =
-    let count = last + 1 - view_cursor n in
+    let count = last + 1 - node_frontier n in
     let r = stably home n count in
     let new = with_failure (with_closed home (count - r) (after_stable_buckets home r n)) in
     give-stands home (given_items (length (out_stable home n)) (given_by home n new (nat_lt 0 r) (nat_lt r count))) new
@@ -176,9 +176,9 @@ processed-stands home last n =
 
 processing-stands : (home : Home) (n : PlainNode) → Stands home (processing_step home n)
 processing-stands home n =
-    elim (is_stabilization n.state) as (λ b. Stands home (cond b (silent_step n) (elim (due_at home n n.clock) [ None ↦ silent_step n | Some last ↦ processing_upto home last n ]))) [
+    elim (is_stabilization n.state) as (λ b. Stands home (cond b (idle_step n) (elim (due_at home n n.clock) [ None ↦ idle_step n | Some last ↦ processing_upto home last n ]))) [
       | true ↦ tt
-      | false ↦ elim (due_at home n n.clock) as (λ o. Stands home (elim o [ None ↦ silent_step n | Some last ↦ processing_upto home last n ])) [
+      | false ↦ elim (due_at home n n.clock) as (λ o. Stands home (elim o [ None ↦ idle_step n | Some last ↦ processing_upto home last n ])) [
         | None ↦ tt
         | Some last ↦ processed-stands home last n
       ]
@@ -200,8 +200,8 @@ milled-stands home r n =
 reconciling-standing : (home : Home) (out : List Tuple) (n : PlainNode) → AreStanding out (ask_step home n).sends
 reconciling-standing home out n =
     let asks : Stepped PlainNode = record { after = record n { grants = with_ask n.grants }; sends = to_each (message.Ask (own_key n.grants).0 (own_key n.grants).1) (peers_of home) } in
-    elim (wants_to_reconcile home n && is_none n.grants.promise) as (λ b. AreStanding out (cond b (cond (list_all is_silent (peer_watches home n)) (enter_step home n) asks) (silent_step n)).sends) [
-      | true ↦ elim (list_all is_silent (peer_watches home n)) as (λ b. AreStanding out (cond b (enter_step home n) asks).sends) [
+    elim (wants_to_reconcile home n && is_none n.grants.promise) as (λ b. AreStanding out (cond b (cond (list_all is_absent (peer_watches home n)) (enter_step home n) asks) (idle_step n)).sends) [
+      | true ↦ elim (list_all is_absent (peer_watches home n)) as (λ b. AreStanding out (cond b (enter_step home n) asks).sends) [
         | true ↦ entered-standing home out n
         | false ↦ bare-standing out asks.sends (each-bare (message.Ask (own_key n.grants).0 (own_key n.grants).1) (peers_of home) (λ a. refl))
       ]
@@ -247,18 +247,18 @@ subscribe-stands home asked (Some k) n =
 ask-stands : (home : Home) (i ask : ℕ) (o : Option ℕ) (n : PlainNode) → Stands home (on_ask home i ask o n)
 ask-stands home i ask None n = tt
 ask-stands home i ask (Some r) n =
-    elim (grants n.grants n.state r (i, ask)) as (λ b. Stands home (cond b (record { after = record n { grants = with_promise n.grants r (i, ask) }; sends = mail (nth 0 (replicas_of home.plan home.frag) r) (message.Grant i ask) ∷ [] }) (silent_step n))) [ true ↦ (tt, tt) | false ↦ tt ]
+    elim (grants n.grants n.state r (i, ask)) as (λ b. Stands home (cond b (record { after = record n { grants = with_promise n.grants r (i, ask) }; sends = mail (nth 0 (replicas_of home.plan home.frag) r) (message.Grant i ask) ∷ [] }) (idle_step n))) [ true ↦ (tt, tt) | false ↦ tt ]
 
 message-stands : (home : Home) (a : ℕ) (m : Message) (n : PlainNode) → Stands home (on_message home a m n)
 message-stands home a (message.Batch s index items) n = tt
-message-stands home a (message.Subscribe asked) n = elim n.recovering as (λ b. Stands home (cond b (silent_step n) (on_subscribe home asked (reader_place home a) n))) [ true ↦ tt | false ↦ subscribe-stands home asked (reader_place home a) n ]
+message-stands home a (message.Subscribe asked) n = elim n.recovering as (λ b. Stands home (cond b (idle_step n) (on_subscribe home asked (reader_place home a) n))) [ true ↦ tt | false ↦ subscribe-stands home asked (reader_place home a) n ]
 message-stands home a (message.Truncated s base) n = tt
 message-stands home a (message.Beat b) n = tt
 message-stands home a (message.Ack i count) n = tt
 message-stands home a (message.Ask i ask) n = ask-stands home i ask (replica_number home a) n
 message-stands home a (message.Grant i ask) n =
-    elim (is_up_failure n.state && may_enter_by n.grants (i, ask)) as (λ b. Stands home (cond b (enter_step home n) (silent_step n))) [ true ↦ entered-standing home (out_tentative home (enter_step home n).after) n | false ↦ tt ]
-message-stands home a (message.SnapAsk i try) n = elim n.recovering as (λ b. Stands home (cond b (silent_step n) (on_snap_ask home a i try n))) [ true ↦ tt | false ↦ (tt, tt) ]
+    elim (is_up_failure n.state && may_enter_by n.grants (i, ask)) as (λ b. Stands home (cond b (enter_step home n) (idle_step n))) [ true ↦ entered-standing home (out_tentative home (enter_step home n).after) n | false ↦ tt ]
+message-stands home a (message.SnapAsk i try) n = elim n.recovering as (λ b. Stands home (cond b (idle_step n) (on_snap_ask home a i try n))) [ true ↦ tt | false ↦ (tt, tt) ]
 
 packet-stands : (home : Home) (a : ℕ) (p : Packet) (n : PlainNode) → Stands home (on_packet home a p n)
 packet-stands home a (Plain m) n = message-stands home a m n

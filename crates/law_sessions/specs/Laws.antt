@@ -4,7 +4,7 @@ use Rattle.dpc_lists.specs.Lists.{nth}
 use Rattle.dpc_model.specs.Actors.{role_of}
 use Rattle.dpc_model.specs.declared.actors.Role.{Role}
 use Rattle.dpc_model.specs.declared.actors.Role.TheVariants.{Source as IsSource, Node as IsNode, Client as IsClient, Nobody}
-use Rattle.dpc_model.specs.Sessions.{Shown, link_of}
+use Rattle.dpc_model.specs.Sessions.{Shown, tally_of}
 use Rattle.dpc_model.specs.declared.sessions.Sub.{Sub}
 use Rattle.dpc_model.specs.declared.tuples.Tuple.{Tuple}
 use Rattle.dpc_model.specs.declared.tuples.Item.{Item}
@@ -27,7 +27,7 @@ use Rattle.law_sessions.specs.Openings.{first_subscription, asks_for, opened_by}
 -- subscription with the sender's view
 abbrev pub SessionsLeaveView : Plan → List Event → ℕ → StreamRef → List ℕ → Shown → List Sub → Type 0
 SessionsLeaveView plan events a s readers x subs =
-    (k : ℕ) (sub : Sub) → slice_get subs k ≡ Some sub → IfSome (link_of sub) (λ l.
+    (k : ℕ) (sub : Sub) → slice_get subs k ≡ Some sub → IfSome (tally_of sub) (λ l.
     let line : Channel = record { sender = a; reader = nth 0 readers k; sess = l.0 } in
     LeavesView plan s (opened_by line (first_subscription line) (new_world plan) events) x (sent_after line [] (new_world plan) events))
 

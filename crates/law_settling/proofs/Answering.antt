@@ -3,7 +3,7 @@ use Rattle.std.proofs.Common.{◌≡◌, ◌≢◌, ℕ, zero, suc, ◌<◌, tru
 use Rattle.std.specs.Prelude.{zip}
 use Rattle.std.proofs.lemmas.Grind.{common_steps}
 use Rattle.dpc_lists.specs.Lists.{nth, changed, place_of}
-use Rattle.dpc_model.specs.Sessions.{no_session, is_newer_than_kept, answer_to, Answered, Shown, first_batch, link_of}
+use Rattle.dpc_model.specs.Sessions.{no_session, is_newer_than_kept, answer_to, Answered, Shown, first_batch, tally_of}
 use Rattle.dpc_model.specs.declared.sessions.Sub.{Sub}
 use Rattle.dpc_model.specs.declared.messages.Subscribe.{Subscribe}
 use Rattle.dpc_model.specs.declared.messages.Sess.{Sess}
@@ -131,12 +131,12 @@ source-did plan s b k z (SnapFor i try snap) y place few = silent plan s b k z (
 -- ---- a tick
 
 -- it tells each reader its session
-pub beat-sent : (plan : Plan) (s now k b : ℕ) (y : SourceState) → nth 0 (source_readers plan s) k ≡ b → k < length (source_readers plan s) → k < length y.subs → IsIn (mail b (source_beat (link_of (nth no_session y.subs k)))) (source_tick_step plan s now y).sends
+pub beat-sent : (plan : Plan) (s now k b : ℕ) (y : SourceState) → nth 0 (source_readers plan s) k ≡ b → k < length (source_readers plan s) → k < length y.subs → IsIn (mail b (source_beat (tally_of (nth no_session y.subs k)))) (source_tick_step plan s now y).sends
 unfolding source_tick_step
-beat-sent plan s now k b y back few many = subst (λ (z : ℕ). IsIn (mail z (source_beat (link_of (nth no_session y.subs k)))) (map (λ (x : ℕ × Sub). mail x.0 (source_beat (link_of x.1))) (zip (source_readers plan s) y.subs))) back (zipped (source_readers plan s) y.subs k few many)
+beat-sent plan s now k b y back few many = subst (λ (z : ℕ). IsIn (mail z (source_beat (tally_of (nth no_session y.subs k)))) (map (λ (x : ℕ × Sub). mail x.0 (source_beat (tally_of x.1))) (zip (source_readers plan s) y.subs))) back (zipped (source_readers plan s) y.subs k few many)
   where
     zipped : (readers : List ℕ) (subs : List Sub) (i : ℕ) → i < length readers → i < length subs →
-        IsIn (mail (nth 0 readers i) (source_beat (link_of (nth no_session subs i)))) (map (λ (x : ℕ × Sub). mail x.0 (source_beat (link_of x.1))) (zip readers subs))
+        IsIn (mail (nth 0 readers i) (source_beat (tally_of (nth no_session subs i)))) (map (λ (x : ℕ × Sub). mail x.0 (source_beat (tally_of x.1))) (zip readers subs))
     zipped [] subs i l m = absurd (omega (arith, l))
     zipped (r ∷ readers) [] i l m = absurd (omega (arith, m))
     zipped (r ∷ readers) (sub ∷ subs) zero l m = inl refl
@@ -154,6 +154,6 @@ pub tick-beats : (plan : Plan) (s now : ℕ) (y : SourceState) → Each NoBatchM
 unfolding source_tick_step
 tick-beats plan s now y = beats (zip (source_readers plan s) y.subs)
   where
-    beats : (xs : List (ℕ × Sub)) → Each NoBatchMail (map (λ (x : ℕ × Sub). mail x.0 (source_beat (link_of x.1))) xs)
+    beats : (xs : List (ℕ × Sub)) → Each NoBatchMail (map (λ (x : ℕ × Sub). mail x.0 (source_beat (tally_of x.1))) xs)
     beats [] = tt
     beats (x ∷ xs) = ((λ u i items e. cc), beats xs)

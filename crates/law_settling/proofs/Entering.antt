@@ -5,7 +5,7 @@ use Rattle.std.proofs.lemmas.List.{length-map}
 use Rattle.dpc_lists.specs.Lists.{nth, list_all}
 use Rattle.dpc_model.specs.Due.{is_complete}
 use Rattle.dpc_model.specs.Reading.{Reader}
-use Rattle.dpc_model.specs.Replicas.{is_silent, after_tick}
+use Rattle.dpc_model.specs.Replicas.{is_absent, after_tick}
 use Rattle.dpc_model.specs.Granting.{Key, own_key, grants, with_promise, may_enter_by, promise_kept, with_ask}
 use Rattle.dpc_model.specs.Actors.{replicas_of}
 use Rattle.dpc_model.specs.NodeStates.{is_up_failure, is_stabilization}
@@ -14,7 +14,7 @@ use Rattle.dpc_model.specs.declared.messages.NodeState.TheVariants.{Stabilizatio
 use Rattle.dpc_model.specs.declared.messages.Message.TheVariants as message
 use Rattle.node_model.specs.Mails.{mail, Plain, to_each, Stepped}
 use Rattle.node_model.specs.Nodes.{Home, PlainNode, held_by, due_at, wants_to_reconcile}
-use Rattle.node_model.specs.NodeSteps.{silent_step, peers_of, peer_watches, replica_number, enter_step, on_ask, with_marks_ended, packet_step, after_clock, choice_step, ask_step, processing_upto, processing_step, announcing_step, serving_step, tick_step}
+use Rattle.node_model.specs.NodeSteps.{idle_step, peers_of, peer_watches, replica_number, enter_step, on_ask, with_marks_ended, packet_step, after_clock, choice_step, ask_step, processing_upto, processing_step, announcing_step, serving_step, tick_step}
 use Rattle.law_safety.proofs.Frames.{held-map}
 use Rattle.law_safety.proofs.Ticked.{chosen-held}
 use Rattle.law_settling.proofs.Exact.{IsIn, in-left, in-right}
@@ -43,14 +43,14 @@ module _ (home : Home) where
   asking-now n wants free =
       let may : (wants_to_reconcile home n && is_none n.grants.promise) ≡ true = ap (λ (b : Bool). b && is_none n.grants.promise) wants ∙ ap {B = Bool} (λ o. is_none o) free in
       let ask : Stepped PlainNode = record { after = record n { grants = with_ask n.grants }; sends = to_each (message.Ask (own_key n.grants).0 (own_key n.grants).1) (peers_of home) } in
-      subst (λ (b : Bool). EntersOrAsks home n (cond {A = Stepped PlainNode} b (cond (list_all is_silent (peer_watches home n)) (enter_step home n) ask) (silent_step n))) (sym may)
-      ((elim (list_all is_silent (peer_watches home n)) as (λ b. list_all is_silent (peer_watches home n) ≡ b → EntersOrAsks home n (cond {A = Stepped PlainNode} b (enter_step home n) ask)) [
+      subst (λ (b : Bool). EntersOrAsks home n (cond {A = Stepped PlainNode} b (cond (list_all is_absent (peer_watches home n)) (enter_step home n) ask) (idle_step n))) (sym may)
+      ((elim (list_all is_absent (peer_watches home n)) as (λ b. list_all is_absent (peer_watches home n) ≡ b → EntersOrAsks home n (cond {A = Stepped PlainNode} b (enter_step home n) ask)) [
         | true ↦ λ e. inl (entered-state n)
         | false ↦ λ e. inr (record { runs = refl; asks = λ to peer. in-each home (message.Ask n.grants.inc (n.grants.over + 1)) to (peers_of home) peer; other = let o = not-alone home.replica 0 n.peers e in let low = o.1 in (o.0, omega (arith, low), o.2) })
       ]) refl)
 
   processing-calm : (n : PlainNode) → n.state ≡ Stabilization → (processing_step home n).after.state ≡ Stabilization
-  processing-calm n is = ap (λ (b : Bool). (cond {A = Stepped PlainNode} b (silent_step n) (elim (due_at home n n.clock) as (λ _. Stepped PlainNode) [ None ↦ silent_step n | Some last ↦ processing_upto home last n ])).after.state) (ap is_stabilization is) ∙ is
+  processing-calm n is = ap (λ (b : Bool). (cond {A = Stepped PlainNode} b (idle_step n) (elim (due_at home n n.clock) as (λ _. Stepped PlainNode) [ None ↦ idle_step n | Some last ↦ processing_upto home last n ])).after.state) (ap is_stabilization is) ∙ is
 
   serving-now : (n : PlainNode) → wants_to_reconcile home n ≡ true → n.grants.promise ≡ None → EntersOrAsks home n (serving_step home n)
   serving-now n wants free =
@@ -76,7 +76,7 @@ module _ (home : Home) where
       let m = after_clock now x in
       let held : held_by m ≡ held_by n = held-map port_after_tick (λ p. refl) x.ports ∙ held-map without_ended_marks (λ p. refl) n.ports in
       let wants_m : wants_to_reconcile home m ≡ true = ap (λ (rs : List Reader). is_up_failure n.state && is_complete home.plan.width rs n.cursor) held ∙ wants in
-      let free_m : m.grants.promise ≡ None = ap {B = Option (ℕ × Key)} (λ o. promise_kept o (map is_silent m.peers)) free in
+      let free_m : m.grants.promise ≡ None = ap {B = Option (ℕ × Key)} (λ o. promise_kept o (map is_absent m.peers)) free in
       elim (serving-now m wants_m free_m) [
         | inl entered ↦ inl (ap (λ (s : Stepped PlainNode). s.after.state) (served-is home m calm) ∙ entered)
         | inr asks ↦ inr (record {
@@ -94,7 +94,7 @@ module _ (home : Home) where
   ask-granted a r i k n number place may =
       let x = with_marks_ended n in
       subst (λ (o : Option ℕ). IsIn (mail a (message.Grant i k)) (on_ask home i k o x).sends) (sym number)
-      (subst (λ (b : Bool). IsIn (mail a (message.Grant i k)) (cond {A = Stepped PlainNode} b (record { after = record x { grants = with_promise x.grants r (i, k) }; sends = mail (nth 0 (replicas_of home.plan home.frag) r) (message.Grant i k) ∷ [] }) (silent_step x)).sends) (sym may)
+      (subst (λ (b : Bool). IsIn (mail a (message.Grant i k)) (cond {A = Stepped PlainNode} b (record { after = record x { grants = with_promise x.grants r (i, k) }; sends = mail (nth 0 (replicas_of home.plan home.frag) r) (message.Grant i k) ∷ [] }) (idle_step x)).sends) (sym may)
       (inl (ap (λ (z : ℕ). mail z (message.Grant i k)) place)))
 
   -- ---- a grant
@@ -105,4 +105,4 @@ module _ (home : Home) where
   grant-enters a i k n failed may =
       let x = with_marks_ended n in
       let both_of : (is_up_failure n.state && may_enter_by n.grants (i, k)) ≡ true = ap (λ (b : Bool). b && may_enter_by n.grants (i, k)) failed ∙ may in
-      ap (λ (b : Bool). (cond {A = Stepped PlainNode} b (enter_step home x) (silent_step x)).after.state) both_of ∙ entered-state x
+      ap (λ (b : Bool). (cond {A = Stepped PlainNode} b (enter_step home x) (idle_step x)).after.state) both_of ∙ entered-state x

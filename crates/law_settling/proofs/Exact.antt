@@ -1,7 +1,7 @@
 -- Elements of lists, and what a packet makes of the inlet that reads its sender.
 use Rattle.std.proofs.Common.{◌≡◌, ◌≢◌, ℕ, zero, suc, true, false, cond, ◌==◌, nat_lt, List, [], ◌∷◌, ◌++◌, map, refl, sym, ap, ◌∙◌, Option, Some, slice_get, ◌⊎◌, inl, inr}
 use Rattle.dpc_lists.specs.Lists.{changed, insert_by}
-use Rattle.dpc_model.specs.Inlets.{InletState, take_batch, after_link}
+use Rattle.dpc_model.specs.Inlets.{InletState, take_batch, after_tally}
 use Rattle.dpc_model.specs.Ports.{Port}
 use Rattle.dpc_model.specs.declared.messages.Message.TheVariants as message
 use Rattle.node_model.specs.Mails.{Mail, Packet, Plain, SnapFor, in_actor_order}
@@ -67,7 +67,7 @@ in-sorted y (m ∷ ms) (inr h) = in-insert y m (in_actor_order ms) (inr (in-sort
 
 abbrev pub inlet_after : Packet → InletState → InletState
 inlet_after (Plain (message.Batch u index items)) x = (take_batch x u index items).after
-inlet_after (Plain (message.Beat b)) x = after_link x b.link
+inlet_after (Plain (message.Beat b)) x = after_tally x b.tally
 inlet_after (Plain (message.Subscribe asked)) x = x
 inlet_after (Plain (message.Truncated u base)) x = x
 inlet_after (Plain (message.Ack i n)) x = x

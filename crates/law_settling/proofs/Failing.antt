@@ -4,7 +4,7 @@ use Rattle.std.specs.Prelude.{is_none}
 use Rattle.dpc_lists.specs.Lists.{nth, list_all, is_nil, range_with_len}
 use Rattle.dpc_model.specs.Due.{first_incomplete, is_complete}
 use Rattle.dpc_model.specs.Inlets.{same_sess, take_batch, AfterBatch}
-use Rattle.dpc_model.specs.Replicas.{is_silent}
+use Rattle.dpc_model.specs.Replicas.{is_absent}
 use Rattle.dpc_model.specs.Reading.{Reader}
 use Rattle.dpc_model.specs.Granting.{Grants, own_key, grants, with_promise, may_enter_by, with_ask, with_ask_over}
 use Rattle.dpc_model.specs.Actors.{replicas_of}
@@ -22,8 +22,8 @@ use Rattle.dpc_model.specs.declared.messages.Message.TheVariants as message
 use Rattle.dpc_model.specs.declared.messages.NodeState.{NodeState}
 use Rattle.dpc_model.specs.declared.messages.NodeState.TheVariants.{Stable, UpFailure, Stabilization}
 use Rattle.node_model.specs.Mails.{mail, Snap, Packet, Plain, SnapFor, to_each, Stepped}
-use Rattle.node_model.specs.Nodes.{Home, PlainNode, streams_of, held_by, buckets_of, view_cursor, bucket_of, complete_upto, complete_buckets, ready, due_at, wants_to_reconcile}
-use Rattle.node_model.specs.NodeSteps.{silent_step, then_do, peers_of, peer_watches, replica_number, reader_place, with_port, enter_step, after_loss, after_adoption, after_taking, with_stamps_of, on_batch, on_subscribe, on_truncation, on_upstream_beat, on_peer_beat, on_ack, on_ask, on_grant, on_snap_ask, on_message, on_packet, on_snap, with_marks_ended, packet_step, after_stable_buckets, mill_step, after_clock, may_start_afresh, choice_step, ask_step, count_upto, stably, processing_upto, processing_step, announcing_step, serving_step, snapshot_ask_step, rest_of_tick, with_fresh_start, tick_step}
+use Rattle.node_model.specs.Nodes.{Home, PlainNode, streams_of, held_by, buckets_of, node_frontier, bucket_of, complete_upto, complete_buckets, ready, due_at, wants_to_reconcile}
+use Rattle.node_model.specs.NodeSteps.{idle_step, then_do, peers_of, peer_watches, replica_number, reader_place, with_port, enter_step, after_loss, after_adoption, after_taking, with_stamps_of, on_batch, on_subscribe, on_truncation, on_upstream_beat, on_peer_beat, on_ack, on_ask, on_grant, on_snap_ask, on_message, on_packet, on_snap, with_marks_ended, packet_step, after_stable_buckets, mill_step, after_clock, may_start_afresh, choice_step, ask_step, count_upto, stably, processing_upto, processing_step, announcing_step, serving_step, snapshot_ask_step, rest_of_tick, with_fresh_start, tick_step}
 use Rattle.law_safety.specs.Plans.{IsPlace}
 use Rattle.law_safety.proofs.Frames.{IsGood, held-map}
 use Rattle.law_safety.proofs.Ticked.{chosen-held}
@@ -104,7 +104,7 @@ module _ (home : Home) where
   ask-even : (i ask : ℕ) (o : Option ℕ) (n : PlainNode) → IsEven n (on_ask home i ask o n).after
   ask-even i ask None n = even-itself n
   ask-even i ask (Some r) n =
-      elim (grants n.grants n.state r (i, ask)) as (λ b. IsEven n (cond {A = Stepped PlainNode} b (record { after = record n { grants = with_promise n.grants r (i, ask) }; sends = mail (nth 0 (replicas_of home.plan home.frag) r) (message.Grant i ask) ∷ [] }) (silent_step n)).after) [
+      elim (grants n.grants n.state r (i, ask)) as (λ b. IsEven n (cond {A = Stepped PlainNode} b (record { after = record n { grants = with_promise n.grants r (i, ask) }; sends = mail (nth 0 (replicas_of home.plan home.frag) r) (message.Grant i ask) ∷ [] }) (idle_step n)).after) [
         | true ↦ record { fine = λ e. e; over = λ e. refl }
         | false ↦ even-itself n
       ]
@@ -114,17 +114,17 @@ module _ (home : Home) where
   entered-even n = record { fine = λ e. refl; over = λ e. refl }
 
   grant-even : (i ask : ℕ) (n : PlainNode) → IsEven n (on_grant home i ask n).after
-  grant-even i ask n = elim (is_up_failure n.state && may_enter_by n.grants (i, ask)) as (λ b. IsEven n (cond {A = Stepped PlainNode} b (enter_step home n) (silent_step n)).after) [ true ↦ entered-even n | false ↦ even-itself n ]
+  grant-even i ask n = elim (is_up_failure n.state && may_enter_by n.grants (i, ask)) as (λ b. IsEven n (cond {A = Stepped PlainNode} b (enter_step home n) (idle_step n)).after) [ true ↦ entered-even n | false ↦ even-itself n ]
 
   message-even : (a : ℕ) (m : Message) (n : PlainNode) → (on_message home a m n).after.recovering ≡ false → IsEven n (on_message home a m n).after
   message-even a (message.Batch u index items) n calm = batch-even u index items (sender_at home.plan (streams_of home) a) n
   message-even a (message.Truncated u base) n calm = truncation-even u base (sender_at home.plan (streams_of home) a) n calm
   message-even a (message.Beat b) n calm = beat-even b (sender_at home.plan (streams_of home) a) (replica_number home a) n
-  message-even a (message.Subscribe asked) n calm = elim n.recovering as (λ b. IsEven n (cond {A = Stepped PlainNode} b (silent_step n) (on_subscribe home asked (reader_place home a) n)).after) [ true ↦ even-itself n | false ↦ subscribe-even asked (reader_place home a) n ]
+  message-even a (message.Subscribe asked) n calm = elim n.recovering as (λ b. IsEven n (cond {A = Stepped PlainNode} b (idle_step n) (on_subscribe home asked (reader_place home a) n)).after) [ true ↦ even-itself n | false ↦ subscribe-even asked (reader_place home a) n ]
   message-even a (message.Ack i count) n calm = elim n.recovering as (λ b. IsEven n (cond {A = PlainNode} b n (on_ack home i count (reader_place home a) n))) [ true ↦ even-itself n | false ↦ ack-even i count (reader_place home a) n ]
   message-even a (message.Ask i ask) n calm = ask-even i ask (replica_number home a) n
   message-even a (message.Grant i ask) n calm = grant-even i ask n
-  message-even a (message.SnapAsk i try) n calm = elim n.recovering as (λ b. IsEven n (cond {A = Stepped PlainNode} b (silent_step n) (on_snap_ask home a i try n)).after) [ true ↦ even-itself n | false ↦ even-itself n ]
+  message-even a (message.SnapAsk i try) n calm = elim n.recovering as (λ b. IsEven n (cond {A = Stepped PlainNode} b (idle_step n) (on_snap_ask home a i try n)).after) [ true ↦ even-itself n | false ↦ even-itself n ]
 
   snap-even : (i try : ℕ) (s : Snap) (n : PlainNode) → n.recovering ≡ false → IsEven n (on_snap home i try s n)
   snap-even i try s n calm =
@@ -153,18 +153,18 @@ module _ (home : Home) where
   asking-over : (n : PlainNode) → (ask_step home n).after.grants.over ≡ n.grants.over
   unfolding enter_step
   asking-over n =
-      elim (wants_to_reconcile home n && is_none n.grants.promise) as (λ b. (cond {A = Stepped PlainNode} b (cond (list_all is_silent (peer_watches home n)) (enter_step home n)
-      (record { after = record n { grants = with_ask n.grants }; sends = to_each (message.Ask (own_key n.grants).0 (own_key n.grants).1) (peers_of home) })) (silent_step n)).after.grants.over ≡ n.grants.over) [
-        | true ↦ elim (list_all is_silent (peer_watches home n)) as (λ b. (cond {A = Stepped PlainNode} b (enter_step home n)
+      elim (wants_to_reconcile home n && is_none n.grants.promise) as (λ b. (cond {A = Stepped PlainNode} b (cond (list_all is_absent (peer_watches home n)) (enter_step home n)
+      (record { after = record n { grants = with_ask n.grants }; sends = to_each (message.Ask (own_key n.grants).0 (own_key n.grants).1) (peers_of home) })) (idle_step n)).after.grants.over ≡ n.grants.over) [
+        | true ↦ elim (list_all is_absent (peer_watches home n)) as (λ b. (cond {A = Stepped PlainNode} b (enter_step home n)
             (record { after = record n { grants = with_ask n.grants }; sends = to_each (message.Ask (own_key n.grants).0 (own_key n.grants).1) (peers_of home) })).after.grants.over ≡ n.grants.over) [ true ↦ refl | false ↦ refl ]
         | false ↦ refl
       ]
 
   pub processing-grants : (n : PlainNode) → (processing_step home n).after.grants ≡ n.grants
   processing-grants n =
-      elim (is_stabilization n.state) as (λ b. (cond {A = Stepped PlainNode} b (silent_step n) (elim (due_at home n n.clock) as (λ _. Stepped PlainNode) [ None ↦ silent_step n | Some last ↦ processing_upto home last n ])).after.grants ≡ n.grants) [
+      elim (is_stabilization n.state) as (λ b. (cond {A = Stepped PlainNode} b (idle_step n) (elim (due_at home n n.clock) as (λ _. Stepped PlainNode) [ None ↦ idle_step n | Some last ↦ processing_upto home last n ])).after.grants ≡ n.grants) [
         | true ↦ refl
-        | false ↦ elim (due_at home n n.clock) as (λ o. (elim o as (λ _. Stepped PlainNode) [ None ↦ silent_step n | Some last ↦ processing_upto home last n ]).after.grants ≡ n.grants) [ None ↦ refl | Some last ↦ refl ]
+        | false ↦ elim (due_at home n n.clock) as (λ o. (elim o as (λ _. Stepped PlainNode) [ None ↦ idle_step n | Some last ↦ processing_upto home last n ]).after.grants ≡ n.grants) [ None ↦ refl | Some last ↦ refl ]
       ]
 
   -- no bucket is closed where all are complete
@@ -173,10 +173,10 @@ module _ (home : Home) where
       let count = count_upto last n in
       let r = stably home n count in
       let y = after_stable_buckets home r n in
-      let view : view_cursor n ≡ n.cursor = ap {B = ℕ} (λ xs. n.cursor + length xs) empty ∙ omega arith in
+      let view : node_frontier n ≡ n.cursor = ap {B = ℕ} (λ xs. n.cursor + length xs) empty ∙ omega arith in
       let whole : complete_buckets home n ≡ complete_upto home n - n.cursor = ap {B = ℕ} (λ xs. cond {A = ℕ} (is_nil xs) (complete_upto home n - n.cursor) 0) empty in
       let left : count - min count (complete_buckets home n) ≡ 0 = few count (complete_buckets home n) (omega (arith, view, whole, upto, low)) in
-      ap (λ (k : ℕ). is_up_failure (cond (is_nil (n.closed ++ map (bucket_of home y) (range_with_len (view_cursor y) k))) n.state UpFailure)) left
+      ap (λ (k : ℕ). is_up_failure (cond (is_nil (n.closed ++ map (bucket_of home y) (range_with_len (node_frontier y) k))) n.state UpFailure)) left
       ∙ ap {B = Bool} (λ xs. is_up_failure (cond (is_nil (xs ++ [])) n.state UpFailure)) empty ∙ fine
     where
       few : (c d : ℕ) → c ≤ d → c - min c d ≡ 0
@@ -184,9 +184,9 @@ module _ (home : Home) where
 
   processing-fine : (n : PlainNode) → n.closed ≡ [] → complete_upto home n ≡ buckets_of home.plan → is_up_failure n.state ≡ false → is_up_failure (processing_step home n).after.state ≡ false
   processing-fine n empty upto fine =
-      elim (is_stabilization n.state) as (λ b. is_up_failure (cond {A = Stepped PlainNode} b (silent_step n) (elim (due_at home n n.clock) as (λ _. Stepped PlainNode) [ None ↦ silent_step n | Some last ↦ processing_upto home last n ])).after.state ≡ false) [
+      elim (is_stabilization n.state) as (λ b. is_up_failure (cond {A = Stepped PlainNode} b (idle_step n) (elim (due_at home n n.clock) as (λ _. Stepped PlainNode) [ None ↦ idle_step n | Some last ↦ processing_upto home last n ])).after.state ≡ false) [
         | true ↦ fine
-        | false ↦ (elim (due_at home n n.clock) as (λ o. due_at home n n.clock ≡ o → is_up_failure (elim o as (λ _. Stepped PlainNode) [ None ↦ silent_step n | Some last ↦ processing_upto home last n ]).after.state ≡ false) [
+        | false ↦ (elim (due_at home n n.clock) as (λ o. due_at home n n.clock ≡ o → is_up_failure (elim o as (λ _. Stepped PlainNode) [ None ↦ idle_step n | Some last ↦ processing_upto home last n ]).after.state ≡ false) [
           | None ↦ λ e. fine
           | Some last ↦ λ e. processed-fine last n empty upto (due-range home n n.clock last e).1 fine
         ]) refl
@@ -194,8 +194,8 @@ module _ (home : Home) where
 
   asking-silent : (n : PlainNode) → is_up_failure n.state ≡ false → (ask_step home n).after ≡ n
   asking-silent n fine =
-      ap (λ (b : Bool). (cond {A = Stepped PlainNode} ((b && is_complete home.plan.width (held_by n) n.cursor) && is_none n.grants.promise) (cond (list_all is_silent (peer_watches home n)) (enter_step home n)
-      (record { after = record n { grants = with_ask n.grants }; sends = to_each (message.Ask (own_key n.grants).0 (own_key n.grants).1) (peers_of home) })) (silent_step n)).after) fine
+      ap (λ (b : Bool). (cond {A = Stepped PlainNode} ((b && is_complete home.plan.width (held_by n) n.cursor) && is_none n.grants.promise) (cond (list_all is_absent (peer_watches home n)) (enter_step home n)
+      (record { after = record n { grants = with_ask n.grants }; sends = to_each (message.Ask (own_key n.grants).0 (own_key n.grants).1) (peers_of home) })) (idle_step n)).after) fine
 
   serving-fine : (n : PlainNode) → n.closed ≡ [] → complete_upto home n ≡ buckets_of home.plan → is_up_failure n.state ≡ false → is_up_failure (serving_step home n).after.state ≡ false
   serving-fine n empty upto fine =

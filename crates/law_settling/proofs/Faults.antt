@@ -1,9 +1,9 @@
 -- A port that misses something finds it out: a beat shows the fault, or three ticks bring no answer.
 use Rattle.std.proofs.Common.{◌≡◌, ℕ, zero, suc, ◌+◌, ◌≤◌, Bool, true, false, not, ◌&&◌, ◌||◌, nat_le, min, refl, sym, ap, subst, ◌∙◌, arith, Option, Some, None, slice_get, ◌⊎◌, inl, inr}
 use Rattle.dpc_model.specs.Reading.{is_sure}
-use Rattle.dpc_model.specs.Inlets.{InletState, is_newer, after_link}
+use Rattle.dpc_model.specs.Inlets.{InletState, is_newer, after_tally}
 use Rattle.dpc_model.specs.Ports.{Port}
-use Rattle.dpc_model.specs.Sessions.{is_newer_than_kept, link_of}
+use Rattle.dpc_model.specs.Sessions.{is_newer_than_kept, tally_of}
 use Rattle.dpc_model.specs.declared.sessions.Sub.{Sub}
 use Rattle.dpc_model.specs.declared.messages.Event.{Event}
 use Rattle.dpc_model.specs.declared.messages.Event.TheVariants.{Deliver, Tick}
@@ -19,9 +19,9 @@ use Rattle.law_settling.proofs.Waitings.{waits, is_delivery, waits-on}
 use Rattle.law_settling.proofs.Rules.{MayGo}
 use Rattle.law_settling.proofs.Going.{InletGoes, Stays, TakesIn, TicksOn, took-now}
 use Rattle.law_settling.proofs.Sourcing.{sub_at, SourceGoes, Keeps as KeepsSub, Opens, source-goes, beats-now}
-use Rattle.law_settling.proofs.Full.{link-parts}
+use Rattle.law_settling.proofs.Full.{tally-parts}
 use Rattle.law_settling.proofs.Standing.{old-kept, same-fields}
-use Rattle.law_settling.proofs.Readings.{after-broken, after-answered, link-says, none-says, newer-then}
+use Rattle.law_settling.proofs.Readings.{after-broken, after-answered, tally-says, none-says, newer-then}
 use Rattle.law_settling.proofs.Fresh.{IsSeen, HasWhole, Coming, new-waits, still-sent, Reopens, Holds, port-next, ticked-says, ticks-now}
 use Rattle.law_settling.proofs.Reopening.{can-here, reopens}
 
@@ -47,17 +47,17 @@ pub record IsSlow (x p i : ℕ) (z : Progress) : Type 0 where
 -- what a beat told of a session still holds, or a newer one is kept
 abbrev pub IsTold : Option (Sess × ℕ) → Sub → Type 0
 IsTold None sub = Unit {0}
-IsTold (Some l) sub = (link_of sub ≡ Some l) ⊎ ((c : Sess) × (sub.kept ≡ Some c) × (is_newer c l.0 ≡ true))
+IsTold (Some l) sub = (tally_of sub ≡ Some l) ⊎ ((c : Sess) × (sub.kept ≡ Some c) × (is_newer c l.0 ≡ true))
 
 -- the session was answered, and a beat of the source waits
-pub record IsHearing (x p s k : ℕ) (n : ℕ) (link : Option (Sess × ℕ)) (z : Progress) : Type 0 where
+pub record IsHearing (x p s k : ℕ) (n : ℕ) (tally : Option (Sess × ℕ)) (z : Progress) : Type 0 where
   pub answered : IsAnswered x p z
-  pub sent : slice_get z.world.envelopes n ≡ Some (from s (mail x (source_beat link)))
+  pub sent : slice_get z.world.envelopes n ≡ Some (from s (mail x (source_beat tally)))
   pub waits : waits n z.waiting ≡ true
-  pub told : IsTold link (sub_at z.world s k)
+  pub told : IsTold tally (sub_at z.world s k)
 
 abbrev pub Hearing : ℕ → ℕ → ℕ → ℕ → Progress → Type 0
-Hearing x p s k z = (n : ℕ) × (link : Option (Sess × ℕ)) × IsHearing x p s k n link z
+Hearing x p s k z = (n : ℕ) × (tally : Option (Sess × ℕ)) × IsHearing x p s k n tally z
 
 or-known : (a b : Bool) → a ≡ true → (a || b) ≡ false → ⊥
 or-known a b e f = let clash : true ≡ false = sym (ap (λ c. c || b) e) ∙ f in cc
@@ -151,7 +151,7 @@ module _ (script : Script) (x p s k : ℕ) where
 
   -- ---- a beat
 
-  told-next : (link : Option (Sess × ℕ)) (z : Progress) (e : Event) → SourceGoes z.world x s k (happens z.world e) → IsTold link (sub_at z.world s k) → IsTold link (sub_at (happens z.world e) s k)
+  told-next : (tally : Option (Sess × ℕ)) (z : Progress) (e : Event) → SourceGoes z.world x s k (happens z.world e) → IsTold tally (sub_at z.world s k) → IsTold tally (sub_at (happens z.world e) s k)
   told-next None z e goes told = tt
   told-next (Some l) z e (KeepsSub sub none) told = subst (λ (y : Sub). IsTold (Some l) y) (sym sub) told
   told-next (Some l) z e (Opens m g v at who back asks newer opened sends) told =
@@ -159,32 +159,32 @@ module _ (script : Script) (x p s k : ℕ) where
         v.sess,
         ap (λ (y : Sub). y.kept) opened,
         elim told [
-          | inl still ↦ let kept = (link-parts (sub_at z.world s k) l.0 l.1 still).0 in sym (ap (λ (o : Option Sess). is_newer_than_kept v.sess o) kept) ∙ newer
+          | inl still ↦ let kept = (tally-parts (sub_at z.world s k) l.0 l.1 still).0 in sym (ap (λ (o : Option Sess). is_newer_than_kept v.sess o) kept) ∙ newer
           | inr past ↦ newer-then v.sess past.0 l.0 (sym (ap (λ (o : Option Sess). is_newer_than_kept v.sess o) past.1) ∙ newer) past.2
         ],
       )
 
   -- a beat that comes shows the fault, or there is none
-  pub heard-now : (n : ℕ) (link : Option (Sess × ℕ)) (z : Progress) → MayGo script (IsSeen script x p s k) z (Deliver n) → IsHearing x p s k n link z → IsBroken x p (next_progress script z (Deliver n)) ⊎ HasWhole script x p (next_progress script z (Deliver n))
-  heard-now n link z may h =
+  pub heard-now : (n : ℕ) (tally : Option (Sess × ℕ)) (z : Progress) → MayGo script (IsSeen script x p s k) z (Deliver n) → IsHearing x p s k n tally z → IsBroken x p (next_progress script z (Deliver n)) ⊎ HasWhole script x p (next_progress script z (Deliver n))
+  heard-now n tally z may h =
       let st = may.here.stand in
       let q = h.answered.port in
-      let f : Envelope = from s (mail x (source_beat link)) in
+      let f : Envelope = from s (mail x (source_beat tally)) in
       let r = took-now z.world st.most x p s k st.fine st.many st.line st.calm n f h.sent (can-here script x p s k z n f may.here h.sent) refl refl may.next.stand.calm q h.answered.there in
-      by-link link r.0 r.1 r.2.inlet_is h.told
+      by-tally tally r.0 r.1 r.2.inlet_is h.told
     where
-      by-link : (l : Option (Sess × ℕ)) (r : Port) → port_of (happens z.world (Deliver n)) x p ≡ Some r → r.inlet ≡ after_link h.answered.port.inlet l → IsTold l (sub_at z.world s k) → IsBroken x p (next_progress script z (Deliver n)) ⊎ HasWhole script x p (next_progress script z (Deliver n))
-      by-link None r now inlet told = inl (record { port = r; there = now; broken = ap (λ (i : InletState). i.broken) inlet ∙ none-says h.answered.port.inlet h.answered.answered })
-      by-link (Some l) r now inlet told =
+      by-tally : (l : Option (Sess × ℕ)) (r : Port) → port_of (happens z.world (Deliver n)) x p ≡ Some r → r.inlet ≡ after_tally h.answered.port.inlet l → IsTold l (sub_at z.world s k) → IsBroken x p (next_progress script z (Deliver n)) ⊎ HasWhole script x p (next_progress script z (Deliver n))
+      by-tally None r now inlet told = inl (record { port = r; there = now; broken = ap (λ (i : InletState). i.broken) inlet ∙ none-says h.answered.port.inlet h.answered.answered })
+      by-tally (Some l) r now inlet told =
           let st = may.here.stand in
           let q = h.answered.port in
-          elim (link-says q.inlet l.0 l.1 h.answered.answered) [
+          elim (tally-says q.inlet l.0 l.1 h.answered.answered) [
             | inl broken ↦ inl (record { port = r; there = now; broken = ap (λ (i : InletState). i.broken) inlet ∙ broken })
             | inr says ↦
                 let sess : l.0 ≡ q.inlet.sess = same-fields l.0 q.inlet.sess says.1 in
                 elim told [
                   | inl still ↦
-                      let link_is : link_of (sub_at z.world s k) ≡ Some (q.inlet.sess, l.1) = still ∙ ap {B = Option (Sess × ℕ)} (λ (y : Sess). Some (y, l.1)) sess in
+                      let link_is : tally_of (sub_at z.world s k) ≡ Some (q.inlet.sess, l.1) = still ∙ ap {B = Option (Sess × ℕ)} (λ (y : Sess). Some (y, l.1)) sess in
                       let bound = st.took q l.1 h.answered.there says.0 link_is says.2 in
                       inr (record { port = r; there = now; bound = ap (λ (i : InletState). i.held.bound) inlet ∙ bound.0; sure = ap (λ (i : InletState). is_sure i.held) inlet ∙ bound.1 })
                   | inr past ↦
@@ -194,8 +194,8 @@ module _ (script : Script) (x p s k : ℕ) where
                 ]
           ]
 
-  pub hearing-next : (n : ℕ) (link : Option (Sess × ℕ)) (z : Progress) (e : Event) → MayGo script (IsSeen script x p s k) z e → is_delivery n e ≡ false → IsHearing x p s k n link z → IsHearing x p s k n link (next_progress script z e) ⊎ Coming script x p s k (next_progress script z e)
-  hearing-next n link z e may other h =
+  pub hearing-next : (n : ℕ) (tally : Option (Sess × ℕ)) (z : Progress) (e : Event) → MayGo script (IsSeen script x p s k) z e → is_delivery n e ≡ false → IsHearing x p s k n tally z → IsHearing x p s k n tally (next_progress script z e) ⊎ Coming script x p s k (next_progress script z e)
+  hearing-next n tally z e may other h =
       let st = may.here.stand in
       elim (answered-next z e may h.answered) [
         | inr coming ↦ inr coming
@@ -203,7 +203,7 @@ module _ (script : Script) (x p s k : ℕ) where
           answered = answered;
           sent = still-sent z.world e n _ h.sent;
           waits = waits-on script z e n may.quiet other h.waits;
-          told = told-next link z e (source-goes z.world st.most x p s k st.fine st.line st.within e may.quiet) h.told;
+          told = told-next tally z e (source-goes z.world st.most x p s k st.fine st.line st.within e may.quiet) h.told;
         })
       ]
 
@@ -212,21 +212,21 @@ module _ (script : Script) (x p s k : ℕ) where
   source-beats z now may h =
       let st = may.here.stand in
       let b = beats-now z.world st.most x p s k st.fine st.line st.within now (may.here.clocked s now may.may) in
-      let link = link_of (sub_at z.world s k) in
+      let tally = tally_of (sub_at z.world s k) in
       elim (answered-next z (Tick s now) may h) [
         | inr coming ↦ inr coming
         | inl answered ↦ inl (
           b.0,
-          link,
+          tally,
           record {
             answered = answered;
             sent = b.1;
             waits = new-waits script z (Tick s now) b.0 _ b.2 b.1;
-            told = told-of link (sub_at (happens z.world (Tick s now)) s k) (ap (λ (y : Sub). link_of y) b.3);
+            told = told-of tally (sub_at (happens z.world (Tick s now)) s k) (ap (λ (y : Sub). tally_of y) b.3);
           },
         )
       ]
     where
-      told-of : (l : Option (Sess × ℕ)) (sub : Sub) → link_of sub ≡ l → IsTold l sub
+      told-of : (l : Option (Sess × ℕ)) (sub : Sub) → tally_of sub ≡ l → IsTold l sub
       told-of None sub e = tt
       told-of (Some l) sub e = inl e

@@ -3,7 +3,7 @@ use Rattle.std.proofs.Common.{◌≡◌, ℕ, zero, suc, ◌+◌, ◌-◌, ◌<�
 use Rattle.std.specs.List.{filter, enumerate_from}
 use Rattle.dpc_lists.specs.Lists.{nth, list_all}
 use Rattle.dpc_model.specs.Actors.{role_of, nodes_from, nodes_of}
-use Rattle.dpc_model.specs.Replicas.{Watch, is_silent}
+use Rattle.dpc_model.specs.Replicas.{Watch, is_absent}
 use Rattle.dpc_model.specs.declared.actors.Role.TheVariants.{Node as IsNode}
 use Rattle.dpc_model.specs.declared.plans.FragSpec.{FragSpec}
 use Rattle.dpc_model.specs.declared.plans.Plan.{Plan}
@@ -31,10 +31,10 @@ replica-of plan f q low =
     (length plan.sources + k.0, node-role plan (length plan.sources + k.0) (f, q) (omega arith) (ap (λ (z : ℕ). slice_get (nodes_of plan) z) back ∙ k.1 ∙ ap {B = Option (ℕ × ℕ)} (λ (z : ℕ). Some (z, q)) same))
 
 -- where not every other replica is taken for silent there is another one
-pub not-alone : (me k : ℕ) (ws : List Watch) → list_all (λ w. is_silent w) (map (λ (x : ℕ × Watch). x.1) (filter (λ (x : ℕ × Watch). not (x.0 == me)) (enumerate_from k ws))) ≡ false → (q : ℕ) × (q < k + length ws) × ((q == me) ≡ false)
+pub not-alone : (me k : ℕ) (ws : List Watch) → list_all (λ w. is_absent w) (map (λ (x : ℕ × Watch). x.1) (filter (λ (x : ℕ × Watch). not (x.0 == me)) (enumerate_from k ws))) ≡ false → (q : ℕ) × (q < k + length ws) × ((q == me) ≡ false)
 not-alone me k [] h = cc
 not-alone me k (w ∷ ws) h =
-    (elim (k == me) as (λ b. (k == me) ≡ b → list_all (λ w. is_silent w) (map (λ (x : ℕ × Watch). x.1) (cond (not b) ((k, w) ∷ filter (λ (x : ℕ × Watch). not (x.0 == me)) (enumerate_from (k + 1) ws)) (filter (λ (x : ℕ × Watch). not (x.0 == me)) (enumerate_from (k + 1) ws)))) ≡ false →
+    (elim (k == me) as (λ b. (k == me) ≡ b → list_all (λ w. is_absent w) (map (λ (x : ℕ × Watch). x.1) (cond (not b) ((k, w) ∷ filter (λ (x : ℕ × Watch). not (x.0 == me)) (enumerate_from (k + 1) ws)) (filter (λ (x : ℕ × Watch). not (x.0 == me)) (enumerate_from (k + 1) ws)))) ≡ false →
     (q : ℕ) × (q < k + length (w ∷ ws)) × ((q == me) ≡ false)) [
       | true ↦ λ e d. let rest = not-alone me (k + 1) ws d in let low = rest.1 in (rest.0, omega (arith, low), rest.2)
       | false ↦ λ e d. (k, omega arith, e)

@@ -12,7 +12,7 @@ use Rattle.dpc_model.specs.declared.messages.NodeState.TheVariants.{Stable, UpFa
 use Rattle.dpc_model.specs.declared.plans.Plan.{Plan}
 use Rattle.dpc_model.specs.declared.plans.StreamRef.{StreamRef}
 use Rattle.dpc_model.specs.declared.plans.StreamRef.TheVariants.{Frag}
-use Rattle.node_model.specs.Nodes.{Home, PlainNode, streams_of, buckets_of, view_cursor, complete_upto, complete_buckets, ready}
+use Rattle.node_model.specs.Nodes.{Home, PlainNode, streams_of, buckets_of, node_frontier, complete_upto, complete_buckets, ready}
 use Rattle.world_model.specs.Safe.{EachHolds}
 use Rattle.world_model.specs.Orderly.{are_ports_sound, is_port_sound, has_state_of_closed, closed_in_place}
 use Rattle.law_safety.specs.Plans.{IsPlace}
@@ -88,8 +88,8 @@ upto-all home most n place good whole =
     least-same (home.plan.end / home.plan.width) (map (λ (r : Reader). r.bound / home.plan.width) (map held_at n.ports)) some (whole-upto home.plan.end home.plan.width n.ports whole)
 
 -- what was processed or closed is no more than there is
-pub view-low : (home : Home) (n : PlainNode) → closed_in_place home n ≡ true → view_cursor n ≤ buckets_of home.plan
-view-low home n h = let p = both _ (nat_le (view_cursor n) (buckets_of home.plan)) h in le-of (view_cursor n) (buckets_of home.plan) p.1
+pub view-low : (home : Home) (n : PlainNode) → closed_in_place home n ≡ true → node_frontier n ≤ buckets_of home.plan
+view-low home n h = let p = both _ (nat_le (node_frontier n) (buckets_of home.plan)) h in le-of (node_frontier n) (buckets_of home.plan) p.1
 
 -- the buckets that may be milled are all that are left
 pub ready-all : (home : Home) (most : ℕ) (n : PlainNode) → IsPlace home → IsGood home most n → n.recovering ≡ false → has_whole_inputs home.plan n ≡ true → is_up_failure n.state ≡ false → n.cursor + ready home n ≡ buckets_of home.plan
@@ -110,8 +110,8 @@ ideal-end plan s = refl
 pub finished-of : (home : Home) (most : ℕ) (n : PlainNode) → IsPlace home → IsGood home most n → AsksInOrder home n → n.recovering ≡ false → buckets_of home.plan ≤ n.cursor → IsFinished home n
 unfolding ready
 finished-of home most n place good asks calm past =
-    let p = both _ (nat_le (view_cursor n) (buckets_of home.plan)) good.orderly.closed in
-    let low = le-of (view_cursor n) (buckets_of home.plan) p.1 in
+    let p = both _ (nat_le (node_frontier n) (buckets_of home.plan)) good.orderly.closed in
+    let low = le-of (node_frontier n) (buckets_of home.plan) p.1 in
     let same : n.cursor ≡ buckets_of home.plan = omega (arith, low, past) in
     let empty = no-length n.closed (omega (arith, low, past)) in
     let upto = least-low (home.plan.end / home.plan.width) (map (λ (r : Reader). r.bound / home.plan.width) (map held_at n.ports)) (low-upto home.plan place.checked.width (streams_of home) n.ports good.safe.inputs) in

@@ -8,7 +8,7 @@ use Rattle.dpc_model.specs.Fragments.{ideal, log_of}
 use Rattle.dpc_model.specs.Reading.{Reader, is_sure, Folded, fold_items}
 use Rattle.dpc_model.specs.Actors.{role_of, senders_of}
 use Rattle.dpc_model.specs.Ports.{Port}
-use Rattle.dpc_model.specs.Sessions.{first_batch, link_of}
+use Rattle.dpc_model.specs.Sessions.{first_batch, tally_of}
 use Rattle.dpc_model.specs.declared.actors.Role.{Role}
 use Rattle.dpc_model.specs.declared.sessions.Sub.{Sub}
 use Rattle.dpc_model.specs.declared.tuples.Tuple.{Tuple}
@@ -37,8 +37,8 @@ use Rattle.law_settling.proofs.Sourcing.{sub_at}
 use Rattle.law_settling.proofs.Seen.{sub-there, next-low, answered-first}
 
 -- the parts of an open session
-pub link-parts : (sub : Sub) (u : Sess) (m : ℕ) → link_of sub ≡ Some (u, m) → (sub.kept ≡ Some u) × (sub.is_open ≡ true) × (sub.batches ≡ m)
-link-parts sub u m e = by-kept sub.kept refl e
+pub tally-parts : (sub : Sub) (u : Sess) (m : ℕ) → tally_of sub ≡ Some (u, m) → (sub.kept ≡ Some u) × (sub.is_open ≡ true) × (sub.batches ≡ m)
+tally-parts sub u m e = by-kept sub.kept refl e
   where
     some-pair : (v : Sess) (n : ℕ) → ◌≡◌ {A = Option (Sess × ℕ)} (Some (v, n)) (Some (u, m)) → (v ≡ u) × (n ≡ m)
     some-pair v n d = let same : ◌≡◌ {A = Sess × ℕ} (v, n) (u, m) = cc in (ap (λ (z : Sess × ℕ). z.0) same, ap (λ (z : Sess × ℕ). z.1) same)
@@ -64,11 +64,11 @@ run-holds plan events x p s q checked port there =
 
 -- a port that took as many batches as its source tells of
 pub took-whole : (plan : Plan) (events : List Event) (x p s k : ℕ) → IsCheckedPlan plan → (line : IsReading plan x p s k) (q : Port) → port_of (run plan events) x p ≡ Some q → q.chosen ≡ 0 → q.inlet.broken ≡ false → (m : ℕ) →
-    link_of (sub_at (run plan events) s k) ≡ Some (q.inlet.sess, m) → m ≤ q.inlet.next → k < length (source_at (run plan events) s).subs → (source_at (run plan events) s).bound ≡ plan.end → (q.inlet.held.bound ≡ plan.end) × (is_sure q.inlet.held ≡ true)
-took-whole plan events x p s k checked line q there first whole m link all low ended =
+    tally_of (sub_at (run plan events) s k) ≡ Some (q.inlet.sess, m) → m ≤ q.inlet.next → k < length (source_at (run plan events) s).subs → (source_at (run plan events) s).bound ≡ plan.end → (q.inlet.held.bound ≡ plan.end) × (is_sure q.inlet.held ≡ true)
+took-whole plan events x p s k checked line q there first whole m tally all low ended =
     let w = run plan events in
-    let low_next = next-low plan events x p s k checked line q there first whole m link in
-    let parts = link-parts (sub_at w s k) q.inlet.sess m link in
+    let low_next = next-low plan events x p s k checked line q there first whole m tally in
+    let parts = tally-parts (sub_at w s k) q.inlet.sess m tally in
     let count = parts.2 in
     let sender : nth 0 (senders_of plan (Source s)) q.chosen ≡ s = ap (λ (z : ℕ). nth 0 (senders_of plan (Source s)) z) first ∙ line.first in
     let took : TookAll plan w x p (Source s) q s = record {

@@ -1,7 +1,7 @@
 -- What an event of a quiet phase makes of a port that reads a source, where its node does not recover: there is one replica, which it reads.
 use Rattle.std.proofs.Common.{◌≡◌, ℕ, ◌<◌, Bool, true, cond, length, refl, sym, ap, subst, ◌∙◌, arith, Option, Some, slice_get, inl, inr}
 use Rattle.dpc_lists.specs.Lists.{nth}
-use Rattle.dpc_model.specs.Inlets.{take_batch, after_link}
+use Rattle.dpc_model.specs.Inlets.{take_batch, after_tally}
 use Rattle.dpc_model.specs.Actors.{role_of, inputs_of, senders_of}
 use Rattle.dpc_model.specs.Ports.{Port, sender_at, without_ended_marks}
 use Rattle.dpc_model.specs.declared.messages.Event.{Event}
@@ -40,7 +40,7 @@ read-after i packet q r same is = subst (λ (y : Port). PortWith q y (inlet_afte
     by-packet (Plain (message.Batch u index items)) =
         let taken = (take_batch q.inlet u index items).after in
         subst (λ (b : Bool). PortWith q (cond b (record (without_ended_marks q) { inlet = taken }) (without_ended_marks q)) taken) (sym (eq-test q.chosen i same)) (record { inlet_is = refl; chosen = refl; ticks = refl })
-    by-packet (Plain (message.Beat b)) = record { inlet_is = ap (λ (c : Bool). cond c (after_link q.inlet b.link) q.inlet) (eq-test i q.chosen (sym same)); chosen = refl; ticks = refl }
+    by-packet (Plain (message.Beat b)) = record { inlet_is = ap (λ (c : Bool). cond c (after_tally q.inlet b.tally) q.inlet) (eq-test i q.chosen (sym same)); chosen = refl; ticks = refl }
     by-packet (Plain (message.Truncated u base)) = record { inlet_is = refl; chosen = refl; ticks = refl }
     by-packet (Plain (message.Subscribe asked)) = record { inlet_is = refl; chosen = refl; ticks = refl }
     by-packet (Plain (message.Ack j n)) = record { inlet_is = refl; chosen = refl; ticks = refl }

@@ -3,7 +3,7 @@ use Rattle.std.proofs.Common.{◌≡◌, ℕ, zero, suc, ◌<◌, Bool, true, fa
 use Rattle.std.specs.Prelude.{is_none, filter}
 use Rattle.dpc_lists.specs.Lists.{nth, changed, list_all}
 use Rattle.dpc_model.specs.Inlets.{same_sess, take_batch, AfterBatch}
-use Rattle.dpc_model.specs.Replicas.{is_silent}
+use Rattle.dpc_model.specs.Replicas.{is_absent}
 use Rattle.dpc_model.specs.Granting.{Key, key_le, greater_key, own_key, Grants, grants, with_promise, may_enter_by, later_key, with_ask, with_ask_over}
 use Rattle.dpc_model.specs.Actors.{replicas_of}
 use Rattle.dpc_model.specs.NodeStates.{is_up_failure, is_stabilization}
@@ -18,7 +18,7 @@ use Rattle.dpc_model.specs.declared.messages.Message.{Message}
 use Rattle.dpc_model.specs.declared.messages.Message.TheVariants as message
 use Rattle.node_model.specs.Mails.{mail, Snap, Packet, Plain, SnapFor, in_actor_order, to_each, Stepped}
 use Rattle.node_model.specs.Nodes.{Home, PlainNode, streams_of, ready, due_at, wants_to_reconcile}
-use Rattle.node_model.specs.NodeSteps.{silent_step, then_do, peers_of, peer_watches, replica_number, reader_place, with_port, enter_step, after_loss, after_adoption, after_taking, with_stamps_of, on_batch, on_subscribe, on_truncation, on_upstream_beat, on_peer_beat, on_ack, on_ask, on_grant, on_snap_ask, on_message, on_packet, on_snap, with_marks_ended, packet_step, after_stable_buckets, mill_step, after_clock, may_start_afresh, choice_step, ask_step, processing_upto, processing_step, acks_from, beat_of, beats, announcing_step, serving_step, snapshot_ask_step, rest_of_tick, with_fresh_start, tick_step}
+use Rattle.node_model.specs.NodeSteps.{idle_step, then_do, peers_of, peer_watches, replica_number, reader_place, with_port, enter_step, after_loss, after_adoption, after_taking, with_stamps_of, on_batch, on_subscribe, on_truncation, on_upstream_beat, on_peer_beat, on_ack, on_ask, on_grant, on_snap_ask, on_message, on_packet, on_snap, with_marks_ended, packet_step, after_stable_buckets, mill_step, after_clock, may_start_afresh, choice_step, ask_step, processing_upto, processing_step, acks_from, beat_of, beats, announcing_step, serving_step, snapshot_ask_step, rest_of_tick, with_fresh_start, tick_step}
 use Rattle.law_settling.proofs.Exact.{IsIn, in-left, in-right, in-sorted}
 use Rattle.law_granting.proofs.Keys.{key-refl, key-trans, greater-first, greater-second, nth-changed}
 
@@ -71,14 +71,14 @@ module _ (home : Home) where
 
   ask-heard : (i ask : ℕ) (r : Option ℕ) (n : PlainNode) → HasHeard n.grants.heard (on_ask home i ask r n).after
   ask-heard i ask None n = refl
-  ask-heard i ask (Some r) n = elim (grants n.grants n.state r (i, ask)) as (λ b. (cond {A = Stepped PlainNode} b (record { after = record n { grants = with_promise n.grants r (i, ask) }; sends = mail (nth 0 (replicas_of home.plan home.frag) r) (message.Grant i ask) ∷ [] }) (silent_step n)).after.grants.heard ≡ n.grants.heard) [ true ↦ refl | false ↦ refl ]
+  ask-heard i ask (Some r) n = elim (grants n.grants n.state r (i, ask)) as (λ b. (cond {A = Stepped PlainNode} b (record { after = record n { grants = with_promise n.grants r (i, ask) }; sends = mail (nth 0 (replicas_of home.plan home.frag) r) (message.Grant i ask) ∷ [] }) (idle_step n)).after.grants.heard ≡ n.grants.heard) [ true ↦ refl | false ↦ refl ]
 
   entered-heard : (n : PlainNode) → HasHeard n.grants.heard (enter_step home n).after
   unfolding enter_step
   entered-heard n = refl
 
   grant-heard : (i ask : ℕ) (n : PlainNode) → HasHeard n.grants.heard (on_grant home i ask n).after
-  grant-heard i ask n = elim (is_up_failure n.state && may_enter_by n.grants (i, ask)) as (λ b. (cond {A = Stepped PlainNode} b (enter_step home n) (silent_step n)).after.grants.heard ≡ n.grants.heard) [ true ↦ entered-heard n | false ↦ refl ]
+  grant-heard i ask n = elim (is_up_failure n.state && may_enter_by n.grants (i, ask)) as (λ b. (cond {A = Stepped PlainNode} b (enter_step home n) (idle_step n)).after.grants.heard ≡ n.grants.heard) [ true ↦ entered-heard n | false ↦ refl ]
 
   snap-heard : (i try : ℕ) (s : Snap) (n : PlainNode) → HasHeard n.grants.heard (on_snap home i try s n)
   unfolding after_adoption
@@ -105,7 +105,7 @@ module _ (home : Home) where
       peer-knows q key b (replica_number home a) m (same-knows q key n m (upstream-heard b (sender_at home.plan (streams_of home) a) n) k)
   message-knows a q key (message.Subscribe asked) n k =
       same-knows q key n (on_message home a (message.Subscribe asked) n).after
-      (elim n.recovering as (λ b. (cond {A = Stepped PlainNode} b (silent_step n) (on_subscribe home asked (reader_place home a) n)).after.grants.heard ≡ n.grants.heard) [ true ↦ refl | false ↦ subscribe-heard asked (reader_place home a) n ]) k
+      (elim n.recovering as (λ b. (cond {A = Stepped PlainNode} b (idle_step n) (on_subscribe home asked (reader_place home a) n)).after.grants.heard ≡ n.grants.heard) [ true ↦ refl | false ↦ subscribe-heard asked (reader_place home a) n ]) k
   message-knows a q key (message.Ack i count) n k =
       same-knows q key n (on_message home a (message.Ack i count) n).after
       (elim n.recovering as (λ b. (cond {A = PlainNode} b n (on_ack home i count (reader_place home a) n)).grants.heard ≡ n.grants.heard) [ true ↦ refl | false ↦ ack-heard i count (reader_place home a) n ]) k
@@ -113,7 +113,7 @@ module _ (home : Home) where
   message-knows a q key (message.Grant i ask) n k = same-knows q key n (on_grant home i ask n).after (grant-heard i ask n) k
   message-knows a q key (message.SnapAsk i try) n k =
       same-knows q key n (on_message home a (message.SnapAsk i try) n).after
-      (elim n.recovering as (λ b. (cond {A = Stepped PlainNode} b (silent_step n) (on_snap_ask home a i try n)).after.grants.heard ≡ n.grants.heard) [ true ↦ refl | false ↦ refl ]) k
+      (elim n.recovering as (λ b. (cond {A = Stepped PlainNode} b (idle_step n) (on_snap_ask home a i try n)).after.grants.heard ≡ n.grants.heard) [ true ↦ refl | false ↦ refl ]) k
 
   packet-knows : (a q : ℕ) (key : Key) (packet : Packet) (n : PlainNode) → Knows q key n.grants → Knows q key (on_packet home a packet n).after.grants
   packet-knows a q key (Plain m) n k = message-knows a q key m n k
@@ -133,9 +133,9 @@ module _ (home : Home) where
 
   asking-heard : (n : PlainNode) → HasHeard n.grants.heard (ask_step home n).after
   asking-heard n =
-      elim (wants_to_reconcile home n && is_none n.grants.promise) as (λ b. (cond {A = Stepped PlainNode} b (cond (list_all is_silent (peer_watches home n)) (enter_step home n)
-      (record { after = record n { grants = with_ask n.grants }; sends = to_each (message.Ask (own_key n.grants).0 (own_key n.grants).1) (peers_of home) })) (silent_step n)).after.grants.heard ≡ n.grants.heard) [
-        | true ↦ elim (list_all is_silent (peer_watches home n)) as (λ b. (cond {A = Stepped PlainNode} b (enter_step home n)
+      elim (wants_to_reconcile home n && is_none n.grants.promise) as (λ b. (cond {A = Stepped PlainNode} b (cond (list_all is_absent (peer_watches home n)) (enter_step home n)
+      (record { after = record n { grants = with_ask n.grants }; sends = to_each (message.Ask (own_key n.grants).0 (own_key n.grants).1) (peers_of home) })) (idle_step n)).after.grants.heard ≡ n.grants.heard) [
+        | true ↦ elim (list_all is_absent (peer_watches home n)) as (λ b. (cond {A = Stepped PlainNode} b (enter_step home n)
             (record { after = record n { grants = with_ask n.grants }; sends = to_each (message.Ask (own_key n.grants).0 (own_key n.grants).1) (peers_of home) })).after.grants.heard ≡ n.grants.heard) [
               | true ↦ entered-heard n
               | false ↦ refl
@@ -145,9 +145,9 @@ module _ (home : Home) where
 
   processing-heard : (n : PlainNode) → HasHeard n.grants.heard (processing_step home n).after
   processing-heard n =
-      elim (is_stabilization n.state) as (λ b. (cond {A = Stepped PlainNode} b (silent_step n) (elim (due_at home n n.clock) as (λ _. Stepped PlainNode) [ None ↦ silent_step n | Some last ↦ processing_upto home last n ])).after.grants.heard ≡ n.grants.heard) [
+      elim (is_stabilization n.state) as (λ b. (cond {A = Stepped PlainNode} b (idle_step n) (elim (due_at home n n.clock) as (λ _. Stepped PlainNode) [ None ↦ idle_step n | Some last ↦ processing_upto home last n ])).after.grants.heard ≡ n.grants.heard) [
         | true ↦ refl
-        | false ↦ elim (due_at home n n.clock) as (λ o. (elim o as (λ _. Stepped PlainNode) [ None ↦ silent_step n | Some last ↦ processing_upto home last n ]).after.grants.heard ≡ n.grants.heard) [
+        | false ↦ elim (due_at home n n.clock) as (λ o. (elim o as (λ _. Stepped PlainNode) [ None ↦ idle_step n | Some last ↦ processing_upto home last n ]).after.grants.heard ≡ n.grants.heard) [
           | None ↦ refl
           | Some last ↦ refl
         ]

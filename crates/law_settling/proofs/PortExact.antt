@@ -18,7 +18,7 @@ use Rattle.dpc_model.specs.declared.plans.Plan.{Plan}
 use Rattle.dpc_model.specs.declared.plans.StreamRef.{StreamRef}
 use Rattle.node_model.specs.Mails.{mail, Packet, Plain, SnapFor, Stepped}
 use Rattle.node_model.specs.Nodes.{Home, PlainNode, streams_of}
-use Rattle.node_model.specs.NodeSteps.{silent_step, with_port, after_loss, after_taking, on_batch, on_subscribe, on_truncation, on_upstream_beat, on_peer_beat, on_ack, on_ask, on_grant, on_message, on_snap, with_marks_ended, packet_step, replica_number, reader_place, enter_step, on_snap_ask}
+use Rattle.node_model.specs.NodeSteps.{idle_step, with_port, after_loss, after_taking, on_batch, on_subscribe, on_truncation, on_upstream_beat, on_peer_beat, on_ack, on_ask, on_grant, on_message, on_snap, with_marks_ended, packet_step, replica_number, reader_place, enter_step, on_snap_ask}
 use Rattle.node_model.specs.Clients.{ClientState, client_stream, with_taken, client_after_batch, client_message, client_packet, client_marks_ended, client_after_packet}
 use Rattle.law_safety.proofs.Pointwise.{sender-of}
 use Rattle.law_granting.proofs.Moves.{stamped-ports}
@@ -160,11 +160,11 @@ module _ (home : Home) (a p : ℕ) (y : Port) where
 
   ask-ports : (i ask : ℕ) (r : Option ℕ) (m : PlainNode) → (on_ask home i ask r m).after.ports ≡ m.ports
   ask-ports i ask None m = refl
-  ask-ports i ask (Some r) m = elim (grants m.grants m.state r (i, ask)) as (λ b. (cond {A = Stepped PlainNode} b (record { after = record m { grants = with_promise m.grants r (i, ask) }; sends = mail (nth 0 (replicas_of home.plan home.frag) r) (message.Grant i ask) ∷ [] }) (silent_step m)).after.ports ≡ m.ports) [ true ↦ refl | false ↦ refl ]
+  ask-ports i ask (Some r) m = elim (grants m.grants m.state r (i, ask)) as (λ b. (cond {A = Stepped PlainNode} b (record { after = record m { grants = with_promise m.grants r (i, ask) }; sends = mail (nth 0 (replicas_of home.plan home.frag) r) (message.Grant i ask) ∷ [] }) (idle_step m)).after.ports ≡ m.ports) [ true ↦ refl | false ↦ refl ]
 
   grant-ports : (i ask : ℕ) (m : PlainNode) → (on_grant home i ask m).after.ports ≡ m.ports
   unfolding enter_step
-  grant-ports i ask m = elim (is_up_failure m.state && may_enter_by m.grants (i, ask)) as (λ b. (cond {A = Stepped PlainNode} b (enter_step home m) (silent_step m)).after.ports ≡ m.ports) [ true ↦ refl | false ↦ refl ]
+  grant-ports i ask m = elim (is_up_failure m.state && may_enter_by m.grants (i, ask)) as (λ b. (cond {A = Stepped PlainNode} b (enter_step home m) (idle_step m)).after.ports ≡ m.ports) [ true ↦ refl | false ↦ refl ]
 
   told : (packet : Packet) (ps : List Port) → ((u : Sess) (base : ℕ) → packet ≡ Plain (message.Truncated u base) → ⊥) → Now packet ps → NowWhole packet ps
   told packet ps none h = (h.0, h.1, h.2, λ i at u base is. absurd (none u base is))
@@ -176,7 +176,7 @@ module _ (home : Home) (a p : ℕ) (y : Port) where
   message-now (message.Subscribe asked) n whole there calm =
       told (Plain (message.Subscribe asked)) _ (λ v b e. cc) (plain-now (Plain (message.Subscribe asked)) _ (λ i. refl) (ap (λ (ps : List Port). slice_get ps p) (by-recovering n.recovering) ∙ there))
     where
-      by-recovering : (b : Bool) → (cond {A = Stepped PlainNode} b (silent_step n) (on_subscribe home asked (reader_place home a) n)).after.ports ≡ n.ports
+      by-recovering : (b : Bool) → (cond {A = Stepped PlainNode} b (idle_step n) (on_subscribe home asked (reader_place home a) n)).after.ports ≡ n.ports
       by-recovering true = refl
       by-recovering false = subscribe-ports asked (reader_place home a) n
   message-now (message.Ack i count) n whole there calm =
@@ -190,7 +190,7 @@ module _ (home : Home) (a p : ℕ) (y : Port) where
   message-now (message.SnapAsk i try) n whole there calm =
       told (Plain (message.SnapAsk i try)) _ (λ v b e. cc) (plain-now (Plain (message.SnapAsk i try)) _ (λ j. refl) (ap (λ (ps : List Port). slice_get ps p) (by-recovering n.recovering) ∙ there))
     where
-      by-recovering : (b : Bool) → (cond {A = Stepped PlainNode} b (silent_step n) (on_snap_ask home a i try n)).after.ports ≡ n.ports
+      by-recovering : (b : Bool) → (cond {A = Stepped PlainNode} b (idle_step n) (on_snap_ask home a i try n)).after.ports ≡ n.ports
       by-recovering true = refl
       by-recovering false = refl
 

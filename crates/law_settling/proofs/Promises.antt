@@ -181,7 +181,7 @@ module _ (script : Script) (a b f q r : ℕ) (key : Key) (role_a : role_of scrip
       let home = home_of w.plan (f, q) in
       let t = tick_step home now h.node in
       let event : happens w (Tick a now) ≡ node_stepped a t w = node-ticked-now w good.most a f q good.fine role now h.node (good.clocked a now may.may) h.up in
-      let beat : Beat = record { inc = t.after.grants.inc; state = t.after.state; recovering = t.after.recovering; over = t.after.grants.over; link = None } in
+      let beat : Beat = record { inc = t.after.grants.inc; state = t.after.state; recovering = t.after.recovering; over = t.after.grants.over; tally = None } in
       let place = sent-place a w.envelopes (mail b (message.Beat beat)) t.sends (tick-tells home now h.node b (peer-is w.plan a b f q r role (here-b z good) other)) in
       let sent : slice_get (happens w (Tick a now)).envelopes place.0 ≡ Some (from a (mail b (message.Beat beat))) = ap (λ (v : World). slice_get v.envelopes place.0) event ∙ place.1 in
       let s = (own-ticked home now h.node).grants in

@@ -2,7 +2,7 @@
 use Rattle.std.proofs.Common.{◌≡◌, ℕ, ◌+◌, ◌≤◌, Bool, true, false, cond, not, ◌&&◌, ◌||◌, nat_lt, List, refl, sym, ap, ◌∙◌, arith, Option, Some, None, ◌⊎◌, inl, inr}
 use Rattle.std.proofs.lemmas.Grind.{common_steps}
 use Rattle.dpc_model.specs.Reading.{Reader, Folded, fold_items}
-use Rattle.dpc_model.specs.Inlets.{InletState, same_sess, is_newer, AfterBatch, is_old, after_missing_batch, after_next_batch, take_batch, after_link, shows_loss}
+use Rattle.dpc_model.specs.Inlets.{InletState, same_sess, is_newer, AfterBatch, is_old, after_missing_batch, after_next_batch, take_batch, after_tally, shows_loss}
 use Rattle.dpc_model.specs.declared.batches.Taken.TheVariants.{Old}
 use Rattle.dpc_model.specs.declared.tuples.Item.{Item}
 use Rattle.dpc_model.specs.declared.messages.Sess.{Sess}
@@ -47,7 +47,7 @@ by-batch P i u index items old missing next =
 -- a broken inlet stays so
 pub after-broken : (packet : Packet) (i : InletState) → i.broken ≡ true → (inlet_after packet i).broken ≡ true
 after-broken (Plain (message.Batch u index items)) i h = by-batch (λ j. j.broken ≡ true) i u index items h refl (λ e f. let clash : true ≡ false = sym h ∙ e in cc)
-after-broken (Plain (message.Beat b)) i h = ap (λ c. c || shows_loss i b.link) h
+after-broken (Plain (message.Beat b)) i h = ap (λ c. c || shows_loss i b.tally) h
 after-broken (Plain (message.Subscribe asked)) i h = h
 after-broken (Plain (message.Truncated u base)) i h = h
 after-broken (Plain (message.Ack j n)) i h = h
@@ -81,24 +81,24 @@ first-batch h u v items f same e = rw (same, e) refl
 -- ---- beats
 
 -- one that was not answered hears nothing
-pub unanswered-link : (i : InletState) (link : Option (Sess × ℕ)) → i.answered ≡ false → i.broken ≡ false → (after_link i link).broken ≡ false
-unanswered-link i None answered broken = rw (answered, broken) refl
-unanswered-link i (Some l) answered broken = rw (answered, broken) refl
+pub unanswered-tally : (i : InletState) (tally : Option (Sess × ℕ)) → i.answered ≡ false → i.broken ≡ false → (after_tally i tally).broken ≡ false
+unanswered-tally i None answered broken = rw (answered, broken) refl
+unanswered-tally i (Some l) answered broken = rw (answered, broken) refl
 
-pub asked-link : (h : Reader) (u : Sess) (link : Option (Sess × ℕ)) → after_link (asked_inlet h u) link ≡ asked_inlet h u
-asked-link h u None = refl
-asked-link h u (Some l) = refl
+pub asked-tally : (h : Reader) (u : Sess) (tally : Option (Sess × ℕ)) → after_tally (asked_inlet h u) tally ≡ asked_inlet h u
+asked-tally h u None = refl
+asked-tally h u (Some l) = refl
 
 -- an answered one that hears of a session is broken by it, or it is its own, and it took all batches that are told of
-pub link-says : (i : InletState) (v : Sess) (n : ℕ) → i.answered ≡ true → ((after_link i (Some (v, n))).broken ≡ true) ⊎ ((i.broken ≡ false) × (same_sess v i.sess ≡ true) × (n ≤ i.next))
-link-says i v n answered =
+pub tally-says : (i : InletState) (v : Sess) (n : ℕ) → i.answered ≡ true → ((after_tally i (Some (v, n))).broken ≡ true) ⊎ ((i.broken ≡ false) × (same_sess v i.sess ≡ true) × (n ≤ i.next))
+tally-says i v n answered =
     let all : (i.broken || (i.answered && (not (same_sess v i.sess) || nat_lt i.next n))) ≡ (i.broken || (not (same_sess v i.sess) || nat_lt i.next n)) = rw answered refl in
-    (elim i.broken as (λ c. i.broken ≡ c → ((after_link i (Some (v, n))).broken ≡ true) ⊎ ((c ≡ false) × (same_sess v i.sess ≡ true) × (n ≤ i.next))) [
+    (elim i.broken as (λ c. i.broken ≡ c → ((after_tally i (Some (v, n))).broken ≡ true) ⊎ ((c ≡ false) × (same_sess v i.sess ≡ true) × (n ≤ i.next))) [
       | true ↦ λ b. inl (all ∙ rw b refl)
-      | false ↦ λ b. (elim (same_sess v i.sess) as (λ d. same_sess v i.sess ≡ d → ((after_link i (Some (v, n))).broken ≡ true) ⊎ ((false ≡ false) × (d ≡ true) × (n ≤ i.next))) [
+      | false ↦ λ b. (elim (same_sess v i.sess) as (λ d. same_sess v i.sess ≡ d → ((after_tally i (Some (v, n))).broken ≡ true) ⊎ ((false ≡ false) × (d ≡ true) × (n ≤ i.next))) [
         | false ↦ λ e. inl (all ∙ (rw e (or-true i.broken)))
         | true ↦ λ e.
-            (elim (nat_lt i.next n) as (λ d. nat_lt i.next n ≡ d → ((after_link i (Some (v, n))).broken ≡ true) ⊎ ((false ≡ false) × (true ≡ true) × (n ≤ i.next))) [
+            (elim (nat_lt i.next n) as (λ d. nat_lt i.next n ≡ d → ((after_tally i (Some (v, n))).broken ≡ true) ⊎ ((false ≡ false) × (true ≡ true) × (n ≤ i.next))) [
               | true ↦ λ f. inl (all ∙ (rw (e, f) (or-true i.broken)))
               | false ↦ λ f. inr (refl, refl, not-lt i.next n f)
             ]) refl
@@ -110,7 +110,7 @@ link-says i v n answered =
     or-true false = refl
 
 -- and by one that tells of no session
-pub none-says : (i : InletState) → i.answered ≡ true → (after_link i None).broken ≡ true
+pub none-says : (i : InletState) → i.answered ≡ true → (after_tally i None).broken ≡ true
 none-says i answered = rw answered (or-true i.broken)
   where
     or-true : (b : Bool) → (b || true) ≡ true

@@ -2,7 +2,7 @@
 use Rattle.std.proofs.Common.{◌≡◌, ℕ, zero, suc, ◌+◌, ◌≤◌, Bool, true, false, cond, not, ◌&&◌, ◌||◌, ◌==◌, nat_le, min, List, [], ◌∷◌, ◌++◌, length, refl, sym, ap, subst, ◌∙◌, arith, Option, Some, None, slice_get, ◌⊎◌, inl, inr}
 use Rattle.dpc_lists.specs.Lists.{nth, has}
 use Rattle.dpc_model.specs.Reading.{Reader, is_sure}
-use Rattle.dpc_model.specs.Inlets.{InletState, same_sess, is_newer, take_batch, after_link, with_next_session}
+use Rattle.dpc_model.specs.Inlets.{InletState, same_sess, is_newer, take_batch, after_tally, with_next_session}
 use Rattle.dpc_model.specs.Ports.{Port, choice_at, must_reopen}
 use Rattle.dpc_model.specs.Sessions.{is_newer_than_kept, first_batch as first_items}
 use Rattle.dpc_model.specs.declared.sessions.Sub.{Sub}
@@ -37,7 +37,7 @@ use Rattle.law_settling.proofs.Going.{InletGoes, Stays, TakesIn, TicksOn, took-n
 use Rattle.law_settling.proofs.Sourcing.{sub_at, answer_mail, SourceGoes, Keeps as KeepsSub, Opens, source-goes, answers-now}
 use Rattle.law_settling.proofs.Full.{asks_with, first-whole}
 use Rattle.law_settling.proofs.Standing.{asked_inlet, old-batch, old-ask, old-kept}
-use Rattle.law_settling.proofs.Readings.{other-batch, first-batch, asked-link, next-newer, never-next, same-or-older}
+use Rattle.law_settling.proofs.Readings.{other-batch, first-batch, asked-tally, next-newer, never-next, same-or-older}
 use Rattle.law_settling.proofs.Fresh.{IsSeen, HasWhole, tick_count, ticks-grow, Completes, IsFresh, IsAsking, IsReplying, Replied, Coming, new-waits, still-sent, Reopens, Holds, port-next, first-here, ticked-says, whole-kept}
 
 -- an envelope is an old one, or the one that was added
@@ -119,7 +119,7 @@ module _ (script : Script) (x p s k : ℕ) where
                 ap (λ (y : InletState). y.held) inlet ∙ ap (λ (y : InletState). (take_batch y v i items).after.held) fresh.inlet ∙ ap (λ (n : ℕ). (take_batch (asked_inlet h u) v n items).after.held) all.0 ∙ first-batch h u v items all.1.0 same all.1.1 in
                 inr (record { port = r; there = now; bound = ap (λ (y : Reader). y.bound) held ∙ all.1.2; sure = ap is_sure held ∙ all.1.3 })
           ]) refl
-      by-packet r now j f at to sender (Plain (message.Beat b)) packet ticks inlet stays = stays (inlet ∙ ap (λ (y : InletState). after_link y b.link) fresh.inlet ∙ asked-link h u b.link ∙ sym fresh.inlet) ticks
+      by-packet r now j f at to sender (Plain (message.Beat b)) packet ticks inlet stays = stays (inlet ∙ ap (λ (y : InletState). after_tally y b.tally) fresh.inlet ∙ asked-tally h u b.tally ∙ sym fresh.inlet) ticks
       by-packet r now j f at to sender (Plain (message.Subscribe asked)) packet ticks inlet stays = stays inlet ticks
       by-packet r now j f at to sender (Plain (message.Truncated v base)) packet ticks inlet stays = stays inlet ticks
       by-packet r now j f at to sender (Plain (message.Ack i n)) packet ticks inlet stays = stays inlet ticks

@@ -3,7 +3,7 @@ use Rattle.std.proofs.Common.{◌≡◌, ℕ, zero, suc, ◌+◌, ◌<◌, ◌�
 use Rattle.dpc_lists.specs.Lists.{nth, range_with_len, list_all}
 use Rattle.dpc_model.specs.Actors.{role_of, senders_of}
 use Rattle.dpc_model.specs.Ports.{Port}
-use Rattle.dpc_model.specs.Sessions.{no_session, link_of}
+use Rattle.dpc_model.specs.Sessions.{no_session, tally_of}
 use Rattle.dpc_model.specs.declared.actors.Role.{Role}
 use Rattle.dpc_model.specs.declared.actors.Role.TheVariants.{Source as IsSource}
 use Rattle.dpc_model.specs.declared.sessions.Sub.{Sub}
@@ -90,7 +90,7 @@ source-order plan events x p s k line u =
 -- ---- a port that took all
 
 module _ (plan : Plan) (events : List Event) (x p s k : ℕ) (checked : IsCheckedPlan plan) (line : IsReading plan x p s k) (q : Port) (there : port_of (run plan events) x p ≡ Some q) (first : q.chosen ≡ 0) (whole : q.inlet.broken ≡ false)
-    (m : ℕ) (link : link_of (sub_at (run plan events) s k) ≡ Some (q.inlet.sess, m)) where
+    (m : ℕ) (tally : tally_of (sub_at (run plan events) s k) ≡ Some (q.inlet.sess, m)) where
   sender-is : nth 0 (senders_of plan (Source s)) q.chosen ≡ s
   sender-is = ap (λ (z : ℕ). nth 0 (senders_of plan (Source s)) z) first ∙ line.first
 
@@ -101,7 +101,7 @@ module _ (plan : Plan) (events : List Event) (x p s k : ℕ) (checked : IsChecke
   order = source-order plan events x p s k line q.inlet.sess
 
   counted : m ≡ order.many
-  counted = (order.there.0 refl).open_one q.inlet.sess m link (same-self q.inlet.sess)
+  counted = (order.there.0 refl).open_one q.inlet.sess m tally (same-self q.inlet.sess)
 
   -- no more batches than were sent
   pub next-low : q.inlet.next ≤ m
@@ -125,5 +125,5 @@ module _ (plan : Plan) (events : List Event) (x p s k : ℕ) (checked : IsChecke
           let all : list_all (λ i. nat_lt i o.many) (indexes l (run plan events).envelopes) ≡ true =
           subst (λ (zs : List ℕ). list_all (λ i. nat_lt i o.many) zs ≡ true) (sym o.order) (subst (λ (z : ℕ). list_all (λ i. nat_lt i z) (range_with_len 0 o.many) ≡ true) zero_on (range-below 0 o.many)) in
           let low = lt-of j o.many (index-passes (λ i. nat_lt i o.many) l (run plan events).envelopes batch.place j batch.envelope all batch.there index) in
-          let same = (o.there.0 refl).open_one q.inlet.sess m link (same-self q.inlet.sess) in
+          let same = (o.there.0 refl).open_one q.inlet.sess m tally (same-self q.inlet.sess) in
           omega (arith, low, same, e)

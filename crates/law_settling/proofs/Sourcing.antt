@@ -2,7 +2,7 @@
 use Rattle.std.proofs.Common.{◌≡◌, ◌≢◌, ℕ, zero, suc, ◌+◌, ◌<◌, ◌≤◌, Bool, true, cond, ◌==◌, List, [], ◌∷◌, ◌++◌, map, length, refl, sym, ap, subst, ◌∙◌, arith, Option, Some, slice_get, inl, inr}
 use Rattle.dpc_lists.specs.Lists.{nth, changed}
 use Rattle.dpc_model.specs.Actors.{role_of}
-use Rattle.dpc_model.specs.Sessions.{no_session, is_newer_than_kept, first_batch, link_of}
+use Rattle.dpc_model.specs.Sessions.{no_session, is_newer_than_kept, first_batch, tally_of}
 use Rattle.dpc_model.specs.declared.actors.Role.{Role}
 use Rattle.dpc_model.specs.declared.actors.Role.TheVariants.{Source as IsSource, Node as IsNode, Client as IsClient}
 use Rattle.dpc_model.specs.declared.sessions.Sub.{Sub}
@@ -172,15 +172,15 @@ module _ (w : World) (most x p s k : ℕ) (fine : IsFine w most) (line : IsReadi
       subscribe-same u v e = cc
 
   -- a tick of the source that is not void tells the reader its session
-  pub beats-now : (now : ℕ) → Ticks w s now → (i : ℕ) × (slice_get (happens w (Tick s now)).envelopes i ≡ Some (from s (mail x (source_beat (link_of (sub_at w s k)))))) × (length w.envelopes ≤ i) × (sub_at (happens w (Tick s now)) s k ≡ sub_at w s k)
+  pub beats-now : (now : ℕ) → Ticks w s now → (i : ℕ) × (slice_get (happens w (Tick s now)).envelopes i ≡ Some (from s (mail x (source_beat (tally_of (sub_at w s k)))))) × (length w.envelopes ≤ i) × (sub_at (happens w (Tick s now)) s k ≡ sub_at w s k)
   beats-now now clocked =
       let y = source_at w s in
       let t = source_tick_step w.plan s now y in
       let clock : y.clock ≡ clocked.old = some-clock y.clock clocked.old (sym (ap (λ (r : Role). clock_by w s r) line.source) ∙ clocked.is_up) in
       let may : is_clock y.clock now ≡ true = ap (λ (c : ℕ). is_clock c now) clock ∙ clocked.may in
       let event : happens w (Tick s now) ≡ source_stepped s t w = ap (λ (r : Role). ticks w s now r) line.source ∙ ap (λ (c : Bool). cond c (source_stepped s t w) w) may in
-      let place = sent-place s w.envelopes (mail x (source_beat (link_of (sub_at w s k)))) t.sends (beat-sent w.plan s now k x y line.back line.low few) in
-      subst (λ (next : World). (i : ℕ) × (slice_get next.envelopes i ≡ Some (from s (mail x (source_beat (link_of (sub_at w s k)))))) × (length w.envelopes ≤ i) × (sub_at next s k ≡ sub_at w s k)) (sym event)
+      let place = sent-place s w.envelopes (mail x (source_beat (tally_of (sub_at w s k)))) t.sends (beat-sent w.plan s now k x y line.back line.low few) in
+      subst (λ (next : World). (i : ℕ) × (slice_get next.envelopes i ≡ Some (from s (mail x (source_beat (tally_of (sub_at w s k)))))) × (length w.envelopes ≤ i) × (sub_at next s k ≡ sub_at w s k)) (sym event)
       (place.0, place.1, place.2, ap (λ (z : SourceState). nth no_session z.subs k) (own-source t) ∙ ap (λ (subs : List Sub). nth no_session subs k) (tick-subs w.plan s now y))
     where
       some-clock : (y z : ℕ) → ◌≡◌ {A = Option ℕ} (Some y) (Some z) → y ≡ z

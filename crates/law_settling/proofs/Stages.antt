@@ -81,17 +81,17 @@ module _ (script : Script) (x p s k : ℕ) where
   keeps-3 z e may (inl broken) = broken-next script x p s k z e may broken
   keeps-3 z e may (inr coming) = inr (coming-kept script x p s k z e may coming)
 
-  heard : (n : ℕ) (link : Option (Sess × ℕ)) (z : Progress) → MayGo script (IsSeen script x p s k) z (Deliver n) → IsHearing x p s k n link z → Stage script x p s k 3 (next_progress script z (Deliver n))
-  heard n link z may h = elim (heard-now script x p s k n link z may h) [ inl broken ↦ inl broken | inr whole ↦ inr (inr (inr whole)) ]
+  heard : (n : ℕ) (tally : Option (Sess × ℕ)) (z : Progress) → MayGo script (IsSeen script x p s k) z (Deliver n) → IsHearing x p s k n tally z → Stage script x p s k 3 (next_progress script z (Deliver n))
+  heard n tally z may h = elim (heard-now script x p s k n tally z may h) [ inl broken ↦ inl broken | inr whole ↦ inr (inr (inr whole)) ]
 
   keeps-4 : Keeps script (IsSeen script x p s k) (Stage script x p s k 4)
   keeps-4 z e may (inr rest) = inr (keeps-3 z e may rest)
-  keeps-4 z e may (inl (n, link, h)) =
+  keeps-4 z e may (inl (n, tally, h)) =
       (elim (is_delivery n e) as (λ b. is_delivery n e ≡ b → Stage script x p s k 4 (next_progress script z e)) [
         | true ↦ λ d.
             let same = same-delivery n e may.quiet d in
-            subst (λ (g : Event). Stage script x p s k 4 (next_progress script z g)) (sym same) (inr (heard n link z (subst (MayGo script (IsSeen script x p s k) z) same may) h))
-        | false ↦ λ d. elim (hearing-next script x p s k n link z e may d h) [ inl on ↦ inl (n, link, on) | inr coming ↦ inr (inr coming) ]
+            subst (λ (g : Event). Stage script x p s k 4 (next_progress script z g)) (sym same) (inr (heard n tally z (subst (MayGo script (IsSeen script x p s k) z) same may) h))
+        | false ↦ λ d. elim (hearing-next script x p s k n tally z e may d h) [ inl on ↦ inl (n, tally, on) | inr coming ↦ inr (inr coming) ]
       ]) refl
 
   keeps-5 : Keeps script (IsSeen script x p s k) (Stage script x p s k 5)
@@ -195,17 +195,17 @@ module _ (script : Script) (x p s k : ℕ) where
   -- a beat comes in the next phase, and shows the fault
   lead-3 : Leads script x p s k (Stage script x p s k 4) (Stage script x p s k 3)
   lead-3 z es step (inr rest) = inr (lead-2 z es step rest)
-  lead-3 z es step (inl (n, link, h)) =
+  lead-3 z es step (inl (n, tally, h)) =
       let due = due-in z es n _ step h.sent h.waits in
-      let now : IsHearing x p s k n link (opened script z) = record {
+      let now : IsHearing x p s k n tally (opened script z) = record {
         answered = record { port = h.answered.port; there = h.answered.there; answered = h.answered.answered };
         sent = h.sent;
         waits = due-waits n (opened script z).waiting due;
         told = h.told;
       } in
-      due-taken script (IsSeen script x p s k) n (IsHearing x p s k n link) (Stage script x p s k 3) (record {
-        others = λ y e may other q. elim (hearing-next script x p s k n link y e may other q) [ inl on ↦ inl on | inr coming ↦ inr (inr coming) ];
-        taken = λ y may q. heard n link y may q;
+      due-taken script (IsSeen script x p s k) n (IsHearing x p s k n tally) (Stage script x p s k 3) (record {
+        others = λ y e may other q. elim (hearing-next script x p s k n tally y e may other q) [ inl on ↦ inl on | inr coming ↦ inr (inr coming) ];
+        taken = λ y may q. heard n tally y may q;
         keeps = keeps-3;
         can = λ y seen q. comes-here script x p s k y n _ seen q.sent;
         at = λ y seen. seen.at;

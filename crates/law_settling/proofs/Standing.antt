@@ -5,7 +5,7 @@ use Rattle.dpc_model.specs.Reading.{Reader, is_sure, Folded, fold_items}
 use Rattle.dpc_model.specs.Inlets.{InletState, same_sess, is_newer}
 use Rattle.dpc_model.specs.Actors.{role_of, sends_stream, readers_of}
 use Rattle.dpc_model.specs.Ports.{Port}
-use Rattle.dpc_model.specs.Sessions.{link_of}
+use Rattle.dpc_model.specs.Sessions.{tally_of}
 use Rattle.dpc_model.specs.declared.actors.Role.{Role}
 use Rattle.dpc_model.specs.declared.tuples.Item.{Item}
 use Rattle.dpc_model.specs.declared.messages.Event.{Event}
@@ -56,7 +56,7 @@ pub record Stand (plan : Plan) (x p s k : ℕ) (w : World) : Type 0 where
   pub calm : NoneRecovers w.nodes
   pub up : IsAllUp w
   pub newer : KnowsNoNewer plan w x p (Source s)
-  pub took : (q : Port) (m : ℕ) → port_of w x p ≡ Some q → q.inlet.broken ≡ false → link_of (sub_at w s k) ≡ Some (q.inlet.sess, m) → m ≤ q.inlet.next → (q.inlet.held.bound ≡ plan.end) × (is_sure q.inlet.held ≡ true)
+  pub took : (q : Port) (m : ℕ) → port_of w x p ≡ Some q → q.inlet.broken ≡ false → tally_of (sub_at w s k) ≡ Some (q.inlet.sess, m) → m ≤ q.inlet.next → (q.inlet.held.bound ≡ plan.end) × (is_sure q.inlet.held ≡ true)
   pub asked : (q : Port) (u : Sess) (h : Reader) (j : ℕ) (f : Envelope) (v : Subscribe) → port_of w x p ≡ Some q → q.inlet ≡ asked_inlet h u → slice_get w.envelopes j ≡ Some f → f.sender ≡ x → f.to ≡ s → f.packet ≡ Plain (message.Subscribe v) →
       same_sess v.sess u ≡ true → v ≡ asks_with u h
   pub plain : (j : ℕ) (f : Envelope) → slice_get w.envelopes j ≡ Some f → f.sender ≡ s → IsPlainPacket f.packet
@@ -108,7 +108,7 @@ stand-of plan events x p s k checked line up calm ended =
       calm = calm;
       up = up;
       newer = none-newer plan events checked x p (Source s) line.port;
-      took = λ q m there whole link all. took-whole plan events x p s k checked line q there (chosen-first w (1 + length events) x p s k g.fine many line_w calm q there) whole m link all (few w (1 + length events) x p s k g.fine line_w within) ended;
+      took = λ q m there whole tally all. took-whole plan events x p s k checked line q there (chosen-first w (1 + length events) x p s k g.fine many line_w calm q there) whole m tally all (few w (1 + length events) x p s k g.fine line_w within) ended;
       asked = λ q u h j f v there inlet sent sender to packet same. run-asked plan events x p s k checked line q u h j f v there inlet sent sender to packet same;
       plain = λ j f sent sender v i items packet.
           sends-plain w.envelopes f.sender f.to v i items (subst (λ (y : Packet). SendsSurely w.envelopes f.sender f.to y) packet (sources-sure plan events j s f sent (ap (λ (z : ℕ). role_of plan z) sender ∙ line.source)));

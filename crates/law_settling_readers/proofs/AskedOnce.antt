@@ -97,7 +97,7 @@ module _ (home : Home) (a : ℕ → Bool) (u : Sess) where
       record {
         told = told-quiet;
         snapped = λ n to i try h. and-false (a to);
-        batched = λ n k sub l items h there link. and-false (a (nth 0 (own_readers home) k));
+        batched = λ n k sub l items h there tally. and-false (a (nth 0 (own_readers home) k));
         counted = λ n h. tt;
         shut = λ n h. tt;
         emptied = λ n h. tt;

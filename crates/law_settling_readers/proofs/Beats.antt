@@ -2,7 +2,7 @@
 use Rattle.std.proofs.Common.{◌≡◌, ℕ, Bool, true, false, cond, not, ◌&&◌, ◌==◌, nat_lt, List, [], ◌∷◌, ◌++◌, map, length, refl, sym, ap, ◌∙◌, Option, Some, None, slice_get, ◌⊎◌, inl, inr}
 use Rattle.std.specs.Prelude.{is_none}
 use Rattle.dpc_lists.specs.Lists.{nth, list_all}
-use Rattle.dpc_model.specs.Replicas.{is_silent}
+use Rattle.dpc_model.specs.Replicas.{is_absent}
 use Rattle.dpc_model.specs.Granting.{own_key, grants, with_promise, may_enter_by, with_ask}
 use Rattle.dpc_model.specs.NodeStates.{is_up_failure, is_stabilization}
 use Rattle.dpc_model.specs.Actors.{role_of, replicas_of}
@@ -21,7 +21,7 @@ use Rattle.dpc_model.specs.declared.messages.Message.TheVariants as message
 use Rattle.dpc_model.specs.declared.messages.NodeState.TheVariants.{Stabilization}
 use Rattle.node_model.specs.Mails.{Packet, Plain, SnapFor, Mail, mail, mails, in_actor_order, to_each, Stepped}
 use Rattle.node_model.specs.Nodes.{Home, PlainNode, streams_of, own_readers, out_stable, ready, due_at, shown, wants_to_reconcile}
-use Rattle.node_model.specs.NodeSteps.{silent_step, then_do, peers_of, peer_watches, replica_number, reader_place, give, given_by, given_stable, enter_step, on_subscribe, on_ask, on_snap_ask, on_message, with_marks_ended, packet_step, after_stable_buckets, after_last_correction, mill_step, after_clock, may_start_afresh, choice_step, ask_step, count_upto, stably, after_buckets, processing_upto, processing_step, acks_from, beat_of, beats, announcing_step, serving_step, snapshot_ask_step, with_fresh_start, rest_of_tick, tick_step}
+use Rattle.node_model.specs.NodeSteps.{idle_step, then_do, peers_of, peer_watches, replica_number, reader_place, give, given_by, given_stable, enter_step, on_subscribe, on_ask, on_snap_ask, on_message, with_marks_ended, packet_step, after_stable_buckets, after_last_correction, mill_step, after_clock, may_start_afresh, choice_step, ask_step, count_upto, stably, after_buckets, processing_upto, processing_step, acks_from, beat_of, beats, announcing_step, serving_step, snapshot_ask_step, with_fresh_start, rest_of_tick, tick_step}
 use Rattle.node_model.specs.Sources.{source_emits, source_releases, source_packet_step, source_tick_step}
 use Rattle.node_model.specs.Clients.{client_tick_step}
 use Rattle.world_model.specs.Worlds.{World, Envelope, Slot, home_of, slot_of, source_at, client_at, from, node_stepped, source_stepped, client_stepped, happens}
@@ -55,7 +55,7 @@ no-beat packet b none same = let clash : true ≡ false = sym (ap is_beat same) 
 
 beat-says : (n : PlainNode) (l : Option (Sess × ℕ)) → Says n (Plain (beat_of n l))
 beat-says n l b e =
-    let same = beats-same (record { inc = n.grants.inc; state = n.state; recovering = n.recovering; over = n.grants.over; link = l }) b e in
+    let same = beats-same (record { inc = n.grants.inc; state = n.state; recovering = n.recovering; over = n.grants.over; tally = l }) b e in
     (sym (ap (λ (z : Beat). z.state) same), sym (ap (λ (z : Beat). z.recovering) same))
   where
     beats-same : (c d : Beat) → Plain (message.Beat c) ≡ Plain (message.Beat d) → c ≡ d
@@ -91,12 +91,12 @@ module _ (home : Home) where
 
   ask-none : (i ask : ℕ) (r : Option ℕ) (n : PlainNode) → Each NoBeat (on_ask home i ask r n).sends
   ask-none i ask None n = tt
-  ask-none i ask (Some r) n = elim (grants n.grants n.state r (i, ask)) as (λ c. Each NoBeat (cond {A = Stepped PlainNode} c (record { after = record n { grants = with_promise n.grants r (i, ask) }; sends = mail (nth 0 (replicas_of home.plan home.frag) r) (message.Grant i ask) ∷ [] }) (silent_step n)).sends) [
+  ask-none i ask (Some r) n = elim (grants n.grants n.state r (i, ask)) as (λ c. Each NoBeat (cond {A = Stepped PlainNode} c (record { after = record n { grants = with_promise n.grants r (i, ask) }; sends = mail (nth 0 (replicas_of home.plan home.frag) r) (message.Grant i ask) ∷ [] }) (idle_step n)).sends) [
     | true ↦ (refl, tt)
     | false ↦ tt
   ]
 
-  unless-none : (c : Bool) (n : PlainNode) (t : Stepped PlainNode) → Each NoBeat t.sends → Each NoBeat (cond {A = Stepped PlainNode} c (silent_step n) t).sends
+  unless-none : (c : Bool) (n : PlainNode) (t : Stepped PlainNode) → Each NoBeat t.sends → Each NoBeat (cond {A = Stepped PlainNode} c (idle_step n) t).sends
   unless-none true n t h = tt
   unless-none false n t h = h
 
@@ -107,7 +107,7 @@ module _ (home : Home) where
   message-none a (message.Beat b) n = tt
   message-none a (message.Ack i count) n = tt
   message-none a (message.Ask i ask) n = ask-none i ask (replica_number home a) n
-  message-none a (message.Grant i ask) n = elim (is_up_failure n.state && may_enter_by n.grants (i, ask)) as (λ c. Each NoBeat (cond {A = Stepped PlainNode} c (enter_step home n) (silent_step n)).sends) [
+  message-none a (message.Grant i ask) n = elim (is_up_failure n.state && may_enter_by n.grants (i, ask)) as (λ c. Each NoBeat (cond {A = Stepped PlainNode} c (enter_step home n) (idle_step n)).sends) [
     | true ↦ enter-none n
     | false ↦ tt
   ]
@@ -129,10 +129,10 @@ module _ (home : Home) where
 
   asking-none : (n : PlainNode) → Each NoBeat (ask_step home n).sends
   asking-none n =
-      elim (wants_to_reconcile home n && is_none n.grants.promise) as (λ b. Each NoBeat (cond {A = Stepped PlainNode} b (cond (list_all is_silent (peer_watches home n)) (enter_step home n)
-      (record { after = record n { grants = with_ask n.grants }; sends = to_each (message.Ask (own_key n.grants).0 (own_key n.grants).1) (peers_of home) })) (silent_step n)).sends) [
+      elim (wants_to_reconcile home n && is_none n.grants.promise) as (λ b. Each NoBeat (cond {A = Stepped PlainNode} b (cond (list_all is_absent (peer_watches home n)) (enter_step home n)
+      (record { after = record n { grants = with_ask n.grants }; sends = to_each (message.Ask (own_key n.grants).0 (own_key n.grants).1) (peers_of home) })) (idle_step n)).sends) [
         | false ↦ tt
-        | true ↦ elim (list_all is_silent (peer_watches home n)) as (λ b. Each NoBeat (cond {A = Stepped PlainNode} b (enter_step home n)
+        | true ↦ elim (list_all is_absent (peer_watches home n)) as (λ b. Each NoBeat (cond {A = Stepped PlainNode} b (enter_step home n)
             (record { after = record n { grants = with_ask n.grants }; sends = to_each (message.Ask (own_key n.grants).0 (own_key n.grants).1) (peers_of home) })).sends) [
               | true ↦ enter-none n
               | false ↦ each-to NoBeat (message.Ask (own_key n.grants).0 (own_key n.grants).1) (peers_of home) (λ to. refl)
@@ -148,9 +148,9 @@ module _ (home : Home) where
 
   processing-none : (n : PlainNode) → Each NoBeat (processing_step home n).sends
   processing-none n =
-      elim (is_stabilization n.state) as (λ b. Each NoBeat (cond {A = Stepped PlainNode} b (silent_step n) (elim (due_at home n n.clock) as (λ _. Stepped PlainNode) [ None ↦ silent_step n | Some last ↦ processing_upto home last n ])).sends) [
+      elim (is_stabilization n.state) as (λ b. Each NoBeat (cond {A = Stepped PlainNode} b (idle_step n) (elim (due_at home n n.clock) as (λ _. Stepped PlainNode) [ None ↦ idle_step n | Some last ↦ processing_upto home last n ])).sends) [
         | true ↦ tt
-        | false ↦ elim (due_at home n n.clock) as (λ o. Each NoBeat (elim o as (λ _. Stepped PlainNode) [ None ↦ silent_step n | Some last ↦ processing_upto home last n ]).sends) [
+        | false ↦ elim (due_at home n n.clock) as (λ o. Each NoBeat (elim o as (λ _. Stepped PlainNode) [ None ↦ idle_step n | Some last ↦ processing_upto home last n ]).sends) [
           | None ↦ tt
           | Some last ↦ upto-none last n
         ]

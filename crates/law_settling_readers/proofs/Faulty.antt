@@ -3,11 +3,11 @@ use Rattle.std.proofs.Common.{◌≡◌, ℕ, zero, suc, ◌+◌, ◌<◌, ◌�
 use Rattle.std.proofs.lemmas.List.{length-map}
 use Rattle.dpc_lists.specs.Lists.{nth}
 use Rattle.dpc_model.specs.Reading.{is_sure}
-use Rattle.dpc_model.specs.Inlets.{InletState, is_newer, with_next_session, take_batch, after_link}
+use Rattle.dpc_model.specs.Inlets.{InletState, is_newer, with_next_session, take_batch, after_tally}
 use Rattle.dpc_model.specs.Actors.{role_of, inputs_of}
 use Rattle.dpc_model.specs.Ports.{Port, sender_at, choice_at, must_reopen, port_after_choice, without_ended_marks}
 use Rattle.dpc_model.specs.Replicas.{Watch, after_count, after_tick}
-use Rattle.dpc_model.specs.Sessions.{is_newer_than_kept, no_session, link_of}
+use Rattle.dpc_model.specs.Sessions.{is_newer_than_kept, no_session, tally_of}
 use Rattle.dpc_model.specs.declared.actors.Role.TheVariants.{Node as IsNode}
 use Rattle.dpc_model.specs.declared.sessions.Sub.{Sub}
 use Rattle.dpc_model.specs.declared.messages.Beat.{Beat}
@@ -27,11 +27,11 @@ use Rattle.law_granting.specs.Taken.{port_of}
 use Rattle.law_settling.specs.Phased.{is_delivery}
 use Rattle.law_settling.proofs.Faults.{IsBroken, IsAnswered, IsSlow, IsTold}
 use Rattle.law_settling.proofs.Fresh.{HasWhole, new-waits, still-sent}
-use Rattle.law_settling.proofs.Full.{link-parts}
+use Rattle.law_settling.proofs.Full.{tally-parts}
 use Rattle.law_settling.proofs.PortExact.{port_after}
 use Rattle.law_settling.proofs.PortGoing.{HasTicked, PortGoes}
 use Rattle.law_settling.proofs.PortNow.{took-now, tick-now}
-use Rattle.law_settling.proofs.Readings.{after-broken, after-answered, link-says, none-says, newer-then}
+use Rattle.law_settling.proofs.Readings.{after-broken, after-answered, tally-says, none-says, newer-then}
 use Rattle.law_settling.proofs.Rules.{MayGo}
 use Rattle.law_settling.proofs.Standing.{same-fields}
 use Rattle.law_settling.proofs.Ticking.{before_choice}
@@ -78,7 +78,7 @@ pub record IsHearing (script : Script) (x p f k n c : ℕ) (b : Beat) (z : Progr
   pub low : c < replicas_in script.plan f
   pub sent : slice_get z.world.envelopes n ≡ Some (record { sender = replica_at script.plan f c; to = x; packet = Plain (message.Beat b) })
   pub waits : waits n z.waiting ≡ true
-  pub told : (r : ℕ) (m : PlainNode) → role_of script.plan (replica_at script.plan f c) ≡ IsNode f r → (slot_of z.world (replica_at script.plan f c)).node ≡ Some m → IsTold b.link (nth no_session m.subs k)
+  pub told : (r : ℕ) (m : PlainNode) → role_of script.plan (replica_at script.plan f c) ≡ IsNode f r → (slot_of z.world (replica_at script.plan f c)).node ≡ Some m → IsTold b.tally (nth no_session m.subs k)
 
 abbrev pub Hearing : Script → ℕ → ℕ → ℕ → ℕ → Progress → Type 0
 Hearing script x p f k z = (n : ℕ) × (c : ℕ) × (b : Beat) × IsHearing script x p f k n c b z
@@ -94,8 +94,8 @@ onward-after i (Plain (message.Batch u index items)) y =
     ]
 onward-after i (Plain (message.Beat b)) y =
     record {
-      broken = λ h. elim (i == y.chosen) as (λ c. (cond c (after_link y.inlet b.link) y.inlet).broken ≡ true) [ true ↦ after-broken (Plain (message.Beat b)) y.inlet h | false ↦ h ];
-      answered = λ h. elim (i == y.chosen) as (λ c. (cond c (after_link y.inlet b.link) y.inlet).answered ≡ true) [ true ↦ h | false ↦ h ];
+      broken = λ h. elim (i == y.chosen) as (λ c. (cond c (after_tally y.inlet b.tally) y.inlet).broken ≡ true) [ true ↦ after-broken (Plain (message.Beat b)) y.inlet h | false ↦ h ];
+      answered = λ h. elim (i == y.chosen) as (λ c. (cond c (after_tally y.inlet b.tally) y.inlet).answered ≡ true) [ true ↦ h | false ↦ h ];
       chosen = refl;
       ticks = refl;
     }
@@ -137,11 +137,11 @@ free-few (Some b ∷ ms) = let rest = free-few ms in omega (arith, rest)
 
 -- a session that is newer than what is kept is newer than what was told
 newer-told : (l : Sess × ℕ) (sub : Sub) (u : Sess) → IsTold (Some l) sub → is_newer_than_kept u sub.kept ≡ true → is_newer u l.0 ≡ true
-newer-told l sub u (inl still) newer = let kept = (link-parts sub l.0 l.1 still).0 in sym (ap (λ (o : Option Sess). is_newer_than_kept u o) kept) ∙ newer
+newer-told l sub u (inl still) newer = let kept = (tally-parts sub l.0 l.1 still).0 in sym (ap (λ (o : Option Sess). is_newer_than_kept u o) kept) ∙ newer
 newer-told l sub u (inr past) newer = newer-then u past.0 l.0 (sym (ap (λ (o : Option Sess). is_newer_than_kept u o) past.1) ∙ newer) past.2
 
 -- what was told of a session still holds, or a newer one is kept
-told-next : (w : World) (home : _) (x a k : ℕ) (n m : PlainNode) (next : World) (link : Option (Sess × ℕ)) → ReplicaGoes w home x a k n m next → IsTold link (nth no_session n.subs k) → IsTold link (nth no_session m.subs k)
+told-next : (w : World) (home : _) (x a k : ℕ) (n m : PlainNode) (next : World) (tally : Option (Sess × ℕ)) → ReplicaGoes w home x a k n m next → IsTold tally (nth no_session n.subs k) → IsTold tally (nth no_session m.subs k)
 told-next w home x a k n m next None goes told = tt
 told-next w home x a k n m next (Some l) (ReplicaGoes.KeepsSub same none) told = subst (λ (y : Sub). IsTold (Some l) y) (sym same) told
 told-next w home x a k n m next (Some l) (ReplicaGoes.Opens j g v asked opened sends) told = inr (v.sess, ap (λ (y : Sub). y.kept) opened, newer-told l (nth no_session n.subs k) v.sess told asked.newer)
@@ -274,13 +274,13 @@ module _ (script : Script) (x p f k : ℕ) where
         | inl answered ↦ inl (record { answered = answered; low = h.low; sent = still-sent z.world e n _ h.sent; waits = waits-on script z e n may.quiet other h.waits; told = told })
       ]
     where
-      told : (r : ℕ) (m : PlainNode) → role_of script.plan (replica_at script.plan f c) ≡ IsNode f r → (slot_of (happens z.world e) (replica_at script.plan f c)).node ≡ Some m → IsTold b.link (nth no_session m.subs k)
+      told : (r : ℕ) (m : PlainNode) → role_of script.plan (replica_at script.plan f c) ≡ IsNode f r → (slot_of (happens z.world e) (replica_at script.plan f c)).node ≡ Some m → IsTold b.tally (nth no_session m.subs k)
       told r m role up =
           let old = asked-node script x p f k z may.here c h.low in
           let goes = replica-event script x p f k z e may (replica_at script.plan f c) old.0 old.1 old.2 old.3 in
           let role_there : role_of script.plan (replica_at script.plan f c) ≡ IsNode f old.0 = ap (λ (pl : Plan). role_of pl (replica_at script.plan f c)) (sym may.here.stand.of_plan) ∙ old.2 in
-          subst (λ (y : PlainNode). IsTold b.link (nth no_session y.subs k)) (some-node goes.0 m (sym goes.1 ∙ up))
-          (told-next z.world (home_of z.world.plan (f, old.0)) x (replica_at script.plan f c) k old.1 goes.0 (happens z.world e) b.link goes.2 (h.told old.0 old.1 role_there old.3))
+          subst (λ (y : PlainNode). IsTold b.tally (nth no_session y.subs k)) (some-node goes.0 m (sym goes.1 ∙ up))
+          (told-next z.world (home_of z.world.plan (f, old.0)) x (replica_at script.plan f c) k old.1 goes.0 (happens z.world e) b.tally goes.2 (h.told old.0 old.1 role_there old.3))
 
   -- a beat that comes shows the fault, or there is none
   pub heard-now : (n c : ℕ) (b : Beat) (z : Progress) → Goes z (Deliver n) → IsHearing script x p f k n c b z → IsBroken x p (next_progress script z (Deliver n)) ⊎ HasWhole script x p (next_progress script z (Deliver n))
@@ -292,17 +292,17 @@ module _ (script : Script) (x p f k : ℕ) where
       let place : sender_at z.world.plan (inputs_of z.world.plan (role_of z.world.plan x)) g.sender ≡ Some (p, c) =
       ap (λ (pl : Plan). sender_at z.world.plan (inputs_of z.world.plan (role_of z.world.plan x)) (replica_at pl f c)) (sym st.of_plan) ∙ st.line.sender c low_w in
       let r = took-now z.world st.most x p (Frag f) st.fine st.many st.line.port st.calm n c g h.sent (can-here script x p f k z n g may.here h.sent) refl place may.next.stand.calm q h.answered.there in
-      let inlet : r.0.inlet ≡ after_link q.inlet b.link = ap (λ (y : Port). y.inlet) r.2.0 ∙ ap (λ (d : Bool). cond d (after_link q.inlet b.link) q.inlet) (eq-test c q.chosen (sym h.answered.chosen)) in
-      by-link b.link r.0 r.1 inlet refl
+      let inlet : r.0.inlet ≡ after_tally q.inlet b.tally = ap (λ (y : Port). y.inlet) r.2.0 ∙ ap (λ (d : Bool). cond d (after_tally q.inlet b.tally) q.inlet) (eq-test c q.chosen (sym h.answered.chosen)) in
+      by-tally b.tally r.0 r.1 inlet refl
     where
-      by-link : (l : Option (Sess × ℕ)) (r : Port) → port_of (happens z.world (Deliver n)) x p ≡ Some r → r.inlet ≡ after_link h.answered.port.inlet b.link → b.link ≡ l → IsBroken x p (next_progress script z (Deliver n)) ⊎ HasWhole script x p (next_progress script z (Deliver n))
-      by-link None r now inlet is =
-          inl (record { port = r; there = now; broken = ap (λ (i : InletState). i.broken) inlet ∙ ap (λ (o : Option (Sess × ℕ)). (after_link h.answered.port.inlet o).broken) is ∙ none-says h.answered.port.inlet h.answered.answered })
-      by-link (Some l) r now inlet is =
+      by-tally : (l : Option (Sess × ℕ)) (r : Port) → port_of (happens z.world (Deliver n)) x p ≡ Some r → r.inlet ≡ after_tally h.answered.port.inlet b.tally → b.tally ≡ l → IsBroken x p (next_progress script z (Deliver n)) ⊎ HasWhole script x p (next_progress script z (Deliver n))
+      by-tally None r now inlet is =
+          inl (record { port = r; there = now; broken = ap (λ (i : InletState). i.broken) inlet ∙ ap (λ (o : Option (Sess × ℕ)). (after_tally h.answered.port.inlet o).broken) is ∙ none-says h.answered.port.inlet h.answered.answered })
+      by-tally (Some l) r now inlet is =
           let st = may.here.stand in
           let q = h.answered.port in
-          let linked : r.inlet ≡ after_link q.inlet (Some l) = inlet ∙ ap (λ (o : Option (Sess × ℕ)). after_link q.inlet o) is in
-          elim (link-says q.inlet l.0 l.1 h.answered.answered) [
+          let linked : r.inlet ≡ after_tally q.inlet (Some l) = inlet ∙ ap (λ (o : Option (Sess × ℕ)). after_tally q.inlet o) is in
+          elim (tally-says q.inlet l.0 l.1 h.answered.answered) [
             | inl broken ↦ inl (record { port = r; there = now; broken = ap (λ (i : InletState). i.broken) linked ∙ broken })
             | inr says ↦
                 let sess : l.0 ≡ q.inlet.sess = same-fields l.0 q.inlet.sess says.1 in
@@ -313,7 +313,7 @@ module _ (script : Script) (x p f k : ℕ) where
                 let low_w : c < replicas_in z.world.plan f = subst (λ (pl : Plan). c < replicas_in pl f) (sym st.of_plan) h.low in
                 elim (subst (λ (o : Option (Sess × ℕ)). IsTold o (nth no_session node.1.subs k)) is (h.told node.0 node.1 role_there node.3)) [
                   | inl still ↦
-                      let link_is : link_of (nth no_session node.1.subs k) ≡ Some (q.inlet.sess, l.1) = still ∙ ap {B = Option (Sess × ℕ)} (λ (y : Sess). Some (y, l.1)) sess in
+                      let link_is : tally_of (nth no_session node.1.subs k) ≡ Some (q.inlet.sess, l.1) = still ∙ ap {B = Option (Sess × ℕ)} (λ (y : Sess). Some (y, l.1)) sess in
                       let all = st.took q node.0 l.1 node.1 h.answered.there says.0 (subst (λ (a : ℕ). role_of z.world.plan a ≡ IsNode f node.0) at_chosen node.2) (subst (λ (a : ℕ). (slot_of z.world a).node ≡ Some node.1) at_chosen node.3) link_is says.2 in
                       inr (record { port = r; there = now; bound = ap (λ (i : InletState). i.held.bound) linked ∙ all.0 ∙ ap (λ (pl : Plan). pl.end) st.of_plan; sure = ap (λ (i : InletState). is_sure i.held) linked ∙ all.1 })
                   | inr past ↦
@@ -335,18 +335,18 @@ module _ (script : Script) (x p f k : ℕ) where
         | inl answered ↦ inl (
           t.3.0,
           c,
-          record { inc = t.0.grants.inc; state = t.0.state; recovering = t.0.recovering; over = t.0.grants.over; link = link_of (nth no_session node.1.subs k) },
+          record { inc = t.0.grants.inc; state = t.0.state; recovering = t.0.recovering; over = t.0.grants.over; tally = tally_of (nth no_session node.1.subs k) },
           record {
             answered = answered;
             low = low;
             sent = t.3.1;
             waits = new-waits script z (Tick a now) t.3.0 _ t.3.2 t.3.1;
-            told = λ r m role up. told-of (link_of (nth no_session node.1.subs k)) (nth no_session m.subs k)
-                (ap (λ (y : PlainNode). link_of (nth no_session y.subs k)) (sym (some-node t.0 m (sym t.1 ∙ up))) ∙ ap (λ (y : Sub). link_of y) t.2);
+            told = λ r m role up. told-of (tally_of (nth no_session node.1.subs k)) (nth no_session m.subs k)
+                (ap (λ (y : PlainNode). tally_of (nth no_session y.subs k)) (sym (some-node t.0 m (sym t.1 ∙ up))) ∙ ap (λ (y : Sub). tally_of y) t.2);
           },
         )
       ]
     where
-      told-of : (l : Option (Sess × ℕ)) (sub : Sub) → link_of sub ≡ l → IsTold l sub
+      told-of : (l : Option (Sess × ℕ)) (sub : Sub) → tally_of sub ≡ l → IsTold l sub
       told-of None sub e = tt
       told-of (Some l) sub e = inl e

@@ -2,7 +2,7 @@
 use Rattle.std.proofs.Common.{◌≡◌, ℕ, ◌<◌, ◌≤◌, true, false, cond, ◌==◌, List, map, length, refl, sym, ap, subst, ◌∙◌, arith, Option, Some, slice_get, inl, inr}
 use Rattle.dpc_lists.specs.Lists.{changed, place_of}
 use Rattle.dpc_model.specs.Reading.{Reader, is_sure}
-use Rattle.dpc_model.specs.Inlets.{InletState, same_sess, take_batch, after_link}
+use Rattle.dpc_model.specs.Inlets.{InletState, same_sess, take_batch, after_tally}
 use Rattle.dpc_model.specs.Actors.{role_of, inputs_of, senders_of}
 use Rattle.dpc_model.specs.Ports.{Port, sender_at, without_ended_marks, on_beat, on_truncated, all_truncated}
 use Rattle.dpc_model.specs.Replicas.{unmarked_at, with_mark}
@@ -24,7 +24,7 @@ use Rattle.law_safety.proofs.Pointwise.{sender-of}
 use Rattle.law_granting.specs.Taken.{port_of}
 use Rattle.law_settling.proofs.Fresh.{HasWhole, ticks-grow, still-sent}
 use Rattle.law_settling.proofs.Lines.{place-low}
-use Rattle.law_settling.proofs.Readings.{other-batch, first-batch, asked-link}
+use Rattle.law_settling.proofs.Readings.{other-batch, first-batch, asked-tally}
 use Rattle.law_settling.proofs.Rules.{MayGo}
 use Rattle.law_settling.proofs.Standing.{asked_inlet}
 use Rattle.law_settling_readers.proofs.Marks.{Mark, marks_of, free_in, counted-marks, beaten-marks, marked-marks, ended-marked, not-all-free}
@@ -139,8 +139,8 @@ module _ (script : Script) (x p f k : ℕ) where
 
       by-beat : (r : Port) → port_of (happens z.world e) x p ≡ Some r → (i : ℕ) (b : Beat) → r ≡ on_beat i b (without_ended_marks fresh.port) → FreshGoes script x p f t u h c ms z e fresh.port
       by-beat r now i b is =
-          let link : after_link fresh.port.inlet b.link ≡ fresh.port.inlet = ap (λ (s : InletState). after_link s b.link) fresh.inlet ∙ asked-link h u b.link ∙ sym fresh.inlet in
-          let inlet : cond (i == fresh.port.chosen) (after_link fresh.port.inlet b.link) fresh.port.inlet ≡ fresh.port.inlet = elim (i == fresh.port.chosen) as (λ d. cond d (after_link fresh.port.inlet b.link) fresh.port.inlet ≡ fresh.port.inlet) [ true ↦ link | false ↦ refl ] in
+          let tally : after_tally fresh.port.inlet b.tally ≡ fresh.port.inlet = ap (λ (s : InletState). after_tally s b.tally) fresh.inlet ∙ asked-tally h u b.tally ∙ sym fresh.inlet in
+          let inlet : cond (i == fresh.port.chosen) (after_tally fresh.port.inlet b.tally) fresh.port.inlet ≡ fresh.port.inlet = elim (i == fresh.port.chosen) as (λ d. cond d (after_tally fresh.port.inlet b.tally) fresh.port.inlet ≡ fresh.port.inlet) [ true ↦ tally | false ↦ refl ] in
           Waits (waits r now (ap (λ (v : Port). v.inlet) is ∙ inlet) (ap (λ (v : Port). v.chosen) is) (ap (λ (v : Port). v.ticks) is) ms
           (ap (λ (v : Port). marks_of v.watches) is ∙ beaten-marks i b.inc b.state b.recovering (without_ended_marks fresh.port).watches ∙ y-marks) fresh.ended)
 

@@ -7,7 +7,7 @@ use Rattle.dpc_lists.specs.Lists.{nth, has}
 use Rattle.dpc_model.specs.Actors.{role_of}
 use Rattle.dpc_model.specs.Ports.{Port}
 use Rattle.dpc_model.specs.Replicas.{Watch}
-use Rattle.dpc_model.specs.Sessions.{link_of, no_session}
+use Rattle.dpc_model.specs.Sessions.{tally_of, no_session}
 use Rattle.dpc_model.specs.declared.actors.Role.{Role}
 use Rattle.dpc_model.specs.declared.actors.Role.TheVariants.{Node as IsNode}
 use Rattle.dpc_model.specs.declared.messages.Event.{Event}
@@ -52,7 +52,7 @@ module _ (script : Script) (x p f k : ℕ) where
       let new = told.3.2 in
       inr (
         n,
-        record { inc = m.grants.inc; state = m.state; recovering = m.recovering; over = m.grants.over; link = link_of (nth no_session it.node.subs k) },
+        record { inc = m.grants.inc; state = m.state; recovering = m.recovering; over = m.grants.over; tally = tally_of (nth no_session it.node.subs k) },
         record {
           sent = told.3.1;
           late = omega (arith, few, new);

@@ -86,7 +86,7 @@ takers-law script events can live done rest is x p f r q n port took finished =
     let many = (shape-of (home_of w.plan (f, r)) (1 + length done) n (node-here w (1 + length done) a f r n g.fine (ap (λ (z : Plan). role_of z a) g.of_plan ∙ took.role) took.up).orderly.shape).subs in
     let many_plan : length n.subs ≡ length (own_readers (home_of plan (f, r))) = many ∙ ap (λ (z : Plan). length (own_readers (home_of z (f, r)))) g.of_plan in
     let low = took.low in
-    let whole = took-whole plan done x p f r a took.place answered.0 can.plan port q took.port took.whole refl took.role n took.up took.reader took.low answered.1 took.many took.link (omega (arith, low, many_plan)) took.all finished in
+    let whole = took-whole plan done x p f r a took.place answered.0 can.plan port q took.port took.whole refl took.role n took.up took.reader took.low answered.1 took.many took.tally (omega (arith, low, many_plan)) took.all finished in
     stream-whole plan done x p f q can.plan port took.port whole.0 whole.1
 
 -- ---- the readers of a fragment all of whose replicas have finished

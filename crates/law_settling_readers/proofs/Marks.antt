@@ -2,12 +2,12 @@
 use Rattle.std.proofs.Common.{◌≡◌, ℕ, zero, suc, ◌+◌, ◌<◌, ◌≤◌, Bool, true, false, cond, ◌&&◌, ◌||◌, ◌==◌, nat_le, nat_lt, List, [], ◌∷◌, map, length, refl, sym, ap, subst, ◌∙◌, arith, Option, Some, None, slice_get, unwrap_or, ◌⊎◌, inl, inr}
 use Rattle.std.specs.Prelude.{is_none, is_some}
 use Rattle.dpc_lists.specs.Lists.{nth, changed, least, list_all, place_of}
-use Rattle.dpc_model.specs.Replicas.{Watch, after_beat, after_tick, after_count, with_mark, unmarked_at, is_silent, rank_of, rank_by, rank_order, choose}
+use Rattle.dpc_model.specs.Replicas.{Watch, after_beat, after_tick, after_count, with_mark, unmarked_at, is_absent, rank_of, rank_by, rank_order, choose}
 use Rattle.dpc_model.specs.Ports.{Port, choice_at, all_truncated}
 use Rattle.dpc_model.specs.declared.messages.NodeState.{NodeState}
 use Rattle.dpc_model.specs.declared.messages.NodeState.TheVariants as state
 use Rattle.dpc_model.specs.declared.messages.Rank.{Rank}
-use Rattle.dpc_model.specs.declared.messages.Rank.TheVariants.{Stable, Silent}
+use Rattle.dpc_model.specs.declared.messages.Rank.TheVariants.{Stable, Absent}
 use Rattle.law_safety.proofs.Tests.{eq-test, le-of}
 use Rattle.law_settling_readers.proofs.Counts.{one_if, count}
 
@@ -110,8 +110,8 @@ order_of (Some b) = 3
 
 calm-order : (w : Watch) → IsCalm w → rank_order (rank_of w) ≡ order_of w.truncated
 calm-order w h =
-    let silent : is_silent w ≡ is_some w.truncated = ap (λ (b : Bool). b || is_some w.truncated) (late w.ticks h.ticks) in
-    let ranked : rank_of w ≡ cond (is_some w.truncated) Silent Stable = ap (λ (b : Bool). cond {A = Rank} b Silent (rank_by w.said)) silent ∙ ap (λ (s : Option (NodeState × Bool)). cond {A = Rank} (is_some w.truncated) Silent (rank_by s)) h.said in
+    let silent : is_absent w ≡ is_some w.truncated = ap (λ (b : Bool). b || is_some w.truncated) (late w.ticks h.ticks) in
+    let ranked : rank_of w ≡ cond (is_some w.truncated) Absent Stable = ap (λ (b : Bool). cond {A = Rank} b Absent (rank_by w.said)) silent ∙ ap (λ (s : Option (NodeState × Bool)). cond {A = Rank} (is_some w.truncated) Absent (rank_by s)) h.said in
     ap rank_order ranked ∙ by-mark w.truncated
   where
     late : (n : ℕ) → n ≤ 2 → nat_le 3 n ≡ false
@@ -121,7 +121,7 @@ calm-order w h =
         by-test false e = e
         by-test true e = let three = le-of 3 n e in absurd (omega (arith, low, three))
 
-    by-mark : (m : Mark) → rank_order (cond (is_some m) Silent Stable) ≡ order_of m
+    by-mark : (m : Mark) → rank_order (cond (is_some m) Absent Stable) ≡ order_of m
     by-mark None = refl
     by-mark (Some b) = refl
 

@@ -5,7 +5,7 @@ use Rattle.dpc_model.specs.Reading.{is_sure}
 use Rattle.dpc_model.specs.Inlets.{is_newer}
 use Rattle.dpc_model.specs.Actors.{role_of, inputs_of, sends_stream, senders_of, readers_of}
 use Rattle.dpc_model.specs.Ports.{Port, sender_at}
-use Rattle.dpc_model.specs.Sessions.{link_of, no_session}
+use Rattle.dpc_model.specs.Sessions.{tally_of, no_session}
 use Rattle.dpc_model.specs.declared.actors.Role.{Role}
 use Rattle.dpc_model.specs.declared.actors.Role.TheVariants.{Node as IsNode, Client as IsClient}
 use Rattle.dpc_model.specs.declared.sessions.Sub.{Sub}
@@ -91,7 +91,7 @@ pub record Stand (plan : Plan) (x p f k : ℕ) (w : World) : Type 0 where
   pub once : (u : Sess) (i j : ℕ) (g h : Envelope) → slice_get w.envelopes i ≡ Some g → slice_get w.envelopes j ≡ Some h → asks_of (sends_it w.plan f) x u g ≡ true → asks_of (sends_it w.plan f) x u h ≡ true → i ≡ j
   -- who took all of a replica has the whole
   pub took : (q : Port) (r m : ℕ) (n : PlainNode) → port_of w x p ≡ Some q → q.inlet.broken ≡ false → role_of w.plan (replica_at w.plan f q.chosen) ≡ IsNode f r → (slot_of w (replica_at w.plan f q.chosen)).node ≡ Some n →
-      link_of (nth no_session n.subs k) ≡ Some (q.inlet.sess, m) → m ≤ q.inlet.next → (q.inlet.held.bound ≡ w.plan.end) × (is_sure q.inlet.held ≡ true)
+      tally_of (nth no_session n.subs k) ≡ Some (q.inlet.sess, m) → m ≤ q.inlet.next → (q.inlet.held.bound ≡ w.plan.end) × (is_sure q.inlet.held ≡ true)
   pub holds : (q : Port) → port_of w x p ≡ Some q → HoldsOf w.plan (Frag f) q.inlet.held
   -- the port knows of each replica
   pub watched : (q : Port) → port_of w x p ≡ Some q → (q.chosen < length q.watches) × (length q.watches ≡ replicas_in w.plan f)
@@ -112,8 +112,8 @@ pub record IsSeen (script : Script) (x p f k : ℕ) (z : Progress) : Type 0 wher
 run-took : (script : Script) (events done rest : List Event) (x p f k : ℕ) → IsCheckedPlan script.plan → is_live_so_far script events ≡ true → events ≡ done ++ rest → IsReader script.plan x p f k →
     ((a r : ℕ) (n : PlainNode) → role_of script.plan a ≡ IsNode f r → (slot_of (run script.plan done) a).node ≡ Some n → IsFinished (home_of script.plan (f, r)) n) →
     (q : Port) (r m : ℕ) (n : PlainNode) → port_of (run script.plan done) x p ≡ Some q → q.inlet.broken ≡ false → role_of script.plan (replica_at script.plan f q.chosen) ≡ IsNode f r → (slot_of (run script.plan done) (replica_at script.plan f q.chosen)).node ≡ Some n →
-    link_of (nth no_session n.subs k) ≡ Some (q.inlet.sess, m) → m ≤ q.inlet.next → (q.inlet.held.bound ≡ script.plan.end) × (is_sure q.inlet.held ≡ true)
-run-took script events done rest x p f k checked live is line finished q r m n there whole role up link all =
+    tally_of (nth no_session n.subs k) ≡ Some (q.inlet.sess, m) → m ≤ q.inlet.next → (q.inlet.held.bound ≡ script.plan.end) × (is_sure q.inlet.held ≡ true)
+run-took script events done rest x p f k checked live is line finished q r m n there whole role up tally all =
     let plan = script.plan in
     let w = run plan done in
     let a = replica_at plan f q.chosen in
@@ -124,7 +124,7 @@ run-took script events done rest x p f k checked live is line finished q r m n t
     let many = (shape-of (home_of w.plan (f, r)) (1 + length done) n (node-here w (1 + length done) a f r n g.fine role_w up).orderly.shape).subs in
     let many_plan : length n.subs ≡ length (own_readers (home_of plan (f, r))) = many ∙ ap (λ (z : Plan). length (own_readers (home_of z (f, r)))) g.of_plan in
     let low = line.low in
-    took-whole plan done x p f r a k answered.0 checked line.port q there whole refl role n up line.back low answered.1 m link (omega (arith, low, many_plan)) all (finished a r n role up)
+    took-whole plan done x p f r a k answered.0 checked line.port q there whole refl role n up line.back low answered.1 m tally (omega (arith, low, many_plan)) all (finished a r n role up)
 
 pub stand-of : (script : Script) (events done rest : List Event) (x p f k : ℕ) → IsCheckedPlan script.plan → is_live_so_far script events ≡ true → events ≡ done ++ rest → IsReader script.plan x p f k → IsAllUp (run script.plan done) → NoneRecovers (run script.plan done).nodes →
     ((a r : ℕ) (n : PlainNode) → role_of script.plan a ≡ IsNode f r → (slot_of (run script.plan done) a).node ≡ Some n → IsFinished (home_of script.plan (f, r)) n) → Stand script.plan x p f k (run script.plan done)
@@ -146,7 +146,7 @@ stand-of script events done rest x p f k checked live is line up calm finished =
       once = λ u i j d e at_i at_j one two.
           only-one plan x p (sends_it plan f) (Frag f) u checked line.port (λ b h. h) done i j d e at_i at_j (subst (λ (z : Plan). asks_of (sends_it z f) x u d ≡ true) g.of_plan one) (subst (λ (z : Plan). asks_of (sends_it z f) x u e ≡ true) g.of_plan two);
       took = subst (λ (z : Plan). (q : Port) (r m : ℕ) (n : PlainNode) → port_of w x p ≡ Some q → q.inlet.broken ≡ false → role_of z (replica_at z f q.chosen) ≡ IsNode f r → (slot_of w (replica_at z f q.chosen)).node ≡ Some n →
-          link_of (nth no_session n.subs k) ≡ Some (q.inlet.sess, m) → m ≤ q.inlet.next → (q.inlet.held.bound ≡ z.end) × (is_sure q.inlet.held ≡ true)) same (run-took script events done rest x p f k checked live is line finished);
+          tally_of (nth no_session n.subs k) ≡ Some (q.inlet.sess, m) → m ≤ q.inlet.next → (q.inlet.held.bound ≡ z.end) × (is_sure q.inlet.held ≡ true)) same (run-took script events done rest x p f k checked live is line finished);
       holds = subst (λ (z : Plan). (q : Port) → port_of w x p ≡ Some q → HoldsOf z (Frag f) q.inlet.held) same (λ q there. run-holds plan done x p (Frag f) q checked line.port there);
       watched = λ q there. port-watched w (1 + length done) x p (Frag f) g.fine (run-clients plan done ∙ ap (λ (z : Plan). length z.clients) same) (subst (λ (z : Plan). IsPortOf z x p (Frag f)) same line.port) q there;
     }

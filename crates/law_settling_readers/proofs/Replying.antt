@@ -18,7 +18,7 @@ use Rattle.dpc_model.specs.declared.messages.Message.{Message}
 use Rattle.dpc_model.specs.declared.messages.Message.TheVariants as message
 use Rattle.node_model.specs.Mails.{Packet, Plain, SnapFor, Mail, mail, Stepped}
 use Rattle.node_model.specs.Nodes.{Home, PlainNode, streams_of, own_readers, shown}
-use Rattle.node_model.specs.NodeSteps.{silent_step, with_port, after_loss, after_taking, with_stamps_of, on_batch, on_subscribe, on_truncation, on_upstream_beat, on_peer_beat, on_ack, on_ask, on_grant, on_message, on_snap, with_marks_ended, packet_step, replica_number, reader_place, enter_step, on_snap_ask}
+use Rattle.node_model.specs.NodeSteps.{idle_step, with_port, after_loss, after_taking, with_stamps_of, on_batch, on_subscribe, on_truncation, on_upstream_beat, on_peer_beat, on_ack, on_ask, on_grant, on_message, on_snap, with_marks_ended, packet_step, replica_number, reader_place, enter_step, on_snap_ask}
 use Rattle.law_safety.proofs.Delivered.{place-nth}
 use Rattle.law_granting.proofs.Each.{Each}
 use Rattle.law_settling.proofs.Exact.{same-or}
@@ -176,18 +176,18 @@ module _ (home : Home) (b k : ℕ) (place : place_of (λ a. b == a) (own_readers
 
   ask-did : (i ask : ℕ) (r : Option ℕ) (n : PlainNode) → ((on_ask home i ask r n).after.subs ≡ n.subs) × Each (NoReply b) (on_ask home i ask r n).sends
   ask-did i ask None n = (refl, tt)
-  ask-did i ask (Some r) n = elim (grants n.grants n.state r (i, ask)) as (λ c. ((cond {A = Stepped PlainNode} c (record { after = record n { grants = with_promise n.grants r (i, ask) }; sends = mail (nth 0 (replicas_of home.plan home.frag) r) (message.Grant i ask) ∷ [] }) (silent_step n)).after.subs ≡ n.subs)
-      × Each (NoReply b) (cond {A = Stepped PlainNode} c (record { after = record n { grants = with_promise n.grants r (i, ask) }; sends = mail (nth 0 (replicas_of home.plan home.frag) r) (message.Grant i ask) ∷ [] }) (silent_step n)).sends) [
+  ask-did i ask (Some r) n = elim (grants n.grants n.state r (i, ask)) as (λ c. ((cond {A = Stepped PlainNode} c (record { after = record n { grants = with_promise n.grants r (i, ask) }; sends = mail (nth 0 (replicas_of home.plan home.frag) r) (message.Grant i ask) ∷ [] }) (idle_step n)).after.subs ≡ n.subs)
+      × Each (NoReply b) (cond {A = Stepped PlainNode} c (record { after = record n { grants = with_promise n.grants r (i, ask) }; sends = mail (nth 0 (replicas_of home.plan home.frag) r) (message.Grant i ask) ∷ [] }) (idle_step n)).sends) [
         | true ↦ (refl, (λ to. refl, tt))
         | false ↦ (refl, tt)
       ]
 
-  grant-none : (i ask : ℕ) (n : PlainNode) → is_up_failure n.state ≡ false → on_grant home i ask n ≡ silent_step n
-  grant-none i ask n fine = ap (λ (c : Bool). cond {A = Stepped PlainNode} (c && may_enter_by n.grants (i, ask)) (enter_step home n) (silent_step n)) fine
+  grant-none : (i ask : ℕ) (n : PlainNode) → is_up_failure n.state ≡ false → on_grant home i ask n ≡ idle_step n
+  grant-none i ask n fine = ap (λ (c : Bool). cond {A = Stepped PlainNode} (c && may_enter_by n.grants (i, ask)) (enter_step home n) (idle_step n)) fine
 
   message-did : (z : ℕ) (m : Message) (n : PlainNode) → n.recovering ≡ false → is_up_failure n.state ≡ false → k < length n.subs → (on_message home z m n).after.recovering ≡ false → Did z (Plain m) n (on_message home z m n)
   message-did z (message.Subscribe v) n whole fine few calm =
-      subst (λ (c : Bool). Did z (Plain (message.Subscribe v)) n (cond c (silent_step n) (on_subscribe home v (reader_place home z) n))) (sym whole) (by-place (reader_place home z) refl)
+      subst (λ (c : Bool). Did z (Plain (message.Subscribe v)) n (cond c (idle_step n) (on_subscribe home v (reader_place home z) n))) (sym whole) (by-place (reader_place home z) refl)
     where
       by-place : (o : Option ℕ) → reader_place home z ≡ o → Did z (Plain (message.Subscribe v)) n (on_subscribe home v o n)
       by-place None e = Left refl tt (λ u asked. none-some (sym e ∙ ap (λ (a : ℕ). place_of (λ x. a == x) (own_readers home)) asked.from ∙ place))
@@ -198,11 +198,11 @@ module _ (home : Home) (b k : ℕ) (place : place_of (λ a. b == a) (own_readers
   message-did z (message.Ack i count) n whole fine few calm =
       left z (Plain (message.Ack i count)) n _ (λ v e. cc) (elim n.recovering as (λ c. (cond c n (on_ack home i count (reader_place home z) n)).subs ≡ n.subs) [ true ↦ refl | false ↦ ack-subs i count (reader_place home z) n ]) tt
   message-did z (message.Ask i ask) n whole fine few calm = let d = ask-did i ask (replica_number home z) n in left z (Plain (message.Ask i ask)) n _ (λ v e. cc) d.0 d.1
-  message-did z (message.Grant i ask) n whole fine few calm = subst (λ (t : Stepped PlainNode). Did z (Plain (message.Grant i ask)) n t) (sym (grant-none i ask n fine)) (left z (Plain (message.Grant i ask)) n (silent_step n) (λ v e. cc) refl tt)
+  message-did z (message.Grant i ask) n whole fine few calm = subst (λ (t : Stepped PlainNode). Did z (Plain (message.Grant i ask)) n t) (sym (grant-none i ask n fine)) (left z (Plain (message.Grant i ask)) n (idle_step n) (λ v e. cc) refl tt)
   message-did z (message.SnapAsk i try) n whole fine few calm = by-recovering n.recovering
     where
-      by-recovering : (c : Bool) → Did z (Plain (message.SnapAsk i try)) n (cond c (silent_step n) (on_snap_ask home z i try n))
-      by-recovering true = left z (Plain (message.SnapAsk i try)) n (silent_step n) (λ v e. cc) refl tt
+      by-recovering : (c : Bool) → Did z (Plain (message.SnapAsk i try)) n (cond c (idle_step n) (on_snap_ask home z i try n))
+      by-recovering true = left z (Plain (message.SnapAsk i try)) n (idle_step n) (λ v e. cc) refl tt
       by-recovering false = left z (Plain (message.SnapAsk i try)) n (on_snap_ask home z i try n) (λ v e. cc) refl (λ to. refl, tt)
 
   -- a packet, behind the marks that ended
@@ -211,5 +211,5 @@ module _ (home : Home) (b k : ℕ) (place : place_of (λ a. b == a) (own_readers
   packet-did z (Plain m) n whole fine few calm = message-did z m (with_marks_ended n) whole fine few calm
   packet-did z (SnapFor i try s) n whole fine few calm =
       let m = with_marks_ended n in
-      let same : silent_step (on_snap home i try s m) ≡ silent_step m = rw whole refl in
-      subst (λ (t : Stepped PlainNode). Did z (SnapFor i try s) m t) (sym same) (left z (SnapFor i try s) m (silent_step m) (λ v e. cc) refl tt)
+      let same : idle_step (on_snap home i try s m) ≡ idle_step m = rw whole refl in
+      subst (λ (t : Stepped PlainNode). Did z (SnapFor i try s) m t) (sym same) (left z (SnapFor i try s) m (idle_step m) (λ v e. cc) refl tt)

@@ -4,7 +4,7 @@ use Rattle.dpc_lists.specs.Lists.{nth, changed, place_of}
 use Rattle.dpc_model.specs.Limits.{most_milled}
 use Rattle.dpc_model.specs.Actors.{role_of, readers_of}
 use Rattle.dpc_model.specs.NodeStates.{is_up_failure}
-use Rattle.dpc_model.specs.Sessions.{first_batch, is_newer_than_kept, link_of, no_session}
+use Rattle.dpc_model.specs.Sessions.{first_batch, is_newer_than_kept, tally_of, no_session}
 use Rattle.dpc_model.specs.declared.actors.Role.TheVariants.{Source as IsSource, Node as IsNode, Client as IsClient}
 use Rattle.dpc_model.specs.declared.messages.Event.{Event}
 use Rattle.dpc_model.specs.declared.messages.Event.TheVariants.{Deliver, Tick}
@@ -211,13 +211,13 @@ module _ (w : World) (most x f r a k : ℕ) (fine : IsFine w most) (role : role_
 
     -- a tick that is not void tells the reader its session
     pub tells-now : (now : ℕ) → Ticks w a now → (m : PlainNode) × ((slot_of (happens w (Tick a now)) a).node ≡ Some m) × (nth no_session m.subs k ≡ nth no_session n.subs k)
-        × ((i : ℕ) × (slice_get (happens w (Tick a now)).envelopes i ≡ Some (from a (mail x (beat_of m (link_of (nth no_session n.subs k)))))) × (length w.envelopes ≤ i))
+        × ((i : ℕ) × (slice_get (happens w (Tick a now)).envelopes i ≡ Some (from a (mail x (beat_of m (tally_of (nth no_session n.subs k)))))) × (length w.envelopes ≤ i))
     tells-now now clocked =
         let t = tick_step Here now n in
         let event = node-ticked-now w most a f r fine role now n clocked here in
         let tells = ticked-tells Here x k now n back low done in
         let slot : slot_of (node_stepped a t w) a ≡ record (slot_of w a) { node = Some t.after } = slot-here w most a f r (λ (z : Slot). record z { node = Some t.after }) fine role in
-        let place = sent-place a w.envelopes (mail x (beat_of t.after (link_of (nth no_session n.subs k)))) t.sends (tells.told (few n here)) in (
+        let place = sent-place a w.envelopes (mail x (beat_of t.after (tally_of (nth no_session n.subs k)))) t.sends (tells.told (few n here)) in (
           t.after,
           ap (λ (z : World). (slot_of z a).node) event ∙ ap (λ (z : Slot). z.node) slot,
           ap (λ ss. nth no_session ss k) tells.subs,

@@ -2,7 +2,7 @@
 use Rattle.std.proofs.Common.{◌≡◌, ℕ, ◌≤◌, Bool, true, false, cond, ◌&&◌, ◌||◌, ◌==◌, nat_lt, nat_le, List, [], ◌∷◌, length, refl, sym, ap, subst, ◌∙◌, arith, Option, Some, None, inl, inr}
 use Rattle.dpc_lists.specs.Lists.{list_all, push}
 use Rattle.dpc_model.specs.Reading.{Reader, Reading, NoReading, Skipped, Taken, reading, is_sure, Folded, fold_items, taken_first}
-use Rattle.dpc_model.specs.Inlets.{InletState, AfterBatch, is_old, take_batch, after_next_batch, after_missing_batch, after_link, with_next_session}
+use Rattle.dpc_model.specs.Inlets.{InletState, AfterBatch, is_old, take_batch, after_next_batch, after_missing_batch, after_tally, with_next_session}
 use Rattle.dpc_model.specs.declared.batches.Taken.TheVariants.{Old}
 use Rattle.dpc_model.specs.Actors.{role_of}
 use Rattle.dpc_model.specs.Ports.{Port, without_ended_marks, must_reopen}
@@ -61,7 +61,7 @@ reading-whole plan s r (Tentative t) fits h =
 reading-whole plan s r (Passed b) fits h =
     let low = le-of b plan.end (both plan.passing (nat_le b plan.end) fits).1 in
     let none = not-past r.bound b plan.end h.0 low in
-    subst (λ (c : Bool). ReadingWhole plan (cond (c && nat_lt r.soft b) (Taken (record r { soft = b })) Skipped)) (sym none) tt
+    subst (λ (c : Bool). ReadingWhole plan (cond (c && nat_lt r.passed b) (Taken (record r { passed = b })) Skipped)) (sym none) tt
 reading-whole plan s r (Boundary b m) fits h =
     let none = not-past r.bound b plan.end h.0 (le-of b plan.end fits) in
     subst (λ (c : Bool). ReadingWhole plan (cond (nat_le m (length r.stable) && is_sure r) (cond c (Taken (record r { bound = b })) Skipped) NoReading)) (sym none)
@@ -107,7 +107,7 @@ taken-whole : (plan : Plan) (s : StreamRef) (i : ℕ) (packet : Packet) (y : Por
 taken-whole plan s i (Plain (message.Batch u index items)) y fits h =
     elim (y.chosen == i) as (λ b. IsWhole plan (cond b (record y { inlet = (take_batch y.inlet u index items).after }) y).inlet.held) [ true ↦ take-whole plan s y.inlet u index items fits h | false ↦ h ]
 taken-whole plan s i (Plain (message.Truncated u base)) y fits h = h
-taken-whole plan s i (Plain (message.Beat b)) y fits h = elim (i == y.chosen) as (λ c. IsWhole plan (cond c (after_link y.inlet b.link) y.inlet).held) [ true ↦ h | false ↦ h ]
+taken-whole plan s i (Plain (message.Beat b)) y fits h = elim (i == y.chosen) as (λ c. IsWhole plan (cond c (after_tally y.inlet b.tally) y.inlet).held) [ true ↦ h | false ↦ h ]
 taken-whole plan s i (Plain (message.Subscribe asked)) y fits h = h
 taken-whole plan s i (Plain (message.Ack j n)) y fits h = h
 taken-whole plan s i (Plain (message.Ask j n)) y fits h = h

@@ -20,7 +20,7 @@ use Rattle.dpc_model.specs.declared.plans.StreamRef.TheVariants.{Source}
 use Rattle.node_model.specs.Mails.{Snap, Packet, Plain, SnapFor, mail, Stepped}
 use Rattle.dpc_model.specs.NodeStates.{is_up_failure}
 use Rattle.node_model.specs.Nodes.{Home, PlainNode, streams_of}
-use Rattle.node_model.specs.NodeSteps.{silent_step, then_do, replica_number, reader_place, with_port, emptied_port, adopted_ports, enter_step, after_loss, after_adoption, after_taking, on_batch, on_subscribe, on_truncation, on_upstream_beat, on_peer_beat, on_ack, on_ask, on_grant, on_snap_ask, on_snap, on_message, on_packet, with_marks_ended, packet_step, mill_step, after_clock, may_start_afresh, choice_step, ask_step, announcing_step, serving_step, snapshot_ask_step, rest_of_tick, with_fresh_start, tick_step}
+use Rattle.node_model.specs.NodeSteps.{idle_step, then_do, replica_number, reader_place, with_port, emptied_port, adopted_ports, enter_step, after_loss, after_adoption, after_taking, on_batch, on_subscribe, on_truncation, on_upstream_beat, on_peer_beat, on_ack, on_ask, on_grant, on_snap_ask, on_snap, on_message, on_packet, with_marks_ended, packet_step, mill_step, after_clock, may_start_afresh, choice_step, ask_step, announcing_step, serving_step, snapshot_ask_step, rest_of_tick, with_fresh_start, tick_step}
 use Rattle.node_model.specs.Clients.{ClientState, client_stream, client_after_batch, client_message, client_packet, client_marks_ended, client_after_packet, client_tick_step}
 use Rattle.law_safety.proofs.Delivered.{place-nth}
 use Rattle.law_safety.proofs.Pointwise.{sender-of}
@@ -177,16 +177,16 @@ module _ (L : ℕ → ℕ → ℕ → Type 0) where
     ask-told : (i ask : ℕ) (o : Option ℕ) (n : PlainNode) → At n → Ok (on_ask home i ask o n)
     ask-told i ask None n h = h
     ask-told i ask (Some r) n h =
-        elim (grants n.grants n.state r (i, ask)) as (λ b. Ok (cond b (record { after = record n { grants = with_promise n.grants r (i, ask) }; sends = mail (nth 0 (replicas_of home.plan home.frag) r) (message.Grant i ask) ∷ [] }) (silent_step n))) [
+        elim (grants n.grants n.state r (i, ask)) as (λ b. Ok (cond b (record { after = record n { grants = with_promise n.grants r (i, ask) }; sends = mail (nth 0 (replicas_of home.plan home.frag) r) (message.Grant i ask) ∷ [] }) (idle_step n))) [
           | true ↦ h
           | false ↦ h
         ]
 
     grant-told : (i ask : ℕ) (n : PlainNode) → At n → Ok (on_grant home i ask n)
-    grant-told i ask n h = elim (is_up_failure n.state && may_enter_by n.grants (i, ask)) as (λ b. Ok (cond b (enter_step home n) (silent_step n))) [ true ↦ entered-told n h | false ↦ h ]
+    grant-told i ask n h = elim (is_up_failure n.state && may_enter_by n.grants (i, ask)) as (λ b. Ok (cond b (enter_step home n) (idle_step n))) [ true ↦ entered-told n h | false ↦ h ]
 
-    unless-told : (n : PlainNode) (t : Stepped PlainNode) → At n → Ok t → Ok (cond n.recovering (silent_step n) t)
-    unless-told n t h k = elim n.recovering as (λ b. Ok (cond b (silent_step n) t)) [ true ↦ h | false ↦ k ]
+    unless-told : (n : PlainNode) (t : Stepped PlainNode) → At n → Ok t → Ok (cond n.recovering (idle_step n) t)
+    unless-told n t h k = elim n.recovering as (λ b. Ok (cond b (idle_step n) t)) [ true ↦ h | false ↦ k ]
 
     message-told : (m : Message) (n : PlainNode) → BeatTold (Plain m) → At n → Ok (on_message home a m n)
     message-told (message.Batch u index items) n beat h = batch-told u index items (sender_at home.plan (streams_of home) a) n h

@@ -5,7 +5,7 @@ use Rattle.dpc_model.specs.Reading.{Reader, is_sure, Folded, fold_items}
 use Rattle.dpc_model.specs.Fragments.{ideal}
 use Rattle.dpc_model.specs.Actors.{role_of, senders_of}
 use Rattle.dpc_model.specs.Ports.{Port}
-use Rattle.dpc_model.specs.Sessions.{Shown, first_batch, link_of, no_session}
+use Rattle.dpc_model.specs.Sessions.{Shown, first_batch, tally_of, no_session}
 use Rattle.dpc_model.specs.declared.actors.Role.{Role}
 use Rattle.dpc_model.specs.declared.actors.Role.TheVariants.{Node as IsNode}
 use Rattle.dpc_model.specs.declared.sessions.Sub.{Sub}
@@ -36,7 +36,7 @@ use Rattle.law_readers.proofs.Known.{run-clients}
 use Rattle.law_readers.proofs.Viewed.{views-held, node-order, counted}
 use Rattle.law_settling.specs.Finished.{IsFinished}
 use Rattle.law_settling.proofs.Seen.{range-below, index-passes, get-inside}
-use Rattle.law_settling.proofs.Full.{link-parts, take-prefix, not-not, asks_with}
+use Rattle.law_settling.proofs.Full.{tally-parts, take-prefix, not-not, asks_with}
 
 -- ---- what a finished replica shows
 
@@ -78,7 +78,7 @@ first-whole home most n u h place good done holds =
 
 module _ (plan : Plan) (events : List Event) (x p f r a k i : ℕ) (checked : IsCheckedPlan plan) (port : IsPortOf plan x p (Frag f)) (q : Port) (there : port_of (run plan events) x p ≡ Some q) (whole : q.inlet.broken ≡ false)
     (sender : nth 0 (senders_of plan (Frag f)) q.chosen ≡ a) (role : role_of plan a ≡ IsNode f r) (n : PlainNode) (up : (slot_of (run plan events) a).node ≡ Some n) (back : nth 0 (own_readers (home_of plan (f, r))) k ≡ x) (low : k < length (own_readers (home_of plan (f, r))))
-    (answered : IsAnsweredIn plan events (record { sender = a; reader = x; sess = q.inlet.sess }) i) (m : ℕ) (link : link_of (nth no_session n.subs k) ≡ Some (q.inlet.sess, m)) where
+    (answered : IsAnsweredIn plan events (record { sender = a; reader = x; sess = q.inlet.sess }) i) (m : ℕ) (tally : tally_of (nth no_session n.subs k) ≡ Some (q.inlet.sess, m)) where
   abbrev Line : Channel
   Line = record { sender = a; reader = x; sess = q.inlet.sess }
 
@@ -90,9 +90,9 @@ module _ (plan : Plan) (events : List Event) (x p f r a k i : ℕ) (checked : Is
 
   counts : m ≡ order.many
   counts =
-      let parts = link-parts (nth no_session n.subs k) q.inlet.sess m link in
+      let parts = tally-parts (nth no_session n.subs k) q.inlet.sess m tally in
       let count = parts.2 in
-      let same = counted q.inlet.sess i order.many n.grants.inc (nth no_session n.subs k) (order.there n up) (link ∙ ap {B = Option (Sess × ℕ)} (λ (z : ℕ). Some (q.inlet.sess, z)) (sym count)) in
+      let same = counted q.inlet.sess i order.many n.grants.inc (nth no_session n.subs k) (order.there n up) (tally ∙ ap {B = Option (Sess × ℕ)} (λ (z : ℕ). Some (q.inlet.sess, z)) (sym count)) in
       sym count ∙ same.1
 
   -- no more batches than were sent
@@ -121,7 +121,7 @@ module _ (plan : Plan) (events : List Event) (x p f r a k i : ℕ) (checked : Is
       let w = run plan events in
       let home = home_of plan (f, r) in
       let low_next = next-low in
-      let parts = link-parts (nth no_session n.subs k) q.inlet.sess m link in
+      let parts = tally-parts (nth no_session n.subs k) q.inlet.sess m tally in
       let count = parts.2 in
       let found = get-inside n.subs k few in
       let it : found.0 ≡ nth no_session n.subs k = sym (ap (λ (o : Option Sub). unwrap_or o no_session) found.1) in

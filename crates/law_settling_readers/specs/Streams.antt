@@ -5,7 +5,7 @@ use Rattle.dpc_model.specs.Fragments.{ideal}
 use Rattle.dpc_model.specs.Reading.{Reader, is_sure}
 use Rattle.dpc_model.specs.Actors.{role_of, senders_of, readers_of}
 use Rattle.dpc_model.specs.Ports.{Port}
-use Rattle.dpc_model.specs.Sessions.{no_session, link_of}
+use Rattle.dpc_model.specs.Sessions.{no_session, tally_of}
 use Rattle.dpc_model.specs.declared.actors.Role.TheVariants.{Node as IsNode}
 use Rattle.dpc_model.specs.declared.messages.Event.{Event}
 use Rattle.dpc_model.specs.declared.plans.Plan.{Plan}
@@ -39,7 +39,7 @@ pub record TookAllOf (plan : Plan) (w : World) (x p f : ℕ) (q : Port) (r : ℕ
   pub low : place < length (readers_of plan (Frag f))
   pub reader : nth 0 (readers_of plan (Frag f)) place ≡ x
   pub many : ℕ
-  pub link : link_of (nth no_session n.subs place) ≡ Some (q.inlet.sess, many)
+  pub tally : tally_of (nth no_session n.subs place) ≡ Some (q.inlet.sess, many)
   pub all : many ≤ q.inlet.next
 
 -- where the replica has finished, at whatever point of a live journal, such a port has the stream

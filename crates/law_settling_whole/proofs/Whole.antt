@@ -40,7 +40,7 @@ use Rattle.law_settling.specs.Read.{reading_phases}
 use Rattle.law_settling_readers.specs.Streams.{ReadersHaveStreams}
 use Rattle.law_settling_scripts.proofs.Can.{can_settle}
 use Rattle.std.specs.Prelude.{IsTrue}
-use Rattle.world_model.specs.Schedules.{lock_of}
+use Rattle.world_model.specs.Schedules.{lockstep_journal}
 use Rattle.law_schedules.proofs.Lockstep.{lock-live}
 use Rattle.law_healing.specs.Healing.{heals}
 use Rattle.law_healing.proofs.Opening.{opens-well}
@@ -149,10 +149,10 @@ settles script events checked serves on lives well steady =
     ]
 
 -- so it is of the one-thread journal of a script that heals, where recoveries end
-pub healed-settles : (script : Script) → IsChecked script → IsTrue script.settle → heals script ≡ true → IsCalm script (lock_of script) → IsTrue (all_settled (run script.plan (lock_of script)))
+pub healed-settles : (script : Script) → IsChecked script → IsTrue script.settle → heals script ≡ true → IsCalm script (lockstep_journal script) → IsTrue (all_settled (run script.plan (lockstep_journal script)))
 healed-settles script checked on healed calm =
-    let well = opens-well script (lock_of script) healed (lock-live script) in
-    settles script (lock_of script) checked (readers-law script (lock_of script)) on (lock-live script) well (lock-steady script (can_settle script checked) well calm)
+    let well = opens-well script (lockstep_journal script) healed (lock-live script) in
+    settles script (lockstep_journal script) checked (readers-law script (lockstep_journal script)) on (lock-live script) well (lock-steady script (can_settle script checked) well calm)
 
-pub crashless-settles : (script : Script) → IsChecked script → IsTrue script.settle → heals script ≡ true → has_no_crash script ≡ true → IsTrue (all_settled (run script.plan (lock_of script)))
-crashless-settles script checked on healed none = healed-settles script checked on healed (script-calm script (lock_of script) (can_settle script checked).plan none (lock-live script))
+pub crashless-settles : (script : Script) → IsChecked script → IsTrue script.settle → heals script ≡ true → has_no_crash script ≡ true → IsTrue (all_settled (run script.plan (lockstep_journal script)))
+crashless-settles script checked on healed none = healed-settles script checked on healed (script-calm script (lockstep_journal script) (can_settle script checked).plan none (lock-live script))

@@ -6,7 +6,7 @@ ghost use Rattle.dpc_model.specs.declared.messages.Event.{Event};
 ghost use Rattle.dpc_model.specs.declared.scripts.Script.{Script};
 ghost use Rattle.script_rules.specs.Checking.{IsChecked};
 ghost use Rattle.world_model.specs.Worlds.{run, all_settled};
-ghost use Rattle.world_model.specs.Schedules.{lock_of};
+ghost use Rattle.world_model.specs.Schedules.{lockstep_journal};
 ghost use Rattle.world_model.specs.Steady.{Settles};
 ghost use Rattle.law_healing.specs.Healing.{heals};
 ghost use Rattle.law_lockstep.specs.Calm.{IsCalm};
@@ -23,11 +23,11 @@ pub fn checked_scripts_settle()
 /// (what its directives cut, crash and hold back later ones heal, restart and release) and that past the first 38 quiet phases no node
 /// recovers: then the program's answer is not 4.
 pub fn a_script_that_heals_settles()
-    ensures { (script : Script) → IsChecked script → IsTrue script.settle → heals script ≡ true → IsCalm script (lock_of script) → IsTrue (all_settled (run script.plan (lock_of script))) }
+    ensures { (script : Script) → IsChecked script → IsTrue script.settle → heals script ≡ true → IsCalm script (lockstep_journal script) → IsTrue (all_settled (run script.plan (lockstep_journal script))) }
 {}
 
 /// Where no node is crashed at all, none recovers: so a script that cuts, loses and repeats, but crashes nobody, and mends what it breaks
 /// settles, whatever came between, and the program's answer is never 4.
 pub fn a_script_that_crashes_nobody_settles()
-    ensures { (script : Script) → IsChecked script → IsTrue script.settle → heals script ≡ true → has_no_crash script ≡ true → IsTrue (all_settled (run script.plan (lock_of script))) }
+    ensures { (script : Script) → IsChecked script → IsTrue script.settle → heals script ≡ true → has_no_crash script ≡ true → IsTrue (all_settled (run script.plan (lockstep_journal script))) }
 {}

@@ -8,8 +8,8 @@ use Rattle.dpc_model.specs.declared.messages.Message.TheVariants as message
 use Rattle.dpc_model.specs.declared.plans.Plan.{Plan}
 use Rattle.dpc_model.specs.declared.plans.StreamRef.{StreamRef}
 use Rattle.node_model.specs.Mails.{Packet, Plain, SnapFor}
-use Rattle.node_model.specs.Nodes.{Home, PlainNode, streams_of, out_stable, out_view, out_tentative, ready}
-use Rattle.node_model.specs.NodeSteps.{silent_step, on_batch, on_truncation, on_upstream_beat, on_peer_beat, replica_number, on_message, packet_step, mill_step, tick_step, enter_step, after_loss, after_adoption, with_marks_ended}
+use Rattle.node_model.specs.Nodes.{Home, PlainNode, streams_of, out_stable, out_with_closed, out_tentative, ready}
+use Rattle.node_model.specs.NodeSteps.{idle_step, on_batch, on_truncation, on_upstream_beat, on_peer_beat, replica_number, on_message, packet_step, mill_step, tick_step, enter_step, after_loss, after_adoption, with_marks_ended}
 use Rattle.node_model.specs.Clients.{ClientState, client_stream, client_packet, client_marks_ended, client_after_packet}
 use Rattle.law_upgrade.specs.Upgrading.{upgraded_plan, upgraded_home}
 
@@ -25,11 +25,11 @@ sent-to : (home : Home) (a : ℕ) (f : Option (ℕ × ℕ) → PlainNode) → f 
 sent-to home a f = ap f (sender-same 0 home.plan (streams_of home) a)
 
 message-same : (home : Home) (a : ℕ) (m : Message) (n : PlainNode) → on_message (upgraded_home home) a m n ≡ on_message home a m n
-unfolding out_stable out_view out_tentative enter_step after_loss
-message-same home a (message.Batch s index items) n = ap silent_step (sent-to home a (λ o. on_batch home s index items o n))
+unfolding out_stable out_with_closed out_tentative enter_step after_loss
+message-same home a (message.Batch s index items) n = ap idle_step (sent-to home a (λ o. on_batch home s index items o n))
 message-same home a (message.Subscribe asked) n = refl
-message-same home a (message.Truncated s base) n = ap silent_step (sent-to home a (λ o. on_truncation home s base o n))
-message-same home a (message.Beat b) n = ap silent_step (sent-to home a (λ o. on_peer_beat b (replica_number home a) (on_upstream_beat b o n)))
+message-same home a (message.Truncated s base) n = ap idle_step (sent-to home a (λ o. on_truncation home s base o n))
+message-same home a (message.Beat b) n = ap idle_step (sent-to home a (λ o. on_peer_beat b (replica_number home a) (on_upstream_beat b o n)))
 message-same home a (message.Ack i count) n = refl
 message-same home a (message.Ask i ask) n = refl
 message-same home a (message.Grant i ask) n = refl
@@ -45,7 +45,7 @@ unfolding mill_step out_stable ready
 mill-same home r n = refl
 
 pub tick-same : (home : Home) (now : ℕ) (n : PlainNode) → tick_step (upgraded_home home) now n ≡ tick_step home now n
-unfolding tick_step out_stable out_view out_tentative enter_step
+unfolding tick_step out_stable out_with_closed out_tentative enter_step
 tick-same home now n = refl
 
 -- ---- a client

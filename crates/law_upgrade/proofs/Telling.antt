@@ -10,7 +10,7 @@ use Rattle.dpc_model.specs.declared.scripts.Script.{Script}
 use Rattle.dpc_model.specs.ScriptText.{upgraded}
 use Rattle.node_model.specs.Nodes.{ready}
 use Rattle.world_model.specs.Worlds.{World, new_world, all_settled}
-use Rattle.world_model.specs.Schedules.{Told, event_of, tell, tell_all, tell_directive, phase_events, tell_phase, tell_phases, tell_quiet, tell_rest, lockstep, lock_of, quiet_limit, last_clock}
+use Rattle.world_model.specs.Schedules.{Told, event_of, tell, tell_all, tell_directive, phase_events, tell_phase, tell_phases, tell_quiet, tell_rest, lockstep, lockstep_journal, quiet_limit, last_clock}
 use Rattle.law_upgrade.specs.Upgrading.{upgraded_world, upgraded_told}
 use Rattle.law_upgrade.proofs.Events.{happens-same, opening-same}
 
@@ -90,6 +90,6 @@ lockstep-same s =
     ∙ ap (λ (x : ℕ × Told). tell_rest (upgraded s) x) (phases-same 1 0 s.phases (record { world = new_world s.plan; events = [] }))
     ∙ rest-same s (tell_phases 1 0 s.phases (record { world = new_world s.plan; events = [] }))
 
-pub lock-same : (s : Script) → lock_of (upgraded s) ≡ lock_of s
-unfolding lock_of
+pub lock-same : (s : Script) → lockstep_journal (upgraded s) ≡ lockstep_journal s
+unfolding lockstep_journal
 lock-same s = ap (λ (x : Told). reverse x.events) (lockstep-same s)

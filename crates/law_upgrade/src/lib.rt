@@ -7,7 +7,7 @@ ghost use Rattle.dpc_model.specs.declared.plans.Plan.{Plan};
 ghost use Rattle.dpc_model.specs.declared.scripts.Script.{Script};
 ghost use Rattle.dpc_model.specs.ScriptText.{upgraded};
 ghost use Rattle.world_model.specs.Worlds.{World, happens, run};
-ghost use Rattle.world_model.specs.Schedules.{progress, may, is_live_so_far, is_live, lock_of};
+ghost use Rattle.world_model.specs.Schedules.{progress, may, is_live_so_far, is_live, lockstep_journal};
 ghost use Rattle.law_safety.specs.Plans.{IsCheckedPlan};
 ghost use Rattle.report.specs.Text.{report_text, report_short, ideal_text};
 ghost use Rattle.law_upgrade.specs.Upgrading.{upgraded_plan, upgraded_world, upgraded_progress};
@@ -33,7 +33,7 @@ pub fn upgraded_scripts_have_the_same_journals()
     ensures next { (s : Script) (es : List Event) (e : Event) → may (upgraded s) es e ≡ may s es e }
     ensures so_far { (s : Script) (es : List Event) → is_live_so_far (upgraded s) es ≡ is_live_so_far s es }
     ensures live { (s : Script) (es : List Event) → is_live (upgraded s) es ≡ is_live s es }
-    ensures lock { (s : Script) → lock_of (upgraded s) ≡ lock_of s }
+    ensures lock { (s : Script) → lockstep_journal (upgraded s) ≡ lockstep_journal s }
     ensures world { (s : Script) (es : List Event) → run (upgraded s).plan es ≡ upgraded_world (run s.plan es) }
     ensures stands { (s : Script) (es : List Event) → progress (upgraded s) es ≡ upgraded_progress (progress s es) }
 {}

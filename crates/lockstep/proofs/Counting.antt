@@ -16,7 +16,7 @@ use Rattle.dpc_model.specs.declared.scripts.Directive.{Directive}
 use Rattle.dpc_model.specs.declared.scripts.Directive.TheVariants as directive
 use Rattle.world_model.specs.Worlds.{World, Envelope, is_up, ready_at}
 use Rattle.world_model.specs.Schedules.{loses, repeats, deliveries_of, has_event, mill_events, actors_of, phase_events}
-use Rattle.lockstep.specs.Ends.{marks_of}
+use Rattle.lockstep.specs.Ends.{fates_of}
 
 -- ---- numbers of actors
 
@@ -44,45 +44,45 @@ roles-length plan =
 
 -- ---- marks
 
-kept-mark : (test : Directive → Bool) → ((d : Directive) → has_event d ≡ true → test d ≡ false) → (ds : List Directive) → list_any test (marks_of ds) ≡ list_any test ds
-kept-mark test none [] = refl
-kept-mark test none (d ∷ ds) =
-    (elim (has_event d) as (λ b. has_event d ≡ b → list_any test (cond (not b) (d ∷ marks_of ds) (marks_of ds)) ≡ list_any test (d ∷ ds)) [
-      | true ↦ λ e. rw (none d e) (kept-mark test none ds)
-      | false ↦ λ e. ap (λ (b : Bool). test d || b) (kept-mark test none ds)
+kept-fate : (test : Directive → Bool) → ((d : Directive) → has_event d ≡ true → test d ≡ false) → (ds : List Directive) → list_any test (fates_of ds) ≡ list_any test ds
+kept-fate test none [] = refl
+kept-fate test none (d ∷ ds) =
+    (elim (has_event d) as (λ b. has_event d ≡ b → list_any test (cond (not b) (d ∷ fates_of ds) (fates_of ds)) ≡ list_any test (d ∷ ds)) [
+      | true ↦ λ e. rw (none d e) (kept-fate test none ds)
+      | false ↦ λ e. ap (λ (b : Bool). test d || b) (kept-fate test none ds)
     ]) refl
 
-lost-mark : (e : Option Envelope) (d : Directive) → has_event d ≡ true → loses e d ≡ false
-lost-mark e (directive.Lose a b) h = absurd (cc)
-lost-mark e (directive.Repeat a b) h = refl
-lost-mark e (directive.Emit s t) h = refl
-lost-mark e (directive.Release s t) h = refl
-lost-mark e (directive.Cut a b) h = refl
-lost-mark e (directive.Heal a b) h = refl
-lost-mark e (directive.Crash a) h = refl
-lost-mark e (directive.Restart a) h = refl
+lost-fate : (e : Option Envelope) (d : Directive) → has_event d ≡ true → loses e d ≡ false
+lost-fate e (directive.Lose a b) h = absurd (cc)
+lost-fate e (directive.Repeat a b) h = refl
+lost-fate e (directive.Emit s t) h = refl
+lost-fate e (directive.Release s t) h = refl
+lost-fate e (directive.Cut a b) h = refl
+lost-fate e (directive.Heal a b) h = refl
+lost-fate e (directive.Crash a) h = refl
+lost-fate e (directive.Restart a) h = refl
 
-repeated-mark : (e : Option Envelope) (d : Directive) → has_event d ≡ true → repeats e d ≡ false
-repeated-mark e (directive.Repeat a b) h = absurd (cc)
-repeated-mark e (directive.Lose a b) h = refl
-repeated-mark e (directive.Emit s t) h = refl
-repeated-mark e (directive.Release s t) h = refl
-repeated-mark e (directive.Cut a b) h = refl
-repeated-mark e (directive.Heal a b) h = refl
-repeated-mark e (directive.Crash a) h = refl
-repeated-mark e (directive.Restart a) h = refl
+repeated-fate : (e : Option Envelope) (d : Directive) → has_event d ≡ true → repeats e d ≡ false
+repeated-fate e (directive.Repeat a b) h = absurd (cc)
+repeated-fate e (directive.Lose a b) h = refl
+repeated-fate e (directive.Emit s t) h = refl
+repeated-fate e (directive.Release s t) h = refl
+repeated-fate e (directive.Cut a b) h = refl
+repeated-fate e (directive.Heal a b) h = refl
+repeated-fate e (directive.Crash a) h = refl
+repeated-fate e (directive.Restart a) h = refl
 
-pub marks-count : (w : World) (directives : List Directive) (k : ℕ) → deliveries_of w (marks_of directives) k ≡ deliveries_of w directives k
-marks-count w directives k =
+pub fates-count : (w : World) (directives : List Directive) (k : ℕ) → deliveries_of w (fates_of directives) k ≡ deliveries_of w directives k
+fates-count w directives k =
     let e : Option Envelope = slice_get w.envelopes k in
-    rw (kept-mark (loses e) (lost-mark e) directives, kept-mark (repeats e) (repeated-mark e) directives) refl
+    rw (kept-fate (loses e) (lost-fate e) directives, kept-fate (repeats e) (repeated-fate e) directives) refl
 
-pub marks-come : (w : World) (directives : List Directive) (ks : List ℕ) →
-    flat_map (λ k. replicate (deliveries_of w (marks_of directives) k) (Deliver k)) ks ≡ flat_map (λ k. replicate (deliveries_of w directives k) (Deliver k)) ks
-marks-come w directives [] = refl
-marks-come w directives (k ∷ ks) =
-    ap (λ (n : ℕ). replicate n (Deliver k) ++ flat_map (λ k. replicate (deliveries_of w (marks_of directives) k) (Deliver k)) ks) (marks-count w directives k)
-    ∙ ap (λ (es : List Event). replicate (deliveries_of w directives k) (Deliver k) ++ es) (marks-come w directives ks)
+pub fates-come : (w : World) (directives : List Directive) (ks : List ℕ) →
+    flat_map (λ k. replicate (deliveries_of w (fates_of directives) k) (Deliver k)) ks ≡ flat_map (λ k. replicate (deliveries_of w directives k) (Deliver k)) ks
+fates-come w directives [] = refl
+fates-come w directives (k ∷ ks) =
+    ap (λ (n : ℕ). replicate n (Deliver k) ++ flat_map (λ k. replicate (deliveries_of w (fates_of directives) k) (Deliver k)) ks) (fates-count w directives k)
+    ∙ ap (λ (es : List Event). replicate (deliveries_of w directives k) (Deliver k) ++ es) (fates-come w directives ks)
 
 -- ---- a list that grows by a range
 
@@ -108,15 +108,15 @@ kept-more {X} f test n start old new p q =
 
 -- ---- the events of a phase
 
-pub phase-made : (w : World) (plan : Plan) (directives marks : List Directive) (actors now : ℕ) (pending : List ℕ) (first second third : List Event) → w.plan ≡ plan → actors ≡ length (roles_of plan) → marks ≡ marks_of directives →
-    first ≡ flat_map (λ a. mill_events a (ready_at w a)) (range_with_len 0 actors) → second ≡ first ++ flat_map (λ k. replicate (deliveries_of w marks k) (Deliver k)) pending →
+pub phase-made : (w : World) (plan : Plan) (directives fates : List Directive) (actors now : ℕ) (pending : List ℕ) (first second third : List Event) → w.plan ≡ plan → actors ≡ length (roles_of plan) → fates ≡ fates_of directives →
+    first ≡ flat_map (λ a. mill_events a (ready_at w a)) (range_with_len 0 actors) → second ≡ first ++ flat_map (λ k. replicate (deliveries_of w fates k) (Deliver k)) pending →
     third ≡ second ++ map (λ a. Tick a now) (filter (is_up w) (range_with_len 0 actors)) → third ≡ phase_events w directives pending now
-phase-made w plan directives marks actors now pending first second third same count is mills deliveries ticks =
+phase-made w plan directives fates actors now pending first second third same count is mills deliveries ticks =
     let all : range_with_len 0 actors ≡ actors_of w.plan = ap (λ (n : ℕ). range_with_len 0 n) count ∙ ap actors_of (sym same) in
-    let come = ap (λ (ds : List Directive). flat_map (λ k. replicate (deliveries_of w ds k) (Deliver k)) pending) is ∙ marks-come w directives pending in
+    let come = ap (λ (ds : List Directive). flat_map (λ k. replicate (deliveries_of w ds k) (Deliver k)) pending) is ∙ fates-come w directives pending in
     let begun : first ≡ flat_map (λ a. mill_events a (ready_at w a)) (actors_of w.plan) = mills ∙ ap (λ (is : List ℕ). flat_map (λ a. mill_events a (ready_at w a)) is) all in
     let delivered : second ≡ flat_map (λ a. mill_events a (ready_at w a)) (actors_of w.plan) ++ flat_map (λ k. replicate (deliveries_of w directives k) (Deliver k)) pending =
-    deliveries ∙ ap (λ (es : List Event). es ++ flat_map (λ k. replicate (deliveries_of w marks k) (Deliver k)) pending) begun
+    deliveries ∙ ap (λ (es : List Event). es ++ flat_map (λ k. replicate (deliveries_of w fates k) (Deliver k)) pending) begun
     ∙ ap (λ (es : List Event). flat_map (λ a. mill_events a (ready_at w a)) (actors_of w.plan) ++ es) come in
     ticks ∙ ap (λ (es : List Event). es ++ map (λ a. Tick a now) (filter (is_up w) (range_with_len 0 actors))) delivered
     ∙ ap (λ (is : List ℕ). (flat_map (λ a. mill_events a (ready_at w a)) (actors_of w.plan) ++ flat_map (λ k. replicate (deliveries_of w directives k) (Deliver k)) pending) ++ map (λ a. Tick a now) (filter (is_up w) is)) all

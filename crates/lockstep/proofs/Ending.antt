@@ -8,10 +8,10 @@ use Rattle.dpc_model.specs.declared.plans.Plan.{Plan}
 use Rattle.dpc_model.specs.declared.scripts.Phase.{Phase as PhaseSpec}
 use Rattle.dpc_model.specs.declared.scripts.Script.{Script}
 use Rattle.world_model.specs.Worlds.{Sums, new_world, run}
-use Rattle.world_model.specs.Schedules.{Told, tell_phases, tell_quiet, tell_rest, lockstep, lock_of, quiet_limit, last_clock}
+use Rattle.world_model.specs.Schedules.{Told, tell_phases, tell_quiet, tell_rest, lockstep, lockstep_journal, quiet_limit, last_clock}
 use Rattle.world_core.specs.Runs.{RunOf, excess}
 use Rattle.lockstep.specs.Locking.{IsAt, Follows, Exceeds}
-use Rattle.lockstep.specs.declared.phase.Lock.{Lock}
+use Rattle.lockstep.specs.declared.phase.RunSoFar.{RunSoFar}
 use Rattle.lockstep.specs.declared.faults.RunFault.{RunFault}
 use Rattle.lockstep.specs.declared.faults.RunFault.TheVariants.{TooLong}
 use Rattle.lockstep.proofs.Standing.{Grows, grows-nothing, exceeds-more}
@@ -32,8 +32,8 @@ start-stands plan = record { live = refl; world = refl; events = refl; within = 
 -- ---- the end
 
 pub record Ends (script : Script) (w : RunOf) : Type 0 where
-  pub is : w ≡ record { plan = script.plan; events = lock_of script; spent = false }
-  pub within : excess script.plan (lock_of script) ≡ None
+  pub is : w ≡ record { plan = script.plan; events = lockstep_journal script; spent = false }
+  pub within : excess script.plan (lockstep_journal script) ≡ None
 
 -- the phases, from the first envelope and the start
 abbrev phases_of : Script → Told → ℕ × Told
@@ -43,7 +43,7 @@ abbrev pub phased : Script → Told → Told
 phased script x = (phases_of script x).1
 
 ends : (script : Script) (w : RunOf) → w.plan ≡ script.plan → IsAt w (tell_rest script (phases_of script (start script.plan))) → Ends script w
-unfolding lockstep lock_of
+unfolding lockstep lockstep_journal
 ends script w same at =
     record {
       is = ap (λ (plan : Plan). record w { plan = plan }) same ∙ ap (λ (es : List Event). record { plan = script.plan; events = es; spent = w.spent }) (sym at.events)
@@ -55,28 +55,28 @@ abbrev rest_of : Bool → Script → ℕ × Told → Told
 rest_of b script z = cond b (tell_quiet (quiet_limit script.plan) (length script.phases + 1) z.0 (last_clock script + 1) z.1) z.1
 
 -- what the phases of a script make of a run so far
-pub record ArePhases (specs : List PhaseSpec) (old new : Lock) : Type 0 where
+pub record ArePhases (specs : List PhaseSpec) (old new : RunSoFar) : Type 0 where
   pub follows : Follows (λ x. (tell_phases old.phase old.first specs x).1) old.world new.world
   pub number : new.phase ≡ old.phase + length specs
   pub sent : (x : Told) → IsAt old.world x → (tell_phases old.phase old.first specs x).0 ≡ new.first
   pub clock : new.now ≡ fold (λ _ now. now) old.now (map (λ (p : PhaseSpec). p.now) specs)
 
-abbrev pub first_lock : Plan → Lock
+abbrev pub first_lock : Plan → RunSoFar
 first_lock plan = record { world = opening plan; phase = 1; first = 0; now = 0 }
 
 -- they are those of the script, from the first one on
-pub of-script : (script : Script) (specs : List PhaseSpec) (w : RunOf) (old new : Lock) → w ≡ opening script.plan → old ≡ record { world = w; phase = 1; first = 0; now = 0 } → specs ≡ script.phases →
+pub of-script : (script : Script) (specs : List PhaseSpec) (w : RunOf) (old new : RunSoFar) → w ≡ opening script.plan → old ≡ record { world = w; phase = 1; first = 0; now = 0 } → specs ≡ script.phases →
     ArePhases specs old new → ArePhases script.phases (first_lock script.plan) new
 of-script script specs w old new opened begun same a =
     let whole : old ≡ first_lock script.plan = begun ∙ ap (λ (w : RunOf). record { world = w; phase = 1; first = 0; now = 0 }) opened in
-    subst (λ (l : Lock). ArePhases script.phases l new) whole (subst (λ (ss : List PhaseSpec). ArePhases ss old new) same a)
+    subst (λ (l : RunSoFar). ArePhases script.phases l new) whole (subst (λ (ss : List PhaseSpec). ArePhases ss old new) same a)
 
-pub plain-ends : (script : Script) (new : Lock) → script.settle ≡ false → ArePhases script.phases (first_lock script.plan) new → Ends script new.world
+pub plain-ends : (script : Script) (new : RunSoFar) → script.settle ≡ false → ArePhases script.phases (first_lock script.plan) new → Ends script new.world
 plain-ends script new plain a =
     ends script new.world a.follows.plan
     (subst (λ (t : Bool). IsAt new.world (rest_of t script (phases_of script (start script.plan)))) (sym plain) (a.follows.after (start script.plan) (start-stands script.plan)))
 
-quiet-way : (script : Script) (new : Lock) → ArePhases script.phases (first_lock script.plan) new →
+quiet-way : (script : Script) (new : RunSoFar) → ArePhases script.phases (first_lock script.plan) new →
     tell_quiet (quiet_limit new.world.plan) new.phase new.first (new.now + 1) (phased script (start script.plan)) ≡ rest_of true script (phases_of script (start script.plan))
 quiet-way script new a =
     let number : new.phase ≡ length script.phases + 1 = omega (arith, a.number) in
@@ -85,7 +85,7 @@ quiet-way script new a =
     ∙ ap (λ (n : ℕ). tell_quiet (quiet_limit script.plan) (length script.phases + 1) n (new.now + 1) x) (sym (a.sent (start script.plan) (start-stands script.plan)))
     ∙ ap (λ (n : ℕ). tell_quiet (quiet_limit script.plan) (length script.phases + 1) (phases_of script (start script.plan)).0 (n + 1) x) a.clock
 
-pub settled-ends : (script : Script) (new : Lock) (last : RunOf) → script.settle ≡ true → ArePhases script.phases (first_lock script.plan) new →
+pub settled-ends : (script : Script) (new : RunSoFar) (last : RunOf) → script.settle ≡ true → ArePhases script.phases (first_lock script.plan) new →
     Follows (tell_quiet (quiet_limit new.world.plan) new.phase new.first (new.now + 1)) new.world last → Ends script last
 settled-ends script new last settles a q =
     let limit = quiet_limit new.world.plan in
@@ -100,29 +100,29 @@ abbrev reached : ℕ → ℕ → Option Sums
 reached envelopes items = Some (record { envelopes = envelopes; items = items })
 
 excess-of : (script : Script) (x : Told) (envelopes items : ℕ) → x ≡ tell_rest script (phases_of script (start script.plan)) → excess script.plan (reverse x.events) ≡ reached envelopes items →
-    excess script.plan (lock_of script) ≡ reached envelopes items
-unfolding lockstep lock_of
+    excess script.plan (lockstep_journal script) ≡ reached envelopes items
+unfolding lockstep lockstep_journal
 excess-of script x envelopes items is h = ap (λ (y : Told). excess script.plan (reverse y.events)) (sym is) ∙ h
 
 grows-rest : (script : Script) (t : Bool) (first : ℕ) → Grows (λ x. rest_of t script (first, x))
 grows-rest script true first = grows-quiet (quiet_limit script.plan) (length script.phases + 1) first (last_clock script + 1)
 grows-rest script false first = grows-nothing
 
-pub phases-excess : (script : Script) (specs : List PhaseSpec) (w : RunOf) (old : Lock) (fault : RunFault) → w ≡ opening script.plan → old ≡ record { world = w; phase = 1; first = 0; now = 0 } → specs ≡ script.phases →
-    Exceeds (λ x. (tell_phases old.phase old.first specs x).1) old.world fault → (envelopes items : ℕ) → fault ≡ TooLong envelopes items → excess script.plan (lock_of script) ≡ reached envelopes items
+pub phases-excess : (script : Script) (specs : List PhaseSpec) (w : RunOf) (old : RunSoFar) (fault : RunFault) → w ≡ opening script.plan → old ≡ record { world = w; phase = 1; first = 0; now = 0 } → specs ≡ script.phases →
+    Exceeds (λ x. (tell_phases old.phase old.first specs x).1) old.world fault → (envelopes items : ℕ) → fault ≡ TooLong envelopes items → excess script.plan (lockstep_journal script) ≡ reached envelopes items
 phases-excess script specs w old fault opened begun same h envelopes items is =
     let whole : old ≡ first_lock script.plan = begun ∙ ap (λ (w : RunOf). record { world = w; phase = 1; first = 0; now = 0 }) opened in
     let told : Exceeds (λ x. (tell_phases old.phase old.first specs x).1) old.world (TooLong envelopes items) = subst (λ (f : RunFault). Exceeds (λ x. (tell_phases old.phase old.first specs x).1) old.world f) is h in
     let past : Exceeds (phased script) (opening script.plan) (TooLong envelopes items) =
-    subst (λ (l : Lock). Exceeds (λ x. (tell_phases l.phase l.first script.phases x).1) l.world (TooLong envelopes items)) whole
+    subst (λ (l : RunSoFar). Exceeds (λ x. (tell_phases l.phase l.first script.phases x).1) l.world (TooLong envelopes items)) whole
     (subst (λ (ss : List PhaseSpec). Exceeds (λ x. (tell_phases old.phase old.first ss x).1) old.world (TooLong envelopes items)) same told) in
     let first = (phases_of script (start script.plan)).0 in
     excess-of script (rest_of script.settle script (first, phased script (start script.plan))) envelopes items refl
     (exceeds-more (phased script) (λ x. rest_of script.settle script (first, x)) (opening script.plan) (TooLong envelopes items) (grows-rest script script.settle first) past (start script.plan)
     (start-stands script.plan))
 
-pub settle-excess : (script : Script) (new : Lock) (fault : RunFault) → script.settle ≡ true → ArePhases script.phases (first_lock script.plan) new →
-    Exceeds (tell_quiet (quiet_limit new.world.plan) new.phase new.first (new.now + 1)) new.world fault → (envelopes items : ℕ) → fault ≡ TooLong envelopes items → excess script.plan (lock_of script) ≡ reached envelopes items
+pub settle-excess : (script : Script) (new : RunSoFar) (fault : RunFault) → script.settle ≡ true → ArePhases script.phases (first_lock script.plan) new →
+    Exceeds (tell_quiet (quiet_limit new.world.plan) new.phase new.first (new.now + 1)) new.world fault → (envelopes items : ℕ) → fault ≡ TooLong envelopes items → excess script.plan (lockstep_journal script) ≡ reached envelopes items
 settle-excess script new fault settles a h envelopes items is =
     let limit = quiet_limit new.world.plan in
     let x = phased script (start script.plan) in
@@ -134,16 +134,16 @@ settle-excess script new fault settles a h envelopes items is =
 
 -- ---- what the quiet phases answer
 
-abbrev quiet_behind : Lock → Told → Told
+abbrev quiet_behind : RunSoFar → Told → Told
 quiet_behind new = tell_quiet (quiet_limit new.world.plan) new.phase new.first (new.now + 1)
 
-pub settled-answers : (script : Script) (new : Lock) (r : Result RunOf RunFault) {Q : RunOf → Type 0} → script.settle ≡ true → ArePhases script.phases (first_lock script.plan) new →
+pub settled-answers : (script : Script) (new : RunSoFar) (r : Result RunOf RunFault) {Q : RunOf → Type 0} → script.settle ≡ true → ArePhases script.phases (first_lock script.plan) new →
     IfOk r (λ w. Follows (quiet_behind new) new.world w) → ((w : RunOf) → Ends script w → Q w) → IfOk r Q
 settled-answers script new (Ok w) settles a q f = f w (settled-ends script new w settles a q)
 settled-answers script new (Err fault) settles a q f = tt
 
-pub settled-past : (script : Script) (new : Lock) (r : Result RunOf RunFault) → script.settle ≡ true → ArePhases script.phases (first_lock script.plan) new →
-    IfErr r (Exceeds (quiet_behind new) new.world) → (envelopes items : ℕ) → r ≡ Err (TooLong envelopes items) → excess script.plan (lock_of script) ≡ reached envelopes items
+pub settled-past : (script : Script) (new : RunSoFar) (r : Result RunOf RunFault) → script.settle ≡ true → ArePhases script.phases (first_lock script.plan) new →
+    IfErr r (Exceeds (quiet_behind new) new.world) → (envelopes items : ℕ) → r ≡ Err (TooLong envelopes items) → excess script.plan (lockstep_journal script) ≡ reached envelopes items
 settled-past script new (Ok w) settles a q envelopes items e = cc
 settled-past script new (Err fault) settles a q envelopes items e = settle-excess script new fault settles a q envelopes items cc
 

@@ -29,5 +29,5 @@ repeats_so e (Crash a) = false
 repeats_so e (Restart a) = false
 
 -- the directives that have no event: they lose or repeat what comes
-abbrev pub marks_of : List Directive → List Directive
-marks_of directives = filter (λ d. not (has_event d)) directives
+abbrev pub fates_of : List Directive → List Directive
+fates_of directives = filter (λ d. not (has_event d)) directives

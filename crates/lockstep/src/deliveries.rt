@@ -3,23 +3,23 @@ ghost use Rattle.std.specs.Prelude.{◌≡◌, false, IfOk};
 ghost use Rattle.dpc_lists.specs.Lists.{list_any};
 ghost use Rattle.world_model.specs.Schedules.{deliveries_of};
 ghost use Rattle.world_core.specs.Runs.{world_of};
-ghost use Rattle.lockstep.specs.Ends.{goes_so, loses_so, repeats_so, marks_of};
+ghost use Rattle.lockstep.specs.Ends.{goes_so, loses_so, repeats_so, fates_of};
 
 use dpc_model::scripts::Directive;
 use std::alloc::{AllocError, Global};
 use world_core::world::World;
 
 /// The directives that lose or repeat envelopes.
-pub fn marks(alloc: Global, directives: &[Directive]) -> Result<Vec<Directive>, AllocError>
-    ensures { IfOk result (λ marks. marks.items ≡ marks_of directives.now) }
+pub fn fates(alloc: Global, directives: &[Directive]) -> Result<Vec<Directive>, AllocError>
+    ensures { IfOk result (λ fates. fates.items ≡ fates_of directives.now) }
 {
-    let mut marks = Vec::new(alloc);
+    let mut fates = Vec::new(alloc);
     for directive in directives {
         if let Directive::Lose(_, _) | Directive::Repeat(_, _) = directive {
-            marks.push(*directive)?;
+            fates.push(*directive)?;
         }
     }
-    Ok(marks)
+    Ok(fates)
 }
 
 /// Whether an envelope with this sender and addressee goes from a to b.
@@ -50,26 +50,26 @@ fn repeats(ends: Option<(u64, u64)>, directive: Directive) -> bool
     }
 }
 
-fn is_lost(ends: Option<(u64, u64)>, marks: &[Directive]) -> bool
-    ensures { result ≡ list_any (loses_so ends) marks.now }
+fn is_lost(ends: Option<(u64, u64)>, fates: &[Directive]) -> bool
+    ensures { result ≡ list_any (loses_so ends) fates.now }
 {
-    marks.iter().any(|mark| loses(ends, *mark))
+    fates.iter().any(|fate| loses(ends, *fate))
 }
 
-fn is_repeated(ends: Option<(u64, u64)>, marks: &[Directive]) -> bool
-    ensures { result ≡ list_any (repeats_so ends) marks.now }
+fn is_repeated(ends: Option<(u64, u64)>, fates: &[Directive]) -> bool
+    ensures { result ≡ list_any (repeats_so ends) fates.now }
 {
-    marks.iter().any(|mark| repeats(ends, *mark))
+    fates.iter().any(|fate| repeats(ends, *fate))
 }
 
 /// How often envelope number k comes in a phase with these directives.
-pub fn deliveries(world: &World, marks: &[Directive], k: u64) -> u64
+pub fn deliveries(world: &World, fates: &[Directive], k: u64) -> u64
     requires { world.now.spent ≡ false }
-    ensures { result ≡ deliveries_of (world_of world.now) marks.now k }
+    ensures { result ≡ deliveries_of (world_of world.now) fates.now k }
 {
     let ends = world.ends(k);
-    if is_lost(ends, marks) || !world.may_come(k) {
+    if is_lost(ends, fates) || !world.may_come(k) {
         return 0;
     }
-    if is_repeated(ends, marks) { 2 } else { 1 }
+    if is_repeated(ends, fates) { 2 } else { 1 }
 }

@@ -7,7 +7,7 @@ ghost use Rattle.world_model.specs.Worlds.{is_up, ready_at};
 ghost use Rattle.world_model.specs.Schedules.{mill_events, deliveries_of, phase_events};
 ghost use Rattle.world_core.specs.Runs.{world_of};
 
-use crate::deliveries::{deliveries, marks};
+use crate::deliveries::{deliveries, fates};
 use dpc_lists::faults::NoMemory;
 use dpc_model::actors::narrow;
 use dpc_model::messages::Event;
@@ -78,16 +78,16 @@ fn push_all_mills(events: &mut Vec<Event>, world: &World, actors: u32) -> Result
 fn push_deliveries(
     events: &mut Vec<Event>,
     world: &World,
-    marks: &[Directive],
+    fates: &[Directive],
     first: u64,
     sent: u64,
 ) -> Result<(), AllocError>
     requires { world.now.spent ≡ false }
     ensures { OnOk result (events.new.items ≡ events.old.items
-        ++ flat_map (λ k. replicate (deliveries_of (world_of world.now) marks.now k) (Deliver k)) (range_with_len first (sent - first))) }
+        ++ flat_map (λ k. replicate (deliveries_of (world_of world.now) fates.now k) (Deliver k)) (range_with_len first (sent - first))) }
 {
     for k in first..sent {
-        push_times(events, deliveries(world, marks, k), Event::Deliver(k))?;
+        push_times(events, deliveries(world, fates, k), Event::Deliver(k))?;
     }
     Ok(())
 }
@@ -123,10 +123,10 @@ pub fn phase_events(
     ensures { IfOk result (λ events. events.items ≡ phase_events (world_of world.now) directives.now (range_with_len first (sent - first)) now) }
 {
     let actors = actor_count(world.plan())?;
-    let marks = marks(alloc, directives)?;
+    let fates = fates(alloc, directives)?;
     let mut events = Vec::new(alloc);
     push_all_mills(&mut events, world, actors)?;
-    push_deliveries(&mut events, world, &marks, first, sent)?;
+    push_deliveries(&mut events, world, &fates, first, sent)?;
     push_ticks(&mut events, world, actors, now)?;
     Ok(events)
 }

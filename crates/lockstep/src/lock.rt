@@ -1,12 +1,12 @@
 //! The run of a script by one thread.
 ghost use Rattle.std.specs.Prelude.{◌≡◌, ℕ, false, Some, None, Err, IfOk};
-ghost use Rattle.world_model.specs.Schedules.{lock_of};
+ghost use Rattle.world_model.specs.Schedules.{lockstep_journal};
 ghost use Rattle.law_fit.specs.Fits.{CanRun};
 ghost use Rattle.world_core.specs.Runs.{excess};
 ghost use Rattle.lockstep.specs.declared.faults.RunFault.TheVariants as fault;
 
 use crate::faults::RunFault;
-use crate::phase::Lock;
+use crate::phase::RunSoFar;
 use dpc_model::scripts::Script;
 use std::alloc::Global;
 use world_core::world::World;
@@ -16,17 +16,17 @@ use world_core::world::World;
 /// actors, the directives and the envelopes that are pending.
 pub fn run(alloc: Global, script: Script) -> Result<World, RunFault>
     requires { CanRun script.plan }
-    ensures ok { IfOk result (λ w. w ≡ record { plan = script.plan; events = lock_of script; spent = false }) }
-    ensures within { IfOk result (λ w. excess script.plan (lock_of script) ≡ None) }
+    ensures ok { IfOk result (λ w. w ≡ record { plan = script.plan; events = lockstep_journal script; spent = false }) }
+    ensures within { IfOk result (λ w. excess script.plan (lockstep_journal script) ≡ None) }
     ensures long { (envelopes items : ℕ) → result ≡ Err (fault.TooLong envelopes items)
-        → excess script.plan (lock_of script) ≡ Some (record { envelopes = envelopes; items = items }) }
+        → excess script.plan (lockstep_journal script) ≡ Some (record { envelopes = envelopes; items = items }) }
 {
     let Script {
         plan,
         phases,
         settle,
     } = script;
-    let mut lock = Lock::new(World::new(alloc, plan)?);
+    let mut lock = RunSoFar::new(World::new(alloc, plan)?);
     lock.phases(alloc, phases.as_slice())?;
     if settle {
         return lock.settle(alloc);

@@ -34,7 +34,7 @@ fn quiet_limit(plan: &Plan) -> u128
 
 /// A run so far. Each phase hands over the envelopes that were sent since the one before it began.
 #[derive(Drop)]
-pub struct Lock {
+pub struct RunSoFar {
     pub world: World,
     /// The number of the next phase.
     phase: u64,
@@ -44,12 +44,12 @@ pub struct Lock {
     now: u64,
 }
 
-impl Lock {
+impl RunSoFar {
     /// Before the first phase.
-    pub fn new(world: World) -> Lock
+    pub fn new(world: World) -> RunSoFar
         ensures { result ≡ record { world = world; phase = 1; first = 0; now = 0 } }
     {
-        Lock {
+        RunSoFar {
             world,
             phase: 1,
             first: 0,

@@ -7,7 +7,7 @@ use Rattle.dpc_model.specs.Inlets.{InletState}
 use Rattle.dpc_lists.specs.Lists.{nth, sort_by}
 use Rattle.dpc_model.specs.Parts.{Inputs, Outputs, Neighbours}
 use Rattle.dpc_model.specs.Ports.{Port, no_port, acks_to}
-use Rattle.dpc_model.specs.Sessions.{no_session, link_of}
+use Rattle.dpc_model.specs.Sessions.{no_session, tally_of}
 use Rattle.dpc_model.specs.Streams.{count_below}
 use Rattle.dpc_model.specs.declared.messages.Message.{Message}
 use Rattle.dpc_model.specs.declared.messages.Message.TheVariants as message
@@ -23,7 +23,7 @@ use Rattle.pipeline.specs.Flowing.{StandsForData}
 use Rattle.node_model.specs.Mails.{Plain, Mail, mail, mails, in_actor_order, to_each}
 use Rattle.node_model.specs.Nodes.{Home, spec_of, streams_of, own_readers, PlainNode}
 use Rattle.node_model.specs.NodeSteps.{peers_of, done_at, acks_from, beat_of, beats, announcing_step}
-use Rattle.node_model.specs.Views.{inputs_of, outputs_of}
+use Rattle.node_model.specs.NodeParts.{inputs_of, outputs_of}
 use Rattle.law_node.specs.Fitting.{IsFit}
 use Rattle.law_node.proofs.Viewed.{inlet-at}
 use Rattle.node_core.specs.declared.packets.Mail as code_mail
@@ -106,21 +106,21 @@ all-acked many v told all acked home p h fit =
 
 -- ---- beats
 
-beat-same : (home : Home) (v : NodeValue) (p : PlainNode) (link : Option (Sess × ℕ)) → StandsForNode home v p → beat_with v link ≡ beat_of p link
-beat-same home v p link h =
-    ap (λ (n : Neighbours). message.Beat (record { inc = n.grants.inc; state = v.state; recovering = v.recovering; over = n.grants.over; link = link })) h.links
-    ∙ ap (λ (s : NodeState). message.Beat (record { inc = p.grants.inc; state = s; recovering = v.recovering; over = p.grants.over; link = link })) h.state
-    ∙ ap (λ (b : Bool). message.Beat (record { inc = p.grants.inc; state = p.state; recovering = b; over = p.grants.over; link = link })) h.recovering
+beat-same : (home : Home) (v : NodeValue) (p : PlainNode) (tally : Option (Sess × ℕ)) → StandsForNode home v p → beat_with v tally ≡ beat_of p tally
+beat-same home v p tally h =
+    ap (λ (n : Neighbours). message.Beat (record { inc = n.grants.inc; state = v.state; recovering = v.recovering; over = n.grants.over; tally = tally })) h.links
+    ∙ ap (λ (s : NodeState). message.Beat (record { inc = p.grants.inc; state = s; recovering = v.recovering; over = p.grants.over; tally = tally })) h.state
+    ∙ ap (λ (b : Bool). message.Beat (record { inc = p.grants.inc; state = p.state; recovering = b; over = p.grants.over; tally = tally })) h.recovering
 
 -- to a reader, with its session
 abbrev pub beat_to : NodeValue → ℕ × Sub → code_mail.Mail
-beat_to v x = plain_mail x.0 (beat_with v (link_of x.1))
+beat_to v x = plain_mail x.0 (beat_with v (tally_of x.1))
 
 beats-stand : (home : Home) (v : NodeValue) (p : PlainNode) (xs : List (ℕ × Sub)) → StandsForNode home v p →
-    AreMails home (map (beat_to v) xs) (map (λ (x : ℕ × Sub). mail x.0 (beat_of p (link_of x.1))) xs)
+    AreMails home (map (beat_to v) xs) (map (λ (x : ℕ × Sub). mail x.0 (beat_of p (tally_of x.1))) xs)
 beats-stand home v p [] h = tt
 beats-stand home v p (x ∷ xs) h =
-    (record { to = refl; packet = ap (λ (m : Message). Plain m) (sym (beat-same home v p (link_of x.1) h)) }, beats-stand home v p xs h)
+    (record { to = refl; packet = ap (λ (m : Message). Plain m) (sym (beat-same home v p (tally_of x.1) h)) }, beats-stand home v p xs h)
 
 -- one reader more
 zip-more : (i d : ℕ) (rs : List ℕ) (ss : List Sub) → i < length rs → i < length ss → zip (take (i + 1) rs) ss ≡ zip (take i rs) ss ++ (slice_index_or rs i d, nth no_session ss i) ∷ []
@@ -130,10 +130,10 @@ zip-more zero d (q ∷ rs) (s ∷ ss) low within = refl
 zip-more (suc i) d (q ∷ rs) (s ∷ ss) low within =
     let next : suc i + 1 ≡ suc (i + 1) = omega arith in rw next (ap (λ (xs : List (ℕ × Sub)). (q, s) ∷ xs) (zip-more i d rs ss (omega (arith, low)) (omega (arith, within))))
 
-pub reader-more : (v : NodeValue) (before ms : List code_mail.Mail) (i d : ℕ) (rs : List ℕ) (one : code_mail.Mail) (m : Message) (link : Option (Sess × ℕ)) → one ≡ plain_mail (slice_index_or rs i d) m → i < length rs → i < length v.path.output.subs →
-    link ≡ link_of (nth no_session v.path.output.subs i) → m ≡ beat_with v link → ms ≡ before ++ map (beat_to v) (zip (take i rs) v.path.output.subs) →
+pub reader-more : (v : NodeValue) (before ms : List code_mail.Mail) (i d : ℕ) (rs : List ℕ) (one : code_mail.Mail) (m : Message) (tally : Option (Sess × ℕ)) → one ≡ plain_mail (slice_index_or rs i d) m → i < length rs → i < length v.path.output.subs →
+    tally ≡ tally_of (nth no_session v.path.output.subs i) → m ≡ beat_with v tally → ms ≡ before ++ map (beat_to v) (zip (take i rs) v.path.output.subs) →
     ms ++ one ∷ [] ≡ before ++ map (beat_to v) (zip (take (i + 1) rs) v.path.output.subs)
-reader-more v before ms i d rs one m link told low within known said had =
+reader-more v before ms i d rs one m tally told low within known said had =
     let ss = v.path.output.subs in
     let f = beat_to v in
     let last : one ≡ f (slice_index_or rs i d, nth no_session ss i) =
@@ -160,7 +160,7 @@ all-beats v told peers known each home p h =
     ∙ ap (λ (ys : List (ℕ × Sub)). map (λ a. plain_mail a (beat_of p None)) peers ++ map (beat_to v) ys) own in
     let first = peers-mails home v p (beat_of p None) peers (map (λ a. plain_mail a (beat_of p None)) peers) h known refl in
     let both = mails-append home (map (λ a. plain_mail a (beat_of p None)) peers) (map (beat_to v) xs) (to_each (beat_of p None) (peers_of home))
-    (map (λ (x : ℕ × Sub). mail x.0 (beat_of p (link_of x.1))) xs) first (beats-stand home v p xs h) in
+    (map (λ (x : ℕ × Sub). mail x.0 (beat_of p (tally_of x.1))) xs) first (beats-stand home v p xs h) in
     sorted-mails home told (beats home p) (subst (λ (ms : List code_mail.Mail). AreMails home ms (beats home p)) (sym sent) both)
 
 -- ---- both

@@ -21,8 +21,8 @@ use Rattle.node_links.specs.Linking.{LinksValue}
 use Rattle.node_model.specs.Mails.{Snap, Stepped, mail}
 use Rattle.pipeline.specs.declared.snapshots.Snapshot.{Snapshot}
 use Rattle.node_model.specs.Nodes.{Home, PlainNode, spec_of, own_readers, out_stable, shown}
-use Rattle.node_model.specs.NodeSteps.{silent_step, on_ack, on_subscribe, on_ask, on_snap_ask, reader_place, replica_number, snapshot}
-use Rattle.node_model.specs.Views.{inputs_of, outputs_of}
+use Rattle.node_model.specs.NodeSteps.{idle_step, on_ack, on_subscribe, on_ask, on_snap_ask, reader_place, replica_number, snapshot}
+use Rattle.node_model.specs.NodeParts.{inputs_of, outputs_of}
 use Rattle.pipeline.specs.Flowing.{PipelineValue, StandsForData, IsSetAs, stream_at}
 use Rattle.pipeline.specs.Messages.{HasAnswered, answer_in}
 use Rattle.pipeline.specs.Recovery.{StandsForSnapshot, snap_of}
@@ -46,7 +46,7 @@ pub steps-by : (f : Home → PlainNode → Stepped PlainNode) (old new : NodeVal
     ((home : Home) (p : PlainNode) → StandsForNode home old p → IsFit home p → IsTakenAs new told home (f home p)) → Steps f old new told
 steps-by f old new told h = record { after = λ home p stands fit. (h home p stands fit).after; sends = λ home p stands fit. (h home p stands fit).sends }
 
-pub silently : (home : Home) (v : NodeValue) (p : PlainNode) (told : List code_mail.Mail) → StandsForNode home v p → told ≡ [] → IsTakenAs v told home (silent_step p)
+pub silently : (home : Home) (v : NodeValue) (p : PlainNode) (told : List code_mail.Mail) → StandsForNode home v p → told ≡ [] → IsTakenAs v told home (idle_step p)
 silently home v p told h e = record { after = h; sends = subst (λ (ms : List code_mail.Mail). AreMails home ms []) (sym e) tt }
 
 one-mail : (home : Home) (a b : ℕ) (m : Message) → a ≡ b → AreMails home (plain_mail a m ∷ []) (mail b m ∷ [])
@@ -84,7 +84,7 @@ stream-alike home v p h =
     ∙ ap (λ (b : Bool). stream_by (fragment_value (spec_of home).ops) home.plan.width b (inputs_of p)) h.setting.marks
 
 unless-up : (f : Home → PlainNode → Stepped PlainNode) (home : Home) (v : NodeValue) (p : PlainNode) → StandsForNode home v p → v.recovering ≡ false → unless_recovering f home p ≡ f home p
-unless-up f home v p h up = ap (λ (b : Bool). if b then silent_step p else f home p) (sym h.recovering ∙ up)
+unless-up f home v p h up = ap (λ (b : Bool). if b then idle_step p else f home p) (sym h.recovering ∙ up)
 
 -- ---- acknowledgements
 
@@ -115,8 +115,8 @@ acked home v p path a k inc count h up found set flows =
 pub subscribed-nobody : (home : Home) (v : NodeValue) (p : PlainNode) (a : ℕ) (asked : Subscribe) (told : List code_mail.Mail) → StandsForNode home v p → None ≡ reader_place home a → told ≡ [] →
     IsTakenAs v told home (unless_recovering (λ home p. on_subscribe home asked (reader_place home a) p) home p)
 subscribed-nobody home v p a asked told h found none =
-    subst (λ (o : Option ℕ). IsTakenAs v told home (if p.recovering then silent_step p else on_subscribe home asked o p)) found
-    (elim p.recovering as (λ (b : Bool). IsTakenAs v told home (if b then silent_step p else silent_step p)) [ true ↦ silently home v p told h none | false ↦ silently home v p told h none ])
+    subst (λ (o : Option ℕ). IsTakenAs v told home (if p.recovering then idle_step p else on_subscribe home asked o p)) found
+    (elim p.recovering as (λ (b : Bool). IsTakenAs v told home (if b then idle_step p else idle_step p)) [ true ↦ silently home v p told h none | false ↦ silently home v p told h none ])
 
 abbrev answer_mail : ℕ → Option Message → List code_mail.Mail
 answer_mail a None = []
@@ -167,8 +167,8 @@ asked home v p links a r inc ask granted told h found test made sent =
     record { after = record p { grants = with_promise p.grants r (inc, ask) }; sends = mail (nth 0 (replicas_of home.plan home.frag) r) (message.Grant inc ask) ∷ [] } in
     let same : grants p.grants p.state r (inc, ask) ≡ granted =
     sym (test ∙ ap (λ (n : Neighbours). grants n.grants v.state r (inc, ask)) h.links ∙ ap (λ (s : NodeState). grants p.grants s r (inc, ask)) h.state) in
-    let is : on_ask home inc ask (replica_number home a) p ≡ (if granted then yes else silent_step p) =
-    ap (λ (o : Option ℕ). on_ask home inc ask o p) (sym found) ∙ ap (λ (b : Bool). if b then yes else silent_step p) same in
+    let is : on_ask home inc ask (replica_number home a) p ≡ (if granted then yes else idle_step p) =
+    ap (λ (o : Option ℕ). on_ask home inc ask o p) (sym found) ∙ ap (λ (b : Bool). if b then yes else idle_step p) same in
     subst (λ (s : Stepped PlainNode). IsTakenAs (record v { links = links }) told home s) (sym is) (answered granted made sent)
   where
     given : Neighbours → Neighbours
@@ -176,7 +176,7 @@ asked home v p links a r inc ask granted told h found test made sent =
 
     answered : (b : Bool) → links ≡ (if b then record v.links { known = given v.links.known } else v.links) → told ≡ (if b then plain_mail a (message.Grant inc ask) ∷ [] else []) →
         IsTakenAs (record v { links = links }) told home
-        (if b then record { after = record p { grants = with_promise p.grants r (inc, ask) }; sends = mail (nth 0 (replicas_of home.plan home.frag) r) (message.Grant inc ask) ∷ [] } else silent_step p)
+        (if b then record { after = record p { grants = with_promise p.grants r (inc, ask) }; sends = mail (nth 0 (replicas_of home.plan home.frag) r) (message.Grant inc ask) ∷ [] } else idle_step p)
     answered true made sent =
         let q = record p { grants = with_promise p.grants r (inc, ask) } in
         record {

@@ -4,15 +4,15 @@ use Rattle.std.specs.Prelude.{if◌then◌else◌}
 use Rattle.dpc_model.specs.Granting.{own_key, with_ask}
 use Rattle.dpc_lists.specs.Lists.{list_all}
 use Rattle.dpc_model.specs.Parts.{Neighbours}
-use Rattle.dpc_model.specs.Replicas.{is_silent}
+use Rattle.dpc_model.specs.Replicas.{is_absent}
 use Rattle.dpc_model.specs.declared.messages.Message.TheVariants as message
 use Rattle.node_links.specs.Linking.{LinksValue, peers_in, asking, after_asking}
 use Rattle.node_links.specs.declared.links.Asked.{Asked}
 use Rattle.node_links.specs.declared.links.Asked.TheVariants as asked
 use Rattle.node_model.specs.Mails.{Stepped, to_each}
 use Rattle.node_model.specs.Nodes.{Home, PlainNode, out_stable, wants_to_reconcile}
-use Rattle.node_model.specs.NodeSteps.{silent_step, peers_of, peer_watches, enter_step, ask_step, snapshot_ask_step}
-use Rattle.node_model.specs.Views.{neighbours_of}
+use Rattle.node_model.specs.NodeSteps.{idle_step, peers_of, peer_watches, enter_step, ask_step, snapshot_ask_step}
+use Rattle.node_model.specs.NodeParts.{neighbours_of}
 use Rattle.law_node.specs.Fitting.{IsFit}
 use Rattle.node_core.specs.declared.packets.Mail as code_mail
 use Rattle.node_core.specs.Standing.{NodeValue, StandsForNode, AreMails}
@@ -35,26 +35,26 @@ ask_by wants free silent home p =
     if wants && free
     then (if silent then enter_step home p
     else record { after = record p { grants = with_ask p.grants }; sends = to_each (message.Ask (own_key p.grants).0 (own_key p.grants).1) (peers_of home) })
-    else silent_step p
+    else idle_step p
 
-ask-is : (home : Home) (p : PlainNode) (wants free silent : Bool) → wants_to_reconcile home p ≡ wants → is_none p.grants.promise ≡ free → list_all is_silent (peer_watches home p) ≡ silent →
+ask-is : (home : Home) (p : PlainNode) (wants free silent : Bool) → wants_to_reconcile home p ≡ wants → is_none p.grants.promise ≡ free → list_all is_absent (peer_watches home p) ≡ silent →
     ask_step home p ≡ ask_by wants free silent home p
 ask-is home p wants free silent e f g =
-    ap (λ (b : Bool). ask_by b (is_none p.grants.promise) (list_all is_silent (peer_watches home p)) home p) e
-    ∙ ap (λ (b : Bool). ask_by wants b (list_all is_silent (peer_watches home p)) home p) f ∙ ap (λ (b : Bool). ask_by wants free b home p) g
+    ap (λ (b : Bool). ask_by b (is_none p.grants.promise) (list_all is_absent (peer_watches home p)) home p) e
+    ∙ ap (λ (b : Bool). ask_by wants b (list_all is_absent (peer_watches home p)) home p) f ∙ ap (λ (b : Bool). ask_by wants free b home p) g
 
-silent-same : (wants free silent : Bool) (home : Home) (p : PlainNode) → (wants && free) ≡ false → ask_by wants free silent home p ≡ silent_step p
+silent-same : (wants free silent : Bool) (home : Home) (p : PlainNode) → (wants && free) ≡ false → ask_by wants free silent home p ≡ idle_step p
 silent-same wants free silent home p e =
     ap (λ (b : Bool). if b then (if silent then enter_step home p
     else record { after = record p { grants = with_ask p.grants }; sends = to_each (message.Ask (own_key p.grants).0 (own_key p.grants).1) (peers_of home) })
-    else silent_step p) e
+    else idle_step p) e
 
 -- what the links answer
 abbrev asked_by : Bool → Bool → ℕ → ℕ → Option Asked
 asked_by free silent inc ask = if free then (if silent then Some asked.Enter else Some (asked.Ask inc ask)) else None
 
 asking-plain : (home : Home) (v : NodeValue) (p : PlainNode) → StandsForNode home v p →
-    asking v.links.me v.links.known ≡ asked_by (is_none p.grants.promise) (list_all is_silent (peer_watches home p)) (own_key p.grants).0 (own_key p.grants).1
+    asking v.links.me v.links.known ≡ asked_by (is_none p.grants.promise) (list_all is_absent (peer_watches home p)) (own_key p.grants).0 (own_key p.grants).1
 asking-plain home v p h = ap (λ (x : Neighbours). asking v.links.me x) h.links ∙ ap (λ (me : ℕ). asking me (neighbours_of p)) h.knows.me
 
 is-nothing : (free silent : Bool) (inc ask : ℕ) → asked_by free silent inc ask ≡ None → free ≡ false
@@ -117,17 +117,17 @@ pub promised : (v : NodeValue) (links : LinksValue) (told : Option Asked) → li
     Steps ask_step v (record v { links = links }) []
 promised v links told same from none = record {
   after = λ home p h fit.
-      let free = is-nothing (is_none p.grants.promise) (list_all is_silent (peer_watches home p)) (own_key p.grants).0 (own_key p.grants).1 (sym (asking-plain home v p h) ∙ sym from ∙ none) in
+      let free = is-nothing (is_none p.grants.promise) (list_all is_absent (peer_watches home p)) (own_key p.grants).0 (own_key p.grants).1 (sym (asking-plain home v p h) ∙ sym from ∙ none) in
       subst (λ (s : Stepped PlainNode). StandsForNode home (record v { links = links }) s.after) (sym (rests home p free)) (rests-stand home v p links h same free);
   sends = λ home p h fit.
-      let free = is-nothing (is_none p.grants.promise) (list_all is_silent (peer_watches home p)) (own_key p.grants).0 (own_key p.grants).1 (sym (asking-plain home v p h) ∙ sym from ∙ none) in
+      let free = is-nothing (is_none p.grants.promise) (list_all is_absent (peer_watches home p)) (own_key p.grants).0 (own_key p.grants).1 (sym (asking-plain home v p h) ∙ sym from ∙ none) in
       subst (λ (s : Stepped PlainNode). AreMails home [] s.sends) (sym (rests home p free)) tt;
 }
   where
-    rests : (home : Home) (p : PlainNode) → is_none p.grants.promise ≡ false → ask_step home p ≡ silent_step p
+    rests : (home : Home) (p : PlainNode) → is_none p.grants.promise ≡ false → ask_step home p ≡ idle_step p
     rests home p free =
-        ask-is home p (wants_to_reconcile home p) false (list_all is_silent (peer_watches home p)) refl free refl
-        ∙ silent-same (wants_to_reconcile home p) false (list_all is_silent (peer_watches home p)) home p (and-false (wants_to_reconcile home p))
+        ask-is home p (wants_to_reconcile home p) false (list_all is_absent (peer_watches home p)) refl free refl
+        ∙ silent-same (wants_to_reconcile home p) false (list_all is_absent (peer_watches home p)) home p (and-false (wants_to_reconcile home p))
       where
         and-false : (b : Bool) → (b && false) ≡ false
         and-false true = refl
@@ -135,9 +135,9 @@ promised v links told same from none = record {
 
 -- every other one is silent
 pub alone : (v : NodeValue) (told : Option Asked) (home : Home) (p : PlainNode) → StandsForNode home v p → told ≡ asking v.links.me v.links.known → told ≡ Some asked.Enter →
-    (is_none p.grants.promise ≡ true) × (list_all is_silent (peer_watches home p) ≡ true)
+    (is_none p.grants.promise ≡ true) × (list_all is_absent (peer_watches home p) ≡ true)
 alone v told home p h from enter =
-    is-enter (is_none p.grants.promise) (list_all is_silent (peer_watches home p)) (own_key p.grants).0 (own_key p.grants).1 (sym (asking-plain home v p h) ∙ sym from ∙ enter)
+    is-enter (is_none p.grants.promise) (list_all is_absent (peer_watches home p)) (own_key p.grants).0 (own_key p.grants).1 (sym (asking-plain home v p h) ∙ sym from ∙ enter)
 
 enters-so : (home : Home) (p : PlainNode) → enter_step home p ≡ taken_back home (record p { grants = with_ask p.grants })
 unfolding enter_step out_stable
@@ -162,7 +162,7 @@ entered v new links told sent wish same from enter steps = record {
       (steps.sends home (record p { grants = with_ask p.grants }) (asks-stand home v p links h same (alone v told home p h from enter).0) (fit-asked home p fit));
 }
   where
-    so : (home : Home) (p : PlainNode) → true ≡ wants_to_reconcile home p → is_none p.grants.promise ≡ true → list_all is_silent (peer_watches home p) ≡ true →
+    so : (home : Home) (p : PlainNode) → true ≡ wants_to_reconcile home p → is_none p.grants.promise ≡ true → list_all is_absent (peer_watches home p) ≡ true →
         ask_step home p ≡ taken_back home (record p { grants = with_ask p.grants })
     so home p e f g = ask-is home p true true true (sym e) f g ∙ enters-so home p
 
@@ -184,10 +184,10 @@ others-asked v links told inc ask peers sent wish same from asks all each = reco
 }
   where
     key : (home : Home) (p : PlainNode) → StandsForNode home v p →
-        (is_none p.grants.promise ≡ true) × ((list_all is_silent (peer_watches home p) ≡ false) × ((inc ≡ (own_key p.grants).0) × (ask ≡ (own_key p.grants).1)))
+        (is_none p.grants.promise ≡ true) × ((list_all is_absent (peer_watches home p) ≡ false) × ((inc ≡ (own_key p.grants).0) × (ask ≡ (own_key p.grants).1)))
     key home p h =
-        is-ask (is_none p.grants.promise) (list_all is_silent (peer_watches home p)) (own_key p.grants).0 (own_key p.grants).1 inc ask (sym (asking-plain home v p h) ∙ sym from ∙ asks)
+        is-ask (is_none p.grants.promise) (list_all is_absent (peer_watches home p)) (own_key p.grants).0 (own_key p.grants).1 inc ask (sym (asking-plain home v p h) ∙ sym from ∙ asks)
 
-    so : (home : Home) (p : PlainNode) → true ≡ wants_to_reconcile home p → is_none p.grants.promise ≡ true → list_all is_silent (peer_watches home p) ≡ false →
+    so : (home : Home) (p : PlainNode) → true ≡ wants_to_reconcile home p → is_none p.grants.promise ≡ true → list_all is_absent (peer_watches home p) ≡ false →
         ask_step home p ≡ ask_by true true false home p
     so home p e f g = ask-is home p true true false (sym e) f g

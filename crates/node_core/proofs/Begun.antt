@@ -14,7 +14,7 @@ use Rattle.dpc_model.specs.declared.plans.Plan.{Plan}
 use Rattle.dpc_model.specs.declared.plans.StreamRef.{StreamRef}
 use Rattle.dpc_lists.proofs.Places.{same-each}
 use Rattle.node_model.specs.Nodes.{Home, no_fragment, spec_of, streams_of, own_readers, PlainNode, new_node, restarted_node, first_session}
-use Rattle.node_model.specs.Views.{inputs_of, outputs_of, neighbours_of}
+use Rattle.node_model.specs.NodeParts.{inputs_of, outputs_of, neighbours_of}
 use Rattle.node_links.specs.Linking.{LinksValue, new_links}
 use Rattle.node_links.specs.Laws.{KnowsNeighbours}
 use Rattle.node_links.proofs.Lawful.{new-links-stand}

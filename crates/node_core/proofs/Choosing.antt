@@ -24,7 +24,7 @@ use Rattle.pipeline.proofs.Plainly.{broken-shown, answered-shown}
 use Rattle.node_model.specs.Mails.{Plain, mails}
 use Rattle.node_model.specs.Nodes.{Home, spec_of, streams_of, PlainNode}
 use Rattle.node_model.specs.NodeSteps.{with_port}
-use Rattle.node_model.specs.Views.{inputs_of, outputs_of, upstream_of, neighbours_of}
+use Rattle.node_model.specs.NodeParts.{inputs_of, outputs_of, upstream_of, neighbours_of}
 use Rattle.law_node.specs.Fitting.{IsFit}
 use Rattle.law_node.proofs.Messages.{choice-inputs, choice-neighbours}
 use Rattle.law_node.proofs.Viewed.{inlet-at}

@@ -9,7 +9,7 @@ use Rattle.fragment_mill.specs.Mills.{MillState}
 use Rattle.mill_work.specs.Milling.{OrderValue}
 use Rattle.pipeline.specs.Committing.{ready_in, CanMillReady, IsAt, IsDone, CanPut}
 use Rattle.node_model.specs.Nodes.{Home, spec_of, buckets_of, PlainNode, ready}
-use Rattle.node_model.specs.Views.{inputs_of, outputs_of}
+use Rattle.node_model.specs.NodeParts.{inputs_of, outputs_of}
 use Rattle.law_node.specs.Fitting.{IsFit}
 use Rattle.law_node.proofs.Buckets.{buckets-are}
 use Rattle.law_node.proofs.Fits.{are-ready, some-ready}

@@ -4,7 +4,7 @@ use Rattle.std.proofs.lemmas.Grind.{common_steps}
 use Rattle.std.proofs.lemmas.List.{length-map}
 use Rattle.std.specs.Prelude.{if◌then◌else◌}
 use Rattle.dpc_lists.specs.Lists.{nth, place_of}
-use Rattle.dpc_model.specs.Inlets.{InletState, AfterBatch, take_batch, after_link}
+use Rattle.dpc_model.specs.Inlets.{InletState, AfterBatch, take_batch, after_tally}
 use Rattle.dpc_model.specs.Ports.{Port, no_port, sender_at}
 use Rattle.dpc_model.specs.Parts.{Inputs, Outputs, Upstream, Neighbours, done_in}
 use Rattle.dpc_model.specs.Actors.{senders_of}
@@ -22,7 +22,7 @@ use Rattle.node_links.proofs.Lawful.{finds-senders, messages-stand}
 use Rattle.node_links.proofs.Within.{sender-within}
 use Rattle.node_model.specs.Nodes.{Home, PlainNode, spec_of, streams_of}
 use Rattle.node_model.specs.NodeSteps.{after_taking, on_batch, on_upstream_beat, on_peer_beat, replica_number}
-use Rattle.node_model.specs.Views.{inputs_of, outputs_of, upstream_of, neighbours_of}
+use Rattle.node_model.specs.NodeParts.{inputs_of, outputs_of, upstream_of, neighbours_of}
 use Rattle.pipeline.specs.Flowing.{PipelineValue, StandsForData, IsSetAs}
 use Rattle.pipeline.specs.Messages.{IsTakenAt}
 use Rattle.law_node.specs.Fitting.{IsFit, IsFitMessage}
@@ -125,7 +125,7 @@ batch-taken home v p path a port r index s items answer h found read fits set ta
 -- the port that reads the sender hears the link
 abbrev pub heard_in : Beat → Option ℕ → Inputs → Inputs
 heard_in b None x = x
-heard_in b (Some port) x = with_inlet port (λ (i : InletState). after_link i b.link) x
+heard_in b (Some port) x = with_inlet port (λ (i : InletState). after_tally i b.tally) x
 
 own-inputs : (b : Beat) (r : Option ℕ) (n : PlainNode) → inputs_of (on_peer_beat b r n) ≡ inputs_of n
 own-inputs b None n = refl
@@ -135,7 +135,7 @@ upstream-hears : (b : Beat) (o : Option (ℕ × ℕ)) (n : PlainNode) → inputs
 upstream-hears b None n = refl
 upstream-hears b (Some (port, r)) n =
     let x = inputs_of n in
-    let hears : Bool → Inputs = λ c. if c then with_inlet port (λ (i : InletState). after_link i b.link) x else x in
+    let hears : Bool → Inputs = λ c. if c then with_inlet port (λ (i : InletState). after_tally i b.tally) x else x in
     let alike : (c : Bool) → hears c ≡ heard_in b (if c then Some port else None) x = λ c. (elim c as (λ c. hears c ≡ heard_in b (if c then Some port else None) x) [ true ↦ refl | false ↦ refl ]) in
     beat-inputs b port r n ∙ alike (r == (nth no_port n.ports port).chosen)
     ∙ ap (λ (u : Upstream). heard_in b (if r == u.chosen then Some port else None) x) (sym (seen-at port n.ports))

@@ -10,8 +10,8 @@ use Rattle.node_links.specs.Linking.{LinksValue}
 use Rattle.node_model.specs.Mails.{Snap, Packet, Plain, SnapFor, Stepped}
 use Rattle.pipeline.specs.declared.snapshots.Snapshot.{Snapshot}
 use Rattle.node_model.specs.Nodes.{Home, PlainNode, out_stable}
-use Rattle.node_model.specs.NodeSteps.{silent_step, enter_step, after_adoption, on_grant, on_snap, on_message, packet_step, with_marks_ended}
-use Rattle.node_model.specs.Views.{neighbours_of}
+use Rattle.node_model.specs.NodeSteps.{idle_step, enter_step, after_adoption, on_grant, on_snap, on_message, packet_step, with_marks_ended}
+use Rattle.node_model.specs.NodeParts.{neighbours_of}
 use Rattle.law_node.specs.Fitting.{IsFit, IsFitPacket}
 use Rattle.law_node.proofs.FitNodes.{fit-marks}
 use Rattle.node_core.specs.declared.packets.Mail as code_mail
@@ -26,9 +26,9 @@ use Rattle.node_core.proofs.Answering.{silently}
 
 -- a plain node takes a grant as what is known there says
 grant-is : (home : Home) (v : NodeValue) (p : PlainNode) (inc ask : ℕ) (b : Bool) → StandsForNode home v p → (is_up_failure v.state && may_enter_by v.links.known.grants (inc, ask)) ≡ b →
-    on_grant home inc ask p ≡ (if b then enter_step home p else silent_step p)
+    on_grant home inc ask p ≡ (if b then enter_step home p else idle_step p)
 grant-is home v p inc ask b h e =
-    let leaves : Bool → Stepped PlainNode = λ c. if c then enter_step home p else silent_step p in
+    let leaves : Bool → Stepped PlainNode = λ c. if c then enter_step home p else idle_step p in
     sym (ap (λ (s : NodeState). leaves (is_up_failure s && may_enter_by p.grants (inc, ask))) h.state)
     ∙ sym (ap (λ (n : Neighbours). leaves (is_up_failure v.state && may_enter_by n.grants (inc, ask))) h.links) ∙ ap leaves e
 
@@ -66,7 +66,7 @@ told-by f home p sender old new m n told e can steps is =
 
 -- or by a step that sends nothing
 pub silent-by : (home : Home) (p q : PlainNode) (sender : ℕ) (new now : NodeValue) (m n : Message) (told : List code_mail.Mail) → m ≡ n → now ≡ new →
-    StandsForNode home new q → told ≡ [] → on_message home sender n p ≡ silent_step q → IsTakenAs now told home (on_message home sender m p)
+    StandsForNode home new q → told ≡ [] → on_message home sender n p ≡ idle_step q → IsTakenAs now told home (on_message home sender m p)
 silent-by home p q sender new now m n told e same h none is =
     subst (λ (s : Stepped PlainNode). IsTakenAs now told home s) (sym (ap (λ (x : Message). on_message home sender x p) e ∙ is))
     (silently home now q told (subst (λ (v : NodeValue). StandsForNode home v q) (sym same) h) none)

@@ -14,7 +14,7 @@ use Rattle.pipeline.specs.Flowing.{PipelineValue, StandsForData, IsSetAs, IsMill
 use Rattle.node_model.specs.Mails.{Mail}
 use Rattle.node_model.specs.Nodes.{Home, spec_of, own_readers, PlainNode}
 use Rattle.node_model.specs.NodeSteps.{mill_step}
-use Rattle.node_model.specs.Views.{inputs_of, outputs_of, neighbours_of}
+use Rattle.node_model.specs.NodeParts.{inputs_of, outputs_of, neighbours_of}
 use Rattle.law_node.proofs.FitNodes.{node-ready}
 use Rattle.law_node.proofs.Stepped.{made_by, ends_by, mill_items, mill-inputs, mill-sends, mill-outputs}
 use Rattle.law_node.proofs.Viewed.{made_of}

@@ -13,7 +13,7 @@ use Rattle.mill_work.specs.Milling.{OrderValue}
 use Rattle.pipeline.specs.Flowing.{IsMillOf}
 use Rattle.pipeline.proofs.Work.{cursor-mill}
 use Rattle.node_model.specs.Nodes.{Home, spec_of, PlainNode}
-use Rattle.node_model.specs.Views.{inputs_of}
+use Rattle.node_model.specs.NodeParts.{inputs_of}
 use Rattle.law_node.proofs.Buckets.{buckets-are}
 use Rattle.node_core.specs.Milling.{CanMill, next_buckets, CanBeMilled}
 use Rattle.node_core.specs.Standing.{NodeValue}

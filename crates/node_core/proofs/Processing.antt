@@ -2,9 +2,9 @@
 use Rattle.std.proofs.Common.{◌≡◌, ℕ, ◌-◌, ◌<◌, Bool, false, not, ◌==◌, nat_lt, List, [], ◌∷◌, map, length, refl, sym, ap, subst, ◌∙◌, arith, Option, Some, None}
 use Rattle.std.proofs.lemmas.Grind.{common_steps}
 use Rattle.std.specs.Prelude.{if◌then◌else◌}
-use Rattle.dpc_model.specs.Due.{DueView, last_due, delay_of}
+use Rattle.dpc_model.specs.Due.{DueInputs, last_due, delay_of}
 use Rattle.dpc_lists.specs.Lists.{nth, is_nil}
-use Rattle.dpc_model.specs.Parts.{Inputs, Outputs, Stream, view_of}
+use Rattle.dpc_model.specs.Parts.{Inputs, Outputs, Stream, frontier_of}
 use Rattle.dpc_model.specs.Reading.{Reader}
 use Rattle.dpc_model.specs.Sessions.{batches_of}
 use Rattle.dpc_model.specs.declared.messages.Message.{Message}
@@ -17,9 +17,9 @@ use Rattle.sunion.specs.Unions.{held_in, last_due_in, after_advancing}
 use Rattle.law_buckets.specs.Series.{AreReady, CanClose}
 use Rattle.pipeline.specs.Flowing.{PipelineValue, StandsForData, IsSetAs, CanProcess, IsProcessedTo, stream_at, items_between, processed_items, outputs_given, count_upto, stably_upto, after_processing}
 use Rattle.node_model.specs.Mails.{Stepped, Mail, to_readers}
-use Rattle.node_model.specs.Nodes.{Home, spec_of, own_readers, buckets_of, PlainNode, due_at, due_view}
-use Rattle.node_model.specs.NodeSteps.{silent_step, processing_upto, processing_step}
-use Rattle.node_model.specs.Views.{inputs_of, outputs_of}
+use Rattle.node_model.specs.Nodes.{Home, spec_of, own_readers, buckets_of, PlainNode, due_at, due_inputs}
+use Rattle.node_model.specs.NodeSteps.{idle_step, processing_upto, processing_step}
+use Rattle.node_model.specs.NodeParts.{inputs_of, outputs_of}
 use Rattle.law_node.specs.Fitting.{IsFit}
 use Rattle.law_node.proofs.Buckets.{held-in-is}
 use Rattle.law_node.proofs.Fits.{due-lies, can-close, can-advance}
@@ -35,14 +35,14 @@ use Rattle.node_core.proofs.Mailing.{readers-mails}
 pub due-same : (home : Home) (v : NodeValue) (p : PlainNode) → StandsForNode home v p → last_due_in v.path.union v.path.passing v.clock (inputs_of p) ≡ due_at home p p.clock
 due-same home v p h =
     let x = inputs_of p in
-    let view : ℕ → ℕ → Bool → List Reader → DueView = λ w d b rs.
-    record { width = w; delay = d; passing = b; ports = rs; stamps = p.stamps; view = view_of x; any_closed = not (is_nil p.closed) } in
-    ap (λ (w : ℕ). last_due (view w v.path.union.delay v.path.passing (held_in x)) v.clock v.path.union.buckets) h.setting.width
-    ∙ ap (λ (d : ℕ). last_due (view home.plan.width d v.path.passing (held_in x)) v.clock v.path.union.buckets) h.setting.delay
-    ∙ ap (λ (b : Bool). last_due (view home.plan.width (delay_of home.plan (spec_of home)) b (held_in x)) v.clock v.path.union.buckets) h.setting.marks
-    ∙ ap (λ (rs : List Reader). last_due (view home.plan.width (delay_of home.plan (spec_of home)) home.plan.passing rs) v.clock v.path.union.buckets) (held-in-is p)
-    ∙ ap (λ (n : ℕ). last_due (due_view home p) v.clock n) h.setting.buckets
-    ∙ ap (λ (now : ℕ). last_due (due_view home p) now (buckets_of home.plan)) h.clock
+    let frontier : ℕ → ℕ → Bool → List Reader → DueInputs = λ w d b rs.
+    record { width = w; delay = d; passing = b; ports = rs; stamps = p.stamps; frontier = frontier_of x; any_closed = not (is_nil p.closed) } in
+    ap (λ (w : ℕ). last_due (frontier w v.path.union.delay v.path.passing (held_in x)) v.clock v.path.union.buckets) h.setting.width
+    ∙ ap (λ (d : ℕ). last_due (frontier home.plan.width d v.path.passing (held_in x)) v.clock v.path.union.buckets) h.setting.delay
+    ∙ ap (λ (b : Bool). last_due (frontier home.plan.width (delay_of home.plan (spec_of home)) b (held_in x)) v.clock v.path.union.buckets) h.setting.marks
+    ∙ ap (λ (rs : List Reader). last_due (frontier home.plan.width (delay_of home.plan (spec_of home)) home.plan.passing rs) v.clock v.path.union.buckets) (held-in-is p)
+    ∙ ap (λ (n : ℕ). last_due (due_inputs home p) v.clock n) h.setting.buckets
+    ∙ ap (λ (now : ℕ). last_due (due_inputs home p) now (buckets_of home.plan)) h.clock
 
 -- what the data path tells of the bucket that is due
 abbrev pub TellsDue : NodeValue → Option ℕ → Type 0
@@ -53,7 +53,7 @@ told-due home v p told h tells = sym (due-same home v p h) ∙ sym (tells (spec_
 
 -- the plain step, by its tests
 abbrev process_by : Bool → Option ℕ → Home → PlainNode → Stepped PlainNode
-process_by reconciles due home p = if reconciles then silent_step p else elim due [ None ↦ silent_step p | Some last ↦ processing_upto home last p ]
+process_by reconciles due home p = if reconciles then idle_step p else elim due [ None ↦ idle_step p | Some last ↦ processing_upto home last p ]
 
 pub not-stabilizing : (s : NodeState) → (s ≡ Stabilization → ⊥) → is_stabilization s ≡ false
 not-stabilizing Stable other = refl
@@ -67,7 +67,7 @@ none-due v told state tells none = record {
   sends = λ home p h fit. subst (λ (s : Stepped PlainNode). AreMails home [] s.sends) (sym (so home p h)) tt;
 }
   where
-    so : (home : Home) (p : PlainNode) → StandsForNode home v p → processing_step home p ≡ silent_step p
+    so : (home : Home) (p : PlainNode) → StandsForNode home v p → processing_step home p ≡ idle_step p
     so home p h =
         ap (λ (b : Bool). process_by b (due_at home p p.clock) home p) (ap is_stabilization (sym h.state) ∙ state)
         ∙ ap (λ (o : Option ℕ). process_by false o home p) (told-due home v p told h tells ∙ none)
@@ -77,11 +77,11 @@ pub can-process : (home : Home) (v : NodeValue) (p : PlainNode) (last : ℕ) →
     CanProcess (spec_of home).ops v.path (inputs_of p) (outputs_of p) last
 can-process home v p last h fit due =
     let x = inputs_of p in
-    let lies = due-lies (due_view home p) p.clock (buckets_of home.plan) last due in
+    let lies = due-lies (due_inputs home p) p.clock (buckets_of home.plan) last due in
     let pos : 0 < home.plan.width = subst (λ (w : ℕ). 0 < w) h.setting.width h.path.some in
     record {
       stands = h.path;
-      view = lies.0;
+      frontier = lies.0;
       stable = subst (λ (w : ℕ). 0 < stably_upto w last x → AreReady w x (stably_upto w last x)) (sym h.setting.width)
           (can-advance home.plan.width (buckets_of home.plan) home.plan.end last x pos fit.end fit.inputs);
       closing = subst (λ (w : ℕ). CanClose w (after_advancing (stably_upto w last x) x) (count_upto last x - stably_upto w last x)) (sym h.setting.width)

@@ -12,7 +12,7 @@ use Rattle.pipeline.specs.Committing.{ready_in}
 use Rattle.pipeline.specs.Flowing.{PipelineValue, StandsForData}
 use Rattle.node_model.specs.Nodes.{Home, spec_of, PlainNode, complete_buckets, ready}
 use Rattle.node_model.specs.NodeSteps.{after_stable_buckets}
-use Rattle.node_model.specs.Views.{inputs_of, outputs_of}
+use Rattle.node_model.specs.NodeParts.{inputs_of, outputs_of}
 use Rattle.law_node.proofs.Buckets.{ready-is}
 use Rattle.node_core.specs.Milling.{CanMill}
 use Rattle.node_core.specs.Standing.{NodeValue, StandsForNode}

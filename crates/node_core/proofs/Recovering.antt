@@ -14,7 +14,7 @@ use Rattle.dpc_model.specs.declared.tuples.Tuple.{Tuple}
 use Rattle.node_model.specs.Mails.{Snap}
 use Rattle.node_model.specs.Nodes.{Home, spec_of, own_readers, PlainNode, out_stable}
 use Rattle.node_model.specs.NodeSteps.{after_loss, after_adoption, with_fresh_start, emptied_port, adopted_ports, snapshot}
-use Rattle.node_model.specs.Views.{inputs_of, outputs_of, upstream_of, neighbours_of}
+use Rattle.node_model.specs.NodeParts.{inputs_of, outputs_of, upstream_of, neighbours_of}
 use Rattle.upstream.specs.Upstreams.{with_no_tick}
 use Rattle.node_links.specs.Linking.{LinksValue, with_recovery, with_upstreams}
 use Rattle.node_links.proofs.Lawful.{messages-stand}

@@ -14,7 +14,7 @@ use Rattle.node_links.proofs.Lawful.{ticks-stand}
 use Rattle.pipeline.specs.Flowing.{StandsForData}
 use Rattle.node_model.specs.Nodes.{Home, spec_of, PlainNode, held_by}
 use Rattle.node_model.specs.NodeSteps.{after_clock}
-use Rattle.node_model.specs.Views.{inputs_of, outputs_of, neighbours_of}
+use Rattle.node_model.specs.NodeParts.{inputs_of, outputs_of, neighbours_of}
 use Rattle.law_node.proofs.Buckets.{held-in-is}
 use Rattle.law_node.proofs.Viewed.{same-inlets}
 use Rattle.node_core.specs.Standing.{NodeValue, StandsForNode}

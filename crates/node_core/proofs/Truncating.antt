@@ -18,7 +18,7 @@ use Rattle.node_links.proofs.Lawful.{messages-stand}
 use Rattle.node_model.specs.Nodes.{Home, PlainNode, spec_of, streams_of, buckets_of}
 use Rattle.node_model.specs.NodeSteps.{with_port, after_loss, on_truncation}
 use Rattle.node_model.specs.NodeSteps.{with_marks_ended as with_ended_marks}
-use Rattle.node_model.specs.Views.{inputs_of, outputs_of, upstream_of, neighbours_of}
+use Rattle.node_model.specs.NodeParts.{inputs_of, outputs_of, upstream_of, neighbours_of}
 use Rattle.pipeline.proofs.Plainly.{sess-shown}
 use Rattle.law_node.specs.Fitting.{AreFitInputs, IsFit}
 use Rattle.law_node.proofs.Viewed.{inlets, inlet-at}

@@ -8,7 +8,7 @@ use Rattle.dpc_model.specs.PartStands.{StandsForLinks}
 use Rattle.dpc_model.specs.declared.messages.NodeState.{NodeState}
 use Rattle.node_model.specs.Mails.{Snap, Packet, Plain, SnapFor, Mail}
 use Rattle.node_model.specs.Nodes.{Home, spec_of, own_readers, PlainNode}
-use Rattle.node_model.specs.Views.{inputs_of, outputs_of, neighbours_of}
+use Rattle.node_model.specs.NodeParts.{inputs_of, outputs_of, neighbours_of}
 use Rattle.node_links.specs.Linking.{LinksValue}
 use Rattle.node_links.specs.Laws.{KnowsNeighbours}
 use Rattle.pipeline.specs.Flowing.{PipelineValue, StandsForData}

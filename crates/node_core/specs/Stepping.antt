@@ -13,7 +13,7 @@ use Rattle.pipeline.specs.Recovery.{StandsForSnapshot}
 use Rattle.node_model.specs.Stands.{SnapValue}
 use Rattle.node_model.specs.Mails.{Snap, Packet, Stepped, mails}
 use Rattle.node_model.specs.Nodes.{Home, spec_of, PlainNode, streams_of, out_stable}
-use Rattle.node_model.specs.NodeSteps.{give, with_port, silent_step, packet_step}
+use Rattle.node_model.specs.NodeSteps.{give, with_port, idle_step, packet_step}
 use Rattle.node_core.specs.declared.packets.Packet as code
 use Rattle.node_core.specs.declared.packets.Mail as code_mail
 use Rattle.node_core.specs.declared.packets.Packet.TheVariants as packet
@@ -52,11 +52,11 @@ choice_at_port port home p =
 
 -- a recovering node says nothing to readers
 abbrev pub unless_recovering : (Home → PlainNode → Stepped PlainNode) → Home → PlainNode → Stepped PlainNode
-unless_recovering f home p = if p.recovering then silent_step p else f home p
+unless_recovering f home p = if p.recovering then idle_step p else f home p
 
 -- what a node tells of itself
 abbrev pub beat_with : NodeValue → Option (Sess × ℕ) → Message
-beat_with v link = message.Beat (record { inc = v.links.known.grants.inc; state = v.state; recovering = v.recovering; over = v.links.known.grants.over; link = link })
+beat_with v tally = message.Beat (record { inc = v.links.known.grants.inc; state = v.state; recovering = v.recovering; over = v.links.known.grants.over; tally = tally })
 
 -- what is asked of another replica
 abbrev pub asked_in : Request → Message

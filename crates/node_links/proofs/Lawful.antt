@@ -12,7 +12,7 @@ use Rattle.dpc_model.specs.declared.plans.Plan.{Plan}
 use Rattle.dpc_model.specs.declared.plans.StreamRef.{StreamRef}
 use Rattle.node_model.specs.Nodes.{PlainNode, streams_of, new_node, restarted_node}
 use Rattle.node_model.specs.NodeSteps.{emptied_port, on_upstream_beat, on_peer_beat, after_loss, after_clock}
-use Rattle.node_model.specs.Views.{upstream_of, neighbours_of}
+use Rattle.node_model.specs.NodeParts.{upstream_of, neighbours_of}
 use Rattle.upstream.specs.Upstreams.{new_upstream, with_beat, with_truncation, with_tick, with_no_tick}
 use Rattle.node_links.specs.Linking.{new_links, sender_among, after_upstream_beat, after_own_beat}
 use Rattle.node_links.specs.Laws.{FindsSenders, NewLinksStand, MessagesStand, TicksStand}

@@ -7,7 +7,7 @@ use Rattle.dpc_model.specs.declared.messages.Beat.{Beat}
 use Rattle.dpc_model.specs.declared.messages.Sess.{Sess}
 use Rattle.node_model.specs.Nodes.{Home, PlainNode, streams_of, new_node, restarted_node}
 use Rattle.node_model.specs.NodeSteps.{peers_of, peer_watches, with_port, on_upstream_beat, on_peer_beat, after_loss, after_clock, may_start_afresh}
-use Rattle.node_model.specs.Views.{neighbours_of}
+use Rattle.node_model.specs.NodeParts.{neighbours_of}
 use Rattle.upstream.specs.Upstreams.{with_truncation}
 use Rattle.node_links.specs.Linking.{LinksValue, new_links, sender_among, peers_in, other_watches, with_upstream, after_upstream_beat, after_own_beat, with_recovery, after_clock_tick, nobody_can_help}
 

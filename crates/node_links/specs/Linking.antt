@@ -1,8 +1,8 @@
 -- What a node knows of its neighbours, and what each call makes of it.
 use Rattle.std.specs.Prelude.{ℕ, ◌+◌, Bool, not, ◌||◌, ◌==◌, if◌then◌else◌, List, [], ◌∷◌, map, filter, replicate, Option, Some, None, is_none}
 use Rattle.dpc_lists.specs.Lists.{nth, changed, list_all, numbered, place_of}
-use Rattle.dpc_model.specs.Replicas.{Watch, new_watch, after_beat, after_tick, is_silent, says_recovering}
-use Rattle.dpc_model.specs.Granting.{new_grants, own_key, after_peer_beat, after_silence, with_ask, with_ask_over}
+use Rattle.dpc_model.specs.Replicas.{Watch, new_watch, after_beat, after_tick, is_absent, says_recovering}
+use Rattle.dpc_model.specs.Granting.{new_grants, own_key, after_peer_beat, after_absence, with_ask, with_ask_over}
 use Rattle.dpc_model.specs.Parts.{Upstream, Neighbours}
 use Rattle.dpc_model.specs.Actors.{senders_of, replicas_of}
 use Rattle.dpc_model.specs.declared.messages.Beat.{Beat}
@@ -85,11 +85,11 @@ with_recovery x = record x { upstreams = map with_no_tick x.upstreams; grants = 
 -- one tick is counted, of every replica and of every session; a promise to a silent replica ends
 abbrev pub after_clock_tick : Neighbours → Neighbours
 after_clock_tick x =
-    let peers = map after_tick x.peers in record x { upstreams = map with_tick x.upstreams; peers = peers; grants = after_silence x.grants (map is_silent peers) }
+    let peers = map after_tick x.peers in record x { upstreams = map with_tick x.upstreams; peers = peers; grants = after_absence x.grants (map is_absent peers) }
 
 -- no other replica can hand out a snapshot: each is silent, or recovers itself
 abbrev pub nobody_can_help : ℕ → Neighbours → Bool
-nobody_can_help me x = list_all (λ w. is_silent w || says_recovering w) (other_watches me x.peers)
+nobody_can_help me x = list_all (λ w. is_absent w || says_recovering w) (other_watches me x.peers)
 
 -- a port's senders with what is known of them
 abbrev pub upstream_at : ℕ → LinksValue → UpstreamValue
@@ -99,7 +99,7 @@ upstream_at p v = record { senders = nth [] v.senders p; known = nth no_upstream
 abbrev pub asking : ℕ → Neighbours → Option Asked
 asking me x =
     if is_none x.grants.promise
-    then (if list_all is_silent (other_watches me x.peers) then Some asked.Enter else Some (asked.Ask (own_key x.grants).0 (own_key x.grants).1))
+    then (if list_all is_absent (other_watches me x.peers) then Some asked.Enter else Some (asked.Ask (own_key x.grants).0 (own_key x.grants).1))
     else None
 
 abbrev pub after_asking : Neighbours → Neighbours

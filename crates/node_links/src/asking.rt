@@ -5,7 +5,7 @@ ghost use Rattle.upstream.specs.Upstreams.{with_tick};
 ghost use Rattle.node_links.specs.Linking.{with_upstreams, after_clock_tick, nobody_can_help, asking, after_asking};
 
 use crate::links::{Asked, Links};
-use crate::peers::{others_are_silent, others_cannot_help, silences};
+use crate::peers::{absences, others_are_absent, others_cannot_help};
 use crate::ports::tick_ports;
 use dpc_model::messages::NodeState;
 
@@ -47,8 +47,8 @@ impl Links {
     {
         self.tick_sessions();
         self.watches.tick();
-        let silences = silences(&self.watches);
-        self.grants.on_tick(&silences[..self.watches.replicas()]);
+        let absences = absences(&self.watches);
+        self.grants.on_tick(&absences[..self.watches.replicas()]);
     }
 
     /// One tick, of every session and of whoever can be read there.
@@ -72,7 +72,7 @@ impl Links {
         ensures after { self.new ≡ record self.old { known = after_asking self.old.known } }
     {
         let (inc, ask) = self.grants.want()?;
-        if others_are_silent(&self.watches, self.me) {
+        if others_are_absent(&self.watches, self.me) {
             return Some(Asked::Enter);
         }
         Some(Asked::Ask(inc, ask))

@@ -1,7 +1,7 @@
 //! The other replicas of a fragment.
 ghost use Rattle.std.specs.Prelude.{◌≡◌, ℕ, ◌==◌, ◌||◌, not, map, take, length, filter, IfOk};
 ghost use Rattle.dpc_lists.specs.Lists.{list_all};
-ghost use Rattle.dpc_model.specs.Replicas.{is_silent, says_recovering};
+ghost use Rattle.dpc_model.specs.Replicas.{is_absent, says_recovering};
 ghost use Rattle.node_links.specs.Linking.{other_watches};
 
 use dpc_lists::faults::NoMemory;
@@ -23,22 +23,22 @@ pub(crate) fn others(alloc: Global, actors: &[u64], one: u64) -> Result<Vec<u64>
 }
 
 /// Whether each replica is silent, in order. The places past the last one mean nothing.
-pub(crate) fn silences(watches: &Monitor) -> [bool; MOST_REPLICAS]
-    ensures { take (length watches.now) result ≡ map is_silent watches.now }
+pub(crate) fn absences(watches: &Monitor) -> [bool; MOST_REPLICAS]
+    ensures { take (length watches.now) result ≡ map is_absent watches.now }
 {
-    let mut silences = [false; MOST_REPLICAS];
+    let mut absences = [false; MOST_REPLICAS];
     for r in 0..watches.replicas() {
-        silences[r] = watches.is_silent(r);
+        absences[r] = watches.is_absent(r);
     }
-    silences
+    absences
 }
 
 /// Whether every replica but this one is silent.
-pub(crate) fn others_are_silent(watches: &Monitor, me: usize) -> bool
-    ensures { result ≡ list_all is_silent (other_watches me watches.now) }
+pub(crate) fn others_are_absent(watches: &Monitor, me: usize) -> bool
+    ensures { result ≡ list_all is_absent (other_watches me watches.now) }
 {
     for r in 0..watches.replicas() {
-        if r != me && !watches.is_silent(r) {
+        if r != me && !watches.is_absent(r) {
             return false;
         }
     }
@@ -47,10 +47,10 @@ pub(crate) fn others_are_silent(watches: &Monitor, me: usize) -> bool
 
 /// Whether every replica but this one is silent, or recovers.
 pub(crate) fn others_cannot_help(watches: &Monitor, me: usize) -> bool
-    ensures { result ≡ list_all (λ w. is_silent w || says_recovering w) (other_watches me watches.now) }
+    ensures { result ≡ list_all (λ w. is_absent w || says_recovering w) (other_watches me watches.now) }
 {
     for r in 0..watches.replicas() {
-        if r != me && !watches.is_silent(r) && !watches.says_recovering(r) {
+        if r != me && !watches.is_absent(r) && !watches.says_recovering(r) {
             return false;
         }
     }

@@ -63,7 +63,7 @@ fn stable() -> Beat {
         state: NodeState::Stable,
         recovering: false,
         over: 0,
-        link: None,
+        tally: None,
     }
 }
 

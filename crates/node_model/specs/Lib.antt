@@ -3,5 +3,5 @@ pub mod Nodes
 pub mod NodeSteps
 pub mod Sources
 pub mod Clients
-pub mod Views
+pub mod NodeParts
 pub mod Stands

@@ -7,8 +7,8 @@ use Rattle.dpc_model.specs.Inlets.{same_sess, restarted_inlet, AfterBatch, take_
 use Rattle.dpc_model.specs.declared.batches.Taken.{Taken}
 use Rattle.dpc_model.specs.declared.batches.Taken.TheVariants.{Used, Old, Broken}
 use Rattle.dpc_model.specs.Due.{with_stamps}
-use Rattle.dpc_model.specs.Replicas.{Watch, after_beat, after_tick, is_silent, says_recovering}
-use Rattle.dpc_model.specs.Granting.{own_key, grants, with_promise, may_enter_by, after_peer_beat, after_silence, with_ask, with_ask_over}
+use Rattle.dpc_model.specs.Replicas.{Watch, after_beat, after_tick, is_absent, says_recovering}
+use Rattle.dpc_model.specs.Granting.{own_key, grants, with_promise, may_enter_by, after_peer_beat, after_absence, with_ask, with_ask_over}
 use Rattle.dpc_model.specs.Actors.{replicas_of}
 use Rattle.dpc_model.specs.Ports.{Port, no_port, sender_at, without_ended_marks, on_beat, on_truncated, all_truncated, port_after_tick, port_after_choice, subscriptions, acks_to}
 use Rattle.dpc_model.specs.declared.tuples.Tuple.{Tuple}
@@ -21,14 +21,14 @@ use Rattle.dpc_model.specs.declared.messages.Message.{Message}
 use Rattle.dpc_model.specs.declared.messages.Message.TheVariants as message
 use Rattle.dpc_model.specs.declared.messages.NodeState.TheVariants.{Stable, UpFailure, Stabilization}
 use Rattle.dpc_model.specs.declared.plans.StreamRef.{StreamRef}
-use Rattle.dpc_model.specs.Sessions.{with_session_shut, link_of, Given, given_items, after_ack, base_after}
+use Rattle.dpc_model.specs.Sessions.{with_session_shut, tally_of, Given, given_items, after_ack, base_after}
 use Rattle.dpc_model.specs.declared.sessions.Sub.{Sub}
 use Rattle.node_model.specs.Mails.{Stepped, Snap, Packet, Plain, SnapFor, Mail, mail, mails, in_actor_order, to_each, to_sessions, to_subscriber}
 use Rattle.dpc_model.specs.NodeStates.{is_up_failure, is_stabilization}
-use Rattle.node_model.specs.Nodes.{Home, streams_of, own_readers, PlainNode, inputs_done, view_cursor, out_stable, out_tentative, out_bound, out_passed, shown, bucket_of, complete_buckets, ready, due_at, wants_to_reconcile}
+use Rattle.node_model.specs.Nodes.{Home, streams_of, own_readers, PlainNode, inputs_done, node_frontier, out_stable, out_tentative, out_bound, out_passed, shown, bucket_of, complete_buckets, ready, due_at, wants_to_reconcile}
 
-abbrev pub silent_step : PlainNode → Stepped PlainNode
-silent_step n = record { after = n; sends = [] }
+abbrev pub idle_step : PlainNode → Stepped PlainNode
+idle_step n = record { after = n; sends = [] }
 
 -- one step behind another
 abbrev pub then_do : Stepped PlainNode → (PlainNode → Stepped PlainNode) → Stepped PlainNode
@@ -135,7 +135,7 @@ on_batch home s index items (Some (p, r)) n =
 
 -- a reader's subscription, by its place among the readers
 abbrev pub on_subscribe : Home → Subscribe → Option ℕ → PlainNode → Stepped PlainNode
-on_subscribe home asked None n = silent_step n
+on_subscribe home asked None n = idle_step n
 on_subscribe home asked (Some k) n =
     let s = to_subscriber (own_readers home) (shown home n) k asked n.subs in record { after = record n { subs = s.after }; sends = s.sends }
 
@@ -165,15 +165,15 @@ on_ack home i count (Some k) n = with_base home (record n { acks = changed k (af
 
 -- an ask of another replica is granted, or has no answer
 abbrev pub on_ask : Home → ℕ → ℕ → Option ℕ → PlainNode → Stepped PlainNode
-on_ask home i ask None n = silent_step n
+on_ask home i ask None n = idle_step n
 on_ask home i ask (Some r) n =
     if grants n.grants n.state r (i, ask)
     then record { after = record n { grants = with_promise n.grants r (i, ask) }; sends = mail (nth 0 (replicas_of home.plan home.frag) r) (message.Grant i ask) ∷ [] }
-    else silent_step n
+    else idle_step n
 
 -- a grant for the running ask lets a node that is UP_FAILURE enter
 abbrev pub on_grant : Home → ℕ → ℕ → PlainNode → Stepped PlainNode
-on_grant home i ask n = if is_up_failure n.state && may_enter_by n.grants (i, ask) then enter_step home n else silent_step n
+on_grant home i ask n = if is_up_failure n.state && may_enter_by n.grants (i, ask) then enter_step home n else idle_step n
 
 abbrev pub on_snap_ask : Home → ℕ → ℕ → ℕ → PlainNode → Stepped PlainNode
 on_snap_ask home sender i try n = record { after = n; sends = record { to = sender; packet = SnapFor i try (snapshot home n) } ∷ [] }
@@ -184,15 +184,15 @@ reader_place home a = place_of (λ b. a == b) (own_readers home)
 
 -- a message is taken, after the marks that the node has reached are ended
 abbrev pub on_message : Home → ℕ → Message → PlainNode → Stepped PlainNode
-on_message home a (message.Batch s index items) n = silent_step (on_batch home s index items (sender_at home.plan (streams_of home) a) n)
-on_message home a (message.Subscribe asked) n = if n.recovering then silent_step n else on_subscribe home asked (reader_place home a) n
-on_message home a (message.Truncated s base) n = silent_step (on_truncation home s base (sender_at home.plan (streams_of home) a) n)
+on_message home a (message.Batch s index items) n = idle_step (on_batch home s index items (sender_at home.plan (streams_of home) a) n)
+on_message home a (message.Subscribe asked) n = if n.recovering then idle_step n else on_subscribe home asked (reader_place home a) n
+on_message home a (message.Truncated s base) n = idle_step (on_truncation home s base (sender_at home.plan (streams_of home) a) n)
 on_message home a (message.Beat b) n =
-    silent_step (on_peer_beat b (replica_number home a) (on_upstream_beat b (sender_at home.plan (streams_of home) a) n))
-on_message home a (message.Ack i count) n = silent_step (if n.recovering then n else on_ack home i count (reader_place home a) n)
+    idle_step (on_peer_beat b (replica_number home a) (on_upstream_beat b (sender_at home.plan (streams_of home) a) n))
+on_message home a (message.Ack i count) n = idle_step (if n.recovering then n else on_ack home i count (reader_place home a) n)
 on_message home a (message.Ask i ask) n = on_ask home i ask (replica_number home a) n
 on_message home a (message.Grant i ask) n = on_grant home i ask n
-on_message home a (message.SnapAsk i try) n = if n.recovering then silent_step n else on_snap_ask home a i try n
+on_message home a (message.SnapAsk i try) n = if n.recovering then idle_step n else on_snap_ask home a i try n
 
 -- a snapshot is adopted while the node recovers, where it is for the present try
 abbrev pub on_snap : Home → ℕ → ℕ → Snap → PlainNode → PlainNode
@@ -203,7 +203,7 @@ with_marks_ended n = record n { ports = map without_ended_marks n.ports }
 
 abbrev pub on_packet : Home → ℕ → Packet → PlainNode → Stepped PlainNode
 on_packet home a (Plain m) n = on_message home a m n
-on_packet home a (SnapFor i try s) n = silent_step (on_snap home i try s n)
+on_packet home a (SnapFor i try s) n = idle_step (on_snap home i try s n)
 
 -- the node takes a packet of an actor
 unfoldable pub packet_step : Home → ℕ → Packet → PlainNode → Stepped PlainNode
@@ -240,11 +240,11 @@ mill_step home r n =
 abbrev pub after_clock : ℕ → PlainNode → PlainNode
 after_clock now n =
     let peers = map after_tick n.peers in
-    record n { clock = now; ports = map port_after_tick n.ports; peers = peers; grants = after_silence n.grants (map is_silent peers) }
+    record n { clock = now; ports = map port_after_tick n.ports; peers = peers; grants = after_absence n.grants (map is_absent peers) }
 
 -- no replica can hand out a snapshot: each is silent, or recovers itself
 abbrev pub may_start_afresh : Home → PlainNode → Bool
-may_start_afresh home n = list_all (λ w. is_silent w || says_recovering w) (peer_watches home n)
+may_start_afresh home n = list_all (λ w. is_absent w || says_recovering w) (peer_watches home n)
 
 -- a replica is chosen for each port, and sessions are opened anew
 abbrev pub choice_step : Home → PlainNode → Stepped PlainNode
@@ -255,16 +255,16 @@ choice_step home n =
 abbrev pub ask_step : Home → PlainNode → Stepped PlainNode
 ask_step home n =
     if wants_to_reconcile home n && is_none n.grants.promise
-    then (if list_all is_silent (peer_watches home n) then enter_step home n
+    then (if list_all is_absent (peer_watches home n) then enter_step home n
     else record {
       after = record n { grants = with_ask n.grants };
       sends = to_each (message.Ask (own_key n.grants).0 (own_key n.grants).1) (peers_of home);
     })
-    else silent_step n
+    else idle_step n
 
 -- so many buckets are closed as they stand
 abbrev pub with_closed : Home → ℕ → PlainNode → PlainNode
-with_closed home count n = record n { closed = n.closed ++ map (bucket_of home n) (range_with_len (view_cursor n) count) }
+with_closed home count n = record n { closed = n.closed ++ map (bucket_of home n) (range_with_len (node_frontier n) count) }
 
 -- the state that the closed buckets mean
 abbrev pub with_failure : PlainNode → PlainNode
@@ -283,7 +283,7 @@ given_by home old new any_stable any_closed =
 
 -- the number of buckets that are still to be processed up to a last one
 abbrev pub count_upto : ℕ → PlainNode → ℕ
-count_upto last n = last + 1 - view_cursor n
+count_upto last n = last + 1 - node_frontier n
 
 -- of so many buckets, those that are processed stably: while they are complete and nothing is closed
 abbrev pub stably : Home → PlainNode → ℕ → ℕ
@@ -303,8 +303,8 @@ processing_upto home last n =
 
 abbrev pub processing_step : Home → PlainNode → Stepped PlainNode
 processing_step home n =
-    if is_stabilization n.state then silent_step n
-    else elim (due_at home n n.clock) [ None ↦ silent_step n | Some last ↦ processing_upto home last n ]
+    if is_stabilization n.state then idle_step n
+    else elim (due_at home n n.clock) [ None ↦ idle_step n | Some last ↦ processing_upto home last n ]
 
 -- the number of a port's tuples below the cursor's bucket
 abbrev pub done_at : Home → PlainNode → Port → ℕ
@@ -317,11 +317,11 @@ acks_from home n (p ∷ ports) (s ∷ streams) = mails (acks_to home.plan n.gran
 
 -- what the node tells of itself
 abbrev pub beat_of : PlainNode → Option (Sess × ℕ) → Message
-beat_of n link = message.Beat (record { inc = n.grants.inc; state = n.state; recovering = n.recovering; over = n.grants.over; link = link })
+beat_of n tally = message.Beat (record { inc = n.grants.inc; state = n.state; recovering = n.recovering; over = n.grants.over; tally = tally })
 
 abbrev pub beats : Home → PlainNode → List Mail
 beats home n =
-    to_each (beat_of n None) (peers_of home) ++ map (λ (x : ℕ × Sub). mail x.0 (beat_of n (link_of x.1))) (zip (own_readers home) n.subs)
+    to_each (beat_of n None) (peers_of home) ++ map (λ (x : ℕ × Sub). mail x.0 (beat_of n (tally_of x.1))) (zip (own_readers home) n.subs)
 
 abbrev pub announcing_step : Home → PlainNode → Stepped PlainNode
 announcing_step home n = record { after = n; sends = in_actor_order (acks_from home n n.ports (streams_of home)) ++ in_actor_order (beats home n) }

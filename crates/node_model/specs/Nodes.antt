@@ -7,7 +7,7 @@ use Rattle.dpc_model.specs.Parts.{bucket_held}
 use Rattle.dpc_model.specs.Fragments.{serial, fragment_value}
 use Rattle.dpc_model.specs.Reading.{Reader, stable_reader}
 use Rattle.dpc_model.specs.Inlets.{new_inlet, restarted_inlet, sess_of}
-use Rattle.dpc_model.specs.Due.{Stamps, DueView, is_complete, first_incomplete, last_due, delay_of}
+use Rattle.dpc_model.specs.Due.{Stamps, DueInputs, is_complete, first_incomplete, last_due, delay_of}
 use Rattle.dpc_model.specs.Replicas.{Watch, new_watch}
 use Rattle.dpc_model.specs.Granting.{Grants, new_grants}
 use Rattle.dpc_model.specs.NodeStates.{is_stable, is_up_failure}
@@ -119,20 +119,20 @@ abbrev pub inputs_done : Home → PlainNode → List (List Tuple)
 inputs_done home n = map (λ (p : Port). cut p.inlet.held.stable (n.cursor * home.plan.width)) n.ports
 
 -- the first bucket that is neither processed nor closed
-abbrev pub view_cursor : PlainNode → ℕ
-view_cursor n = n.cursor + length n.closed
+abbrev pub node_frontier : PlainNode → ℕ
+node_frontier n = n.cursor + length n.closed
 
 -- the stable output
 unfoldable pub out_stable : Home → PlainNode → List Tuple
 out_stable home n = fragment_value (spec_of home).ops (serial (inputs_done home n)) (n.cursor * home.plan.width)
 
 -- the output with that of the closed buckets
-unfoldable pub out_view : Home → PlainNode → List Tuple
-out_view home n = fragment_value (spec_of home).ops (serial (inputs_done home n) ++ all_of n.closed) (view_cursor n * home.plan.width)
+unfoldable pub out_with_closed : Home → PlainNode → List Tuple
+out_with_closed home n = fragment_value (spec_of home).ops (serial (inputs_done home n) ++ all_of n.closed) (node_frontier n * home.plan.width)
 
 -- the tentative output
 unfoldable pub out_tentative : Home → PlainNode → List Tuple
-out_tentative home n = drop (length (out_stable home n)) (out_view home n)
+out_tentative home n = drop (length (out_stable home n)) (out_with_closed home n)
 
 -- the boundary of the output, with the number of tuples below it, where a bucket was processed
 abbrev pub out_bound : Home → PlainNode → Option (ℕ × ℕ)
@@ -140,7 +140,7 @@ out_bound home n = if n.cursor == 0 then None else Some (n.cursor * home.plan.wi
 
 -- how far the tentative output goes, where the plan passes that on and a bucket is closed
 abbrev pub out_passed : Home → PlainNode → Option ℕ
-out_passed home n = if home.plan.passing && not (is_nil n.closed) then Some (view_cursor n * home.plan.width) else None
+out_passed home n = if home.plan.passing && not (is_nil n.closed) then Some (node_frontier n * home.plan.width) else None
 
 -- what the node shows a reader
 abbrev pub shown : Home → PlainNode → Shown
@@ -176,21 +176,21 @@ complete_buckets home n = if is_nil n.closed then complete_upto home n - n.curso
 unfoldable pub ready : Home → PlainNode → ℕ
 ready home n = if n.recovering then 0 else complete_buckets home n
 
-abbrev pub due_view : Home → PlainNode → DueView
-due_view home n =
+abbrev pub due_inputs : Home → PlainNode → DueInputs
+due_inputs home n =
     record {
       width = home.plan.width;
       delay = delay_of home.plan (spec_of home);
       passing = home.plan.passing;
       ports = held_by n;
       stamps = n.stamps;
-      view = view_cursor n;
+      frontier = node_frontier n;
       any_closed = not (is_nil n.closed);
     }
 
 -- the last bucket that a tick at this clock must process
 abbrev pub due_at : Home → PlainNode → ℕ → Option ℕ
-due_at home n now = last_due (due_view home n) now (buckets_of home.plan)
+due_at home n now = last_due (due_inputs home n) now (buckets_of home.plan)
 
 -- the node has tentative output and could correct it
 abbrev pub wants_to_reconcile : Home → PlainNode → Bool

@@ -11,7 +11,7 @@ use Rattle.dpc_model.specs.declared.messages.Message.TheVariants as message
 use Rattle.dpc_model.specs.declared.messages.NodeState.TheVariants.{Stable}
 use Rattle.dpc_model.specs.declared.plans.Plan.{Plan}
 use Rattle.dpc_model.specs.declared.plans.StreamRef.TheVariants.{Source}
-use Rattle.dpc_model.specs.Sessions.{opening_session, link_of, Shown, Given, given_items}
+use Rattle.dpc_model.specs.Sessions.{opening_session, tally_of, Shown, Given, given_items}
 use Rattle.dpc_model.specs.declared.sessions.Sub.{Sub}
 use Rattle.node_model.specs.Mails.{Stepped, mail, Packet, Plain, SnapFor, to_sessions, to_subscriber}
 
@@ -78,9 +78,9 @@ source_packet_step plan s a (Plain m) x = source_message plan s a m x
 source_packet_step plan s a (SnapFor i try snap) x = record { after = x; sends = [] }
 
 abbrev pub source_beat : Option (Sess × ℕ) → Message
-source_beat link = message.Beat (record { inc = 1; state = Stable; recovering = false; over = 0; link = link })
+source_beat tally = message.Beat (record { inc = 1; state = Stable; recovering = false; over = 0; tally = tally })
 
 -- at a tick a source tells each reader its session
 unfoldable pub source_tick_step : Plan → ℕ → ℕ → SourceState → Stepped SourceState
 source_tick_step plan s now x =
-    record { after = record x { clock = now }; sends = map (λ (y : ℕ × Sub). mail y.0 (source_beat (link_of y.1))) (zip (source_readers plan s) x.subs) }
+    record { after = record x { clock = now }; sends = map (λ (y : ℕ × Sub). mail y.0 (source_beat (tally_of y.1))) (zip (source_readers plan s) x.subs) }

@@ -9,7 +9,7 @@ use Rattle.dpc_model.specs.Operators.{all_of}
 use Rattle.dpc_model.specs.Streams.{cut}
 use Rattle.dpc_model.specs.Fragments.{serial, fragment_value}
 use Rattle.dpc_model.specs.Inlets.{InletState, restarted_inlet}
-use Rattle.dpc_model.specs.Parts.{Inputs, view_of, done_in, processed, processed_view, Stream, stream_by, Outputs}
+use Rattle.dpc_model.specs.Parts.{Inputs, frontier_of, done_in, processed, processed_and_closed, Stream, stream_by, Outputs}
 use Rattle.dpc_model.specs.PartStands.{KeeperValue, at_cursor, OutputValue, StandsForInlet, StandsForPorts, StandsForOutput, StandsForKeeper}
 use Rattle.dpc_model.specs.Reading.{stable_reader}
 use Rattle.dpc_model.specs.Sessions.{Acked, with_session_shut}
@@ -79,9 +79,9 @@ adopted-ports u v x s cursor counts h low at many is =
 pub open-keeper : (w : ℕ) (k : KeeperValue MillState) (m : MillState) (y : Inputs) → k ≡ record { state = m; held = None } → y.closed ≡ [] → MillAfter m (processed w y) y.cursor → StandsForKeeper MillAfter w false k y
 open-keeper w k m y is none at =
     let zero : y.cursor + 0 ≡ y.cursor = omega arith in
-    let view : MillAfter m (processed_view w y) (view_of y) =
+    let frontier : MillAfter m (processed_and_closed w y) (frontier_of y) =
     subst (λ (cs : List (List Tagged)). MillAfter m (processed w y ++ all_of cs) (y.cursor + length cs)) (sym none) (rw (zero, append-nil (processed w y)) at) in
-    subst (λ (j : KeeperValue MillState). StandsForKeeper MillAfter w false j y) (sym is) (record { held = (λ _. none, λ _. refl); cursor = λ _. at; view = λ _. view })
+    subst (λ (j : KeeperValue MillState). StandsForKeeper MillAfter w false j y) (sym is) (record { held = (λ _. none, λ _. refl); cursor = λ _. at; frontier = λ _. frontier })
 
 adopted-output : (s : Snap) (ts : List Tuple) (b base bound : ℕ) (kept : List Tuple) (v out : OutputValue) (t : Stream) (o : Outputs) → t ≡ record { stable = ts; bound = b; tentative = []; passed = None } →
     out ≡ restarted_output base kept bound v → base ≡ s.base → s.base ≤ length ts → kept ≡ drop s.base ts → bound ≡ b → v.subs ≡ o.subs → v.acks ≡ o.acks → o.acks ≡ zeros_for o.acks → StandsForOutput t out (adopted_outputs s o)
@@ -148,5 +148,5 @@ in-range ops v n x o last s can h wide =
     let w = v.union.width in
     let r = stably_upto w last x in
     let cursor = h.cursor in
-    let low : s.cursor * w < 2 ^ 64 = ends-below w s.cursor (view_of (after_advancing r x) + (count_upto last x - r)) (2 ^ 64) (omega (arith, cursor)) can.closing.end in
+    let low : s.cursor * w < 2 ^ 64 = ends-below w s.cursor (frontier_of (after_advancing r x) + (count_upto last x - r)) (2 ^ 64) (omega (arith, cursor)) can.closing.end in
     subst (λ (j : ℕ). s.cursor * j < 2 ^ 64) (sym wide) low

@@ -6,10 +6,10 @@ use Rattle.dpc_model.specs.Streams.{cut}
 use Rattle.dpc_model.specs.Operators.{all_of}
 use Rattle.dpc_model.specs.Engines.{Value}
 use Rattle.dpc_model.specs.Fragments.{serial, fragment_value}
-use Rattle.dpc_model.specs.Inlets.{InletState, with_next_session, after_link, asked_by}
+use Rattle.dpc_model.specs.Inlets.{InletState, with_next_session, after_tally, asked_by}
 use Rattle.dpc_model.specs.Reading.{Reader}
 use Rattle.dpc_model.specs.Due.{Stamps}
-use Rattle.dpc_model.specs.Parts.{Inputs, view_of, done_in, Stream, Outputs}
+use Rattle.dpc_model.specs.Parts.{Inputs, frontier_of, done_in, Stream, Outputs}
 use Rattle.dpc_model.specs.PartStands.{at_cursor, StandsForPorts, StandsForKeeper, OutputValue, StandsForOutput}
 use Rattle.dpc_model.specs.declared.operators.OpSpec.{OpSpec}
 use Rattle.dpc_model.specs.Sessions.{after_ack}
@@ -42,8 +42,8 @@ stream_done value w passing x done =
     record {
       stable = stable;
       bound = x.cursor * w;
-      tentative = drop (length stable) (value (serial done ++ all_of x.closed) (view_of x * w));
-      passed = if passing && not (is_nil x.closed) then Some (view_of x * w) else None;
+      tentative = drop (length stable) (value (serial done ++ all_of x.closed) (frontier_of x * w));
+      passed = if passing && not (is_nil x.closed) then Some (frontier_of x * w) else None;
     }
 
 -- the inputs with other inlets and stamps
@@ -58,7 +58,7 @@ work-arrived ops u v k x inlets stamps h wide ports same =
     let keeper : StandsForKeeper MillAfter w false k.keeper y = record {
       held = h.keeper.held;
       cursor = λ e. subst (λ (done : List (List Tuple)). MillAfter (at_cursor k.keeper) (serial done) x.cursor) (sym same) (h.keeper.cursor e);
-      view = λ e. subst (λ (done : List (List Tuple)). MillAfter k.keeper.state (serial done ++ all_of x.closed) (view_of x)) (sym same) (h.keeper.view e);
+      frontier = λ e. subst (λ (done : List (List Tuple)). MillAfter k.keeper.state (serial done ++ all_of x.closed) (frontier_of x)) (sym same) (h.keeper.frontier e);
     } in
     record {
       sound = h.sound;
@@ -116,11 +116,11 @@ taken ops v u x o port s index items clock answer h a =
       stands = λ same. inputs-arrive ops v u x (changed port (λ _. t.after) x.inlets) (stamps_after v.union.width clock t.answer x) o h a.fixed.0 (a.after x h.ports) same;
     }
 
-pub link-arrives : (ops : List OpSpec) (v : PipelineValue) (u : SUnionValue) (x : Inputs) (o : Outputs) (port : ℕ) (link : Option (Sess × ℕ)) → StandsForData ops v x o →
-    u ≡ with_inlet_state port (λ (i : InletState). after_link i link) v.union →
-    StandsForData ops (record { union = u; keeper = v.keeper; output = v.output; passing = v.passing }) (with_inlet port (λ (i : InletState). after_link i link) x) o
-link-arrives ops v u x o port link h e =
-    session-arrives ops v u x o port (λ (i : InletState). after_link i link) h e (λ i. refl) ((sessions-stand v.union x port h.ports).1 link)
+pub tally-arrives : (ops : List OpSpec) (v : PipelineValue) (u : SUnionValue) (x : Inputs) (o : Outputs) (port : ℕ) (tally : Option (Sess × ℕ)) → StandsForData ops v x o →
+    u ≡ with_inlet_state port (λ (i : InletState). after_tally i tally) v.union →
+    StandsForData ops (record { union = u; keeper = v.keeper; output = v.output; passing = v.passing }) (with_inlet port (λ (i : InletState). after_tally i tally) x) o
+tally-arrives ops v u x o port tally h e =
+    session-arrives ops v u x o port (λ (i : InletState). after_tally i tally) h e (λ i. refl) ((sessions-stand v.union x port h.ports).1 tally)
 
 pub reopened : (ops : List OpSpec) (v : PipelineValue) (u : SUnionValue) (x : Inputs) (o : Outputs) (port : ℕ) (asked : Subscribe) → StandsForData ops v x o → u ≡ with_inlet_state port with_next_session v.union →
     ((y : Inputs) → StandsForInputs v.union y → asked ≡ asked_by (with_next_session (nth no_inlet y.inlets port))) →

@@ -9,7 +9,7 @@ use Rattle.dpc_model.specs.Streams.{InOrder, cut}
 use Rattle.dpc_model.specs.Engines.{LiesBelow}
 use Rattle.dpc_model.specs.Fragments.{AreSoundOps, fragment_value}
 use Rattle.dpc_model.specs.Inlets.{InletState, new_inlet, sess_of, take_batch}
-use Rattle.dpc_model.specs.Parts.{Inputs, view_of, processed, processed_view, Stream, stream_by, Outputs}
+use Rattle.dpc_model.specs.Parts.{Inputs, frontier_of, processed, processed_and_closed, Stream, stream_by, Outputs}
 use Rattle.dpc_model.specs.PartStands.{OutputValue, StandsForPorts, StandsForOutput}
 use Rattle.dpc_model.specs.declared.operators.OpSpec.{OpSpec}
 use Rattle.dpc_model.specs.declared.tuples.Tuple.{Tuple}
@@ -76,7 +76,7 @@ before-first ops u k out passing x sound some ports mill held after start none o
     let m = k.keeper.state in
     let at : MillAfter m (processed w x) x.cursor = subst (λ (xs : List Tagged). MillAfter m xs x.cursor) (sym nothing) (subst (λ (n : ℕ). MillAfter m [] n) (sym start) after) in
     let zero : x.cursor + 0 ≡ x.cursor = omega arith in
-    let view : MillAfter m (processed_view w x) (view_of x) =
+    let frontier : MillAfter m (processed_and_closed w x) (frontier_of x) =
     subst (λ (cs : List (List Tagged)). MillAfter m (processed w x ++ all_of cs) (x.cursor + length cs)) (sym none) (rw (zero, append-nil (processed w x)) at) in
     let empty : IsNone k.keeper.held = rw held refl in
     work-data ops u k out passing w x (record { subs = out.subs; acks = out.acks; base = 0 })
@@ -86,22 +86,22 @@ before-first ops u k out passing x sound some ports mill held after start none o
       ports = ports;
       state = mill;
       held = subst (λ (o : Option MillState). IfSome o (IsMillOf ops w)) (sym held) tt;
-      keeper = record { held = (λ _. none, λ _. empty); cursor = λ _. open-at k.keeper.held m (λ (s : MillState). MillAfter s (processed w x) x.cursor) empty at; view = λ _. view };
+      keeper = record { held = (λ _. none, λ _. empty); cursor = λ _. open-at k.keeper.held m (λ (s : MillState). MillAfter s (processed w x) x.cursor) empty at; frontier = λ _. frontier };
     }) refl
     (subst (λ (s : Stream). StandsForOutput s out (record { subs = out.subs; acks = out.acks; base = 0 })) (sym (first-stream ops w passing x sound start none)) output)
 
 -- ---- the inputs of the test
 
 taken : (a b : Tuple) → b.stime ≡ 15 → (take_batch (new_inlet 1) (sess_of 1 1) 0 (Stable 0 a ∷ Boundary 10 1 ∷ Tentative b ∷ [])).after
-    ≡ record (new_inlet 1) { held = record { stable = a ∷ []; bound = 10; tentative = b ∷ []; soft = 0 }; next = 1 }
+    ≡ record (new_inlet 1) { held = record { stable = a ∷ []; bound = 10; tentative = b ∷ []; passed = 0 }; next = 1 }
 unfolding take_batch
 taken a b e = let late : nat_le 10 b.stime ≡ true = rw e refl in rw late refl
 
 -- one complete bucket
-ready-inputs : (a b : Tuple) (x : Inputs) → b.stime ≡ 15 → x.cursor ≡ 0 → x.closed ≡ [] → x.inlets ≡ record (new_inlet 1) { held = record { stable = a ∷ []; bound = 10; tentative = b ∷ []; soft = 0 }; next = 1 } ∷ [] →
+ready-inputs : (a b : Tuple) (x : Inputs) → b.stime ≡ 15 → x.cursor ≡ 0 → x.closed ≡ [] → x.inlets ≡ record (new_inlet 1) { held = record { stable = a ∷ []; bound = 10; tentative = b ∷ []; passed = 0 }; next = 1 } ∷ [] →
     AreReady 10 x 1 × (complete_upto_in 10 x ≡ 1)
 ready-inputs a b x e start none is =
-    let i : InletState = record (new_inlet 1) { held = record { stable = a ∷ []; bound = 10; tentative = b ∷ []; soft = 0 }; next = 1 } in
+    let i : InletState = record (new_inlet 1) { held = record { stable = a ∷ []; bound = 10; tentative = b ∷ []; passed = 0 }; next = 1 } in
     let complete : complete_upto_in 10 x ≡ 1 = rw is refl in
     let late : 10 ≤ b.stime = omega (arith, e) in (
       record {
@@ -121,7 +121,7 @@ fed u v answer items a b new is e h =
     let y = after_taking_at u.width 1 0 (taken_at 0 (sess_of 1 1) 0 items x) x in
     let stood : StandsForPorts u.width u.union x = subst (λ (t : SUnionValue). StandsForPorts t.width t.union x) (sym new) (start-stands.0 1 10 20 5 1) in
     let inlet = ap (λ (is : List Item). (take_batch (new_inlet 1) (sess_of 1 1) 0 is).after) is ∙ taken a b e in
-    let inlets : y.inlets ≡ record (new_inlet 1) { held = record { stable = a ∷ []; bound = 10; tentative = b ∷ []; soft = 0 }; next = 1 } ∷ [] = ap (λ (i : InletState). i ∷ []) inlet in
+    let inlets : y.inlets ≡ record (new_inlet 1) { held = record { stable = a ∷ []; bound = 10; tentative = b ∷ []; passed = 0 }; next = 1 } ∷ [] = ap (λ (i : InletState). i ∷ []) inlet in
     let all = ready-inputs a b y e refl refl inlets in
     (h.fixed.0 ∙ ap (λ (t : SUnionValue). t.width) new, (y, h.after x stood, all.0, refl, all.1))
 
@@ -167,7 +167,7 @@ can-close-next ops p x o h wide ready start complete =
     let none : length x.closed ≡ 0 = ap (λ (cs : List (List Tagged)). length cs) ready.none_closed in
     let some : complete_upto_in p.union.width x - (x.cursor + 1) ≡ 0 = ap (λ (w : ℕ). complete_upto_in w x - (x.cursor + 1)) wide ∙ (omega (arith, complete, start)) in
     let few : stably_upto p.union.width 1 y ≡ 0 = few-are-none (is_nil x.closed) (count_upto 1 y) (complete_upto_in p.union.width x - (x.cursor + 1)) some in
-    let end : (view_of (after_advancing 0 y) + (count_upto 1 y - 0)) * 10 < 2 ^ 64 = omega (arith, start, none) in
+    let end : (frontier_of (after_advancing 0 y) + (count_upto 1 y - 0)) * 10 < 2 ^ 64 = omega (arith, start, none) in
     let closing : CanClose 10 (after_advancing 0 y) (count_upto 1 y - 0) = record {
       ordered = ready.ordered;
       placed = subst (λ (cs : List (List Tagged)). AcceptsAll (Some 10) ((x.cursor + 1) + 0) cs) (sym ready.none_closed) tt;
@@ -175,7 +175,7 @@ can-close-next ops p x o h wide ready start complete =
     } in
     record {
       stands = h;
-      view = omega (arith, start, none);
+      frontier = omega (arith, start, none);
       stable = λ e. absurd (omega (arith, e, few));
       closing =
           subst (λ (w : ℕ). CanClose w (after_advancing (stably_upto p.union.width 1 y) y) (count_upto 1 y - stably_upto p.union.width 1 y)) (sym wide)

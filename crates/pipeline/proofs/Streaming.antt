@@ -5,7 +5,7 @@ use Rattle.std.proofs.lemmas.Grind.{common_steps}
 use Rattle.dpc_lists.specs.Lists.{is_nil}
 use Rattle.dpc_model.specs.Engines.{engine_value}
 use Rattle.dpc_model.specs.Fragments.{AreSoundOps, fragment_value}
-use Rattle.dpc_model.specs.Parts.{Inputs, view_of, processed, processed_view, Stream, stream_by}
+use Rattle.dpc_model.specs.Parts.{Inputs, frontier_of, processed, processed_and_closed, Stream, stream_by}
 use Rattle.dpc_model.specs.declared.operators.OpSpec.{OpSpec}
 use Rattle.dpc_model.specs.declared.tuples.Tuple.{Tuple}
 use Rattle.dpc_model.specs.declared.tuples.Tagged.{Tagged}
@@ -23,7 +23,7 @@ abbrev pub stably_added : List OpSpec → ℕ → Inputs → ℕ → List Tuple
 stably_added ops w x r = added_by (engine_value ops) w (processed w x) (buckets_from w x x.cursor r) x.cursor
 
 abbrev pub closed_added : List OpSpec → ℕ → Inputs → ℕ → List Tuple
-closed_added ops w x n = added_by (engine_value ops) w (processed_view w x) (buckets_from w x (view_of x) n) (view_of x)
+closed_added ops w x n = added_by (engine_value ops) w (processed_and_closed w x) (buckets_from w x (frontier_of x) n) (frontier_of x)
 
 -- a stream with no bucket closed
 pub open-is : (ops : List OpSpec) (w : ℕ) (passing : Bool) (x : Inputs) → x.closed ≡ [] → let s : Stream = stream_by (fragment_value ops) w passing x in
@@ -97,19 +97,19 @@ passed-given true false none upto before p t e f = e
 passed-given false false none upto before p t e f = e
 
 pub process-stream : (ops : List OpSpec) (w : ℕ) (passing : Bool) (x : Inputs) (r count upto : ℕ) (new : Fresh) → AreSoundOps ops → 0 < w → r ≤ count → 0 < count → (0 < r → AreReady w x r) →
-    CanClose w (after_advancing r x) (count - r) → upto ≡ (view_of (after_advancing r x) + (count - r)) * w →
+    CanClose w (after_advancing r x) (count - r) → upto ≡ (frontier_of (after_advancing r x) + (count - r)) * w →
     new.stable ≡ stably_added ops w x r → new.bound ≡ (if nat_lt 0 r then Some ((x.cursor + r) * w) else None) → new.tentative ≡ closed_added ops w (after_advancing r x) (count - r) →
     new.passed ≡ (if passing && nat_lt r count then Some upto else None) →
     stream_by (fragment_value ops) w passing (after_closing_all w (count - r) (after_advancing r x)) ≡ stream_with new (stream_by (fragment_value ops) w passing x)
 process-stream ops w passing x r count upto new sound some low any ready can end stable bound tentative passed =
     let s : Stream = stream_by (fragment_value ops) w passing x in
     let y = after_advancing r x in
-    let more = buckets_from w y (view_of y) (count - r) in
+    let more = buckets_from w y (frontier_of y) (count - r) in
     let first = stream-advanced ops w passing x r sound some ready in
     let then_closed = (buckets-close ops w passing y (count - r) can).stream sound in
-    let told = passed-is passing x.closed more r count upto (view_of x * w) (count-buckets w y (view_of y) (count - r)) low any (λ h. (ready h).none_closed) in
+    let told = passed-is passing x.closed more r count upto (frontier_of x * w) (count-buckets w y (frontier_of y) (count - r)) low any (λ h. (ready h).none_closed) in
     then_closed
-    ∙ ap (λ (t : Stream). record { stable = t.stable; bound = t.bound; tentative = t.tentative ++ closed_added ops w y (count - r); passed = if passing && not (is_nil (x.closed ++ more)) then Some ((view_of y + (count - r)) * w) else None }) first
+    ∙ ap (λ (t : Stream). record { stable = t.stable; bound = t.bound; tentative = t.tentative ++ closed_added ops w y (count - r); passed = if passing && not (is_nil (x.closed ++ more)) then Some ((frontier_of y + (count - r)) * w) else None }) first
     ∙ ap (λ (n : ℕ). record { stable = s.stable ++ stably_added ops w x r; bound = (x.cursor + r) * w; tentative = s.tentative ++ closed_added ops w y (count - r); passed = if passing && not (is_nil (x.closed ++ more)) then Some n else None }) (sym end)
     ∙ ap (λ (o : Option ℕ). record { stable = s.stable ++ stably_added ops w x r; bound = (x.cursor + r) * w; tentative = s.tentative ++ closed_added ops w y (count - r); passed = o }) told
     ∙ ap (λ (b : ℕ). record {

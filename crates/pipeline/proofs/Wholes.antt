@@ -3,7 +3,7 @@ use Rattle.std.proofs.Common.{◌≡◌, ℕ, ◌+◌, ◌-◌, ◌*◌, ◌^◌
 use Rattle.std.specs.Prelude.{if◌then◌else◌}
 use Rattle.dpc_lists.specs.Lists.{is_nil}
 use Rattle.dpc_model.specs.Fragments.{fragment_value}
-use Rattle.dpc_model.specs.Parts.{Inputs, view_of, processed, Stream, stream_by, Outputs}
+use Rattle.dpc_model.specs.Parts.{Inputs, frontier_of, processed, Stream, stream_by, Outputs}
 use Rattle.dpc_model.specs.PartStands.{KeeperValue, at_cursor, OutputValue, StandsForOutput}
 use Rattle.dpc_model.specs.Sessions.{batches_of, with_batches}
 use Rattle.dpc_model.specs.declared.operators.OpSpec.{OpSpec}
@@ -100,8 +100,8 @@ stably-is w last x r count ready e a b = e ∙ ap (λ (n : ℕ). min n ready) a 
 min-below : (a b : ℕ) → min a b ≤ a
 min-below a b = omega arith
 
-some-upto : (last view : ℕ) → view ≤ last → 0 < last + 1 - view
-some-upto last view h = omega (arith, h)
+some-upto : (last frontier : ℕ) → frontier ≤ last → 0 < last + 1 - frontier
+some-upto last frontier h = omega (arith, h)
 
 pub process-can : (ops : List OpSpec) (v : PipelineValue) (x : Inputs) (o : Outputs) (last : ℕ) → CanProcess ops v x o last → CanAdvance v.union.width x (stably_upto v.union.width last x)
 process-can ops v x o last can =
@@ -109,7 +109,7 @@ process-can ops v x o last can =
     let r = stably_upto w last x in
     record {
       ready = can.stable;
-      end = ends-below w (x.cursor + r) (view_of (after_advancing r x) + (count_upto last x - r)) (2 ^ 64) (within x.cursor r (length x.closed) (count_upto last x - r)) can.closing.end;
+      end = ends-below w (x.cursor + r) (frontier_of (after_advancing r x) + (count_upto last x - r)) (2 ^ 64) (within x.cursor r (length x.closed) (count_upto last x - r)) can.closing.end;
     }
   where
     within : (a b c d : ℕ) → a + b ≤ a + b + c + d
@@ -143,11 +143,11 @@ processed-upto ops old u v k n out x o last r count new told can same_r same_cou
     let upto = (last + 1) * w in
     let passed_few : new.passed ≡ (if old.passing && nat_lt few all then Some upto else None) =
     passed ∙ ap (λ (j : ℕ). if old.passing && nat_lt j count then Some upto else None) same_r ∙ ap (λ (j : ℕ). if old.passing && nat_lt few j then Some upto else None) same_count in
-    let end : upto ≡ (view_of y + (all - few)) * w = ap (λ (j : ℕ). j * w) (end-upto last x.cursor (length x.closed) few can.view low) in
+    let end : upto ≡ (frontier_of y + (all - few)) * w = ap (λ (j : ℕ). j * w) (end-upto last x.cursor (length x.closed) few can.frontier low) in
     let e : t ≡ stream_with new s =
-    process-stream ops w old.passing x few all upto new can.stands.sound can.stands.some low (some-upto last (view_of x) can.view) can.stable can.closing end advanced_few.output bound_few closed_few.output passed_few in
+    process-stream ops w old.passing x few all upto new can.stands.sound can.stands.some low (some-upto last (frontier_of x) can.frontier) can.stable can.closing end advanced_few.output bound_few closed_few.output passed_few in
     let told_few : new.passed ≡ (if nat_lt few all then t.passed else None) =
-    passed-given old.passing (nat_lt few all) (is_nil x.closed) upto (view_of x * w) new.passed t.passed passed_few (ap (λ (q : Stream). q.passed) e) in
+    passed-given old.passing (nat_lt few all) (is_nil x.closed) upto (frontier_of x * w) new.passed t.passed passed_few (ap (λ (q : Stream). q.passed) e) in
     let g = gave new s t old.output o (nat_lt 0 few) (nat_lt few all) told can.stands.output e bound_few told_few sent in
     let items = items_between s t (nat_lt 0 few) (nat_lt few all) in
     record {
@@ -174,7 +174,7 @@ work-undone ops u k n x h same =
     let w = u.width in
     let at = at_cursor k.keeper in
     let zero : x.cursor + 0 ≡ x.cursor = omega arith in
-    let view : MillAfter at (processed w x ++ []) (x.cursor + 0) = rw (zero, append-nil (processed w x)) (h.keeper.cursor refl) in
+    let frontier : MillAfter at (processed w x ++ []) (x.cursor + 0) = rw (zero, append-nil (processed w x)) (h.keeper.cursor refl) in
     let mill : IsMillOf ops w at = cursor-mill (IsMillOf ops w) k.keeper.held k.keeper.state h.state h.held in
     let bare : StandsForWork ops (with_closed 0 u) (record { keeper = record { state = at; held = None }; spent = n.spent }) (without_closed x) = record {
       sound = h.sound;
@@ -182,7 +182,7 @@ work-undone ops u k n x h same =
       ports = undoing-stands u x h.ports;
       state = mill;
       held = tt;
-      keeper = record { held = (λ _. refl, λ _. refl); cursor = λ _. h.keeper.cursor refl; view = λ _. view };
+      keeper = record { held = (λ _. refl, λ _. refl); cursor = λ _. h.keeper.cursor refl; frontier = λ _. frontier };
     } in
     subst (λ (q : KeeperValue MillState). StandsForWork ops (with_closed 0 u) (record { keeper = q; spent = n.spent }) (without_closed x)) (sym same) bare
 

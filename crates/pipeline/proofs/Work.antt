@@ -4,7 +4,7 @@ use Rattle.std.specs.Prelude.{IfSome, IsNone, ◌↔◌}
 use Rattle.std.specs.List.{filter}
 use Rattle.dpc_model.specs.Operators.{all_of}
 use Rattle.dpc_model.specs.Engines.{FitsBucket}
-use Rattle.dpc_model.specs.Parts.{Inputs, view_of, processed, processed_view}
+use Rattle.dpc_model.specs.Parts.{Inputs, frontier_of, processed, processed_and_closed}
 use Rattle.dpc_model.specs.PartStands.{at_cursor, StandsForPorts, StandsForKeeper}
 use Rattle.dpc_model.specs.declared.operators.OpSpec.{OpSpec}
 use Rattle.dpc_model.specs.declared.tuples.Tuple.{Tuple}
@@ -49,7 +49,7 @@ run-next ops w k m before x first i bucket added same number h =
 pub none-run : (ops : List OpSpec) (u : SUnionValue) (k : KeptValue MillState) (x : Inputs) → StandsForWork ops u k x → x.closed ≡ [] → HasRun ops u.width k.keeper.state (processed u.width x) [] x.cursor []
 none-run ops u k x h none = record {
   mill = h.state;
-  after = subst (λ (cs : List (List Tagged)). MillAfter k.keeper.state (processed u.width x ++ all_of cs) (x.cursor + length cs)) none (h.keeper.view refl);
+  after = subst (λ (cs : List (List Tagged)). MillAfter k.keeper.state (processed u.width x ++ all_of cs) (x.cursor + length cs)) none (h.keeper.frontier refl);
   output = refl;
 }
 
@@ -74,7 +74,7 @@ work-advanced ops u v k n x count added wide ports same h ready run =
     let keeper : StandsForKeeper MillAfter w false n.keeper y = record {
       held = subst (λ (o : Option MillState). IsNone o ↔ (x.closed ≡ [])) (sym same) h.keeper.held;
       cursor = λ _. open-at n.keeper.held m (λ (s : MillState). MillAfter s (processed w y) (x.cursor + count)) none stood;
-      view = λ _. subst (λ (cs : List (List Tagged)). MillAfter m (processed w y ++ all_of cs) ((x.cursor + count) + length cs)) (sym ready.none_closed) whole;
+      frontier = λ _. subst (λ (cs : List (List Tagged)). MillAfter m (processed w y ++ all_of cs) ((x.cursor + count) + length cs)) (sym ready.none_closed) whole;
     } in
     record {
       stands = record {
@@ -95,7 +95,7 @@ work-still ops u v k x count e wide ports h =
     let zero : x.cursor ≡ x.cursor + 0 = omega arith in
     let keeper : StandsForKeeper MillAfter w false k.keeper (after_advancing 0 x) =
     subst (λ (c : ℕ). StandsForKeeper MillAfter w false k.keeper (record x { cursor = c; stamps = filter (λ (s : ℕ × ℕ). nat_le (x.cursor + 0) s.0) x.stamps })) zero
-    (record { held = h.keeper.held; cursor = h.keeper.cursor; view = h.keeper.view }) in
+    (record { held = h.keeper.held; cursor = h.keeper.cursor; frontier = h.keeper.frontier }) in
     rw e (record {
       stands = record {
         sound = h.sound;
@@ -110,10 +110,10 @@ work-still ops u v k x count e wide ports h =
 
 -- ---- closed buckets
 
-pub view-run : (ops : List OpSpec) (u : SUnionValue) (k : KeptValue MillState) (x : Inputs) → StandsForWork ops u k x → HasRun ops u.width k.keeper.state (processed_view u.width x) [] (view_of x) []
+pub view-run : (ops : List OpSpec) (u : SUnionValue) (k : KeptValue MillState) (x : Inputs) → StandsForWork ops u k x → HasRun ops u.width k.keeper.state (processed_and_closed u.width x) [] (frontier_of x) []
 view-run ops u k x h = record {
   mill = h.state;
-  after = let zero : view_of x + 0 ≡ view_of x = omega arith in rw (zero, append-nil (processed_view u.width x)) (h.keeper.view refl);
+  after = let zero : frontier_of x + 0 ≡ frontier_of x = omega arith in rw (zero, append-nil (processed_and_closed u.width x)) (h.keeper.frontier refl);
   output = refl;
 }
 
@@ -122,12 +122,12 @@ pub ports-more : (u v : SUnionValue) (x : Inputs) (w i : ℕ) → v.width ≡ w 
 ports-more u v x w i wide new h =
     let y = after_closing_all w i x in
     let more = closing-stands v y h in
-    let next : view_of y ≡ view_of x + i = view-closes w x i in
-    let closed : y.closed ++ bucket_in v.width y (view_of y) ∷ [] ≡ x.closed ++ buckets_from w x (view_of x) (i + 1) =
-    ap (λ (j : ℕ). y.closed ++ bucket_in j x (view_of y) ∷ []) wide
+    let next : frontier_of y ≡ frontier_of x + i = view-closes w x i in
+    let closed : y.closed ++ bucket_in v.width y (frontier_of y) ∷ [] ≡ x.closed ++ buckets_from w x (frontier_of x) (i + 1) =
+    ap (λ (j : ℕ). y.closed ++ bucket_in j x (frontier_of y) ∷ []) wide
     ∙ ap (λ (j : ℕ). y.closed ++ bucket_in w x j ∷ []) next
-    ∙ append_assoc x.closed (buckets_from w x (view_of x) i) (bucket_in w x (view_of x + i) ∷ [])
-    ∙ ap (λ (bs : List (List Tagged)). x.closed ++ bs) (sym (buckets-more w x (view_of x) i)) in
+    ∙ append_assoc x.closed (buckets_from w x (frontier_of x) i) (bucket_in w x (frontier_of x + i) ∷ [])
+    ∙ ap (λ (bs : List (List Tagged)). x.closed ++ bs) (sym (buckets-more w x (frontier_of x) i)) in
     subst (λ (t : SUnionValue). StandsForPorts t.width t.union (after_closing_all w (i + 1) x)) (sym new)
     (subst (λ (cs : List (List Tagged)). StandsForPorts v.width (record v.union { closed = v.union.closed + 1 }) (record x { closed = cs })) closed more)
 
@@ -140,18 +140,18 @@ not-empty xs ys count some many e = let none = ap (λ (zs : List (List Tagged)).
 
 pub work-closed : (ops : List OpSpec) (u v : SUnionValue) (k n : KeptValue MillState) (x : Inputs) (count : ℕ) (added : List Tuple) → 0 < count → v.width ≡ u.width →
     StandsForPorts v.width v.union (after_closing_all u.width count x) → n.keeper.held ≡ Some (at_cursor k.keeper) → StandsForWork ops u k x → CanClose u.width x count →
-    HasRun ops u.width n.keeper.state (processed_view u.width x) (buckets_from u.width x (view_of x) count) (view_of x) added → HasClosed ops v n u.width x count added
+    HasRun ops u.width n.keeper.state (processed_and_closed u.width x) (buckets_from u.width x (frontier_of x) count) (frontier_of x) added → HasClosed ops v n u.width x count added
 work-closed ops u v k n x count added some wide ports same h can run =
     let w = u.width in
     let m = n.keeper.state in
     let at = at_cursor k.keeper in
     let y = after_closing_all w count x in
-    let bs = buckets_from w x (view_of x) count in
-    let number : view_of x + length bs ≡ view_of y = ap (λ (j : ℕ). view_of x + j) (count-buckets w x (view_of x) count) ∙ sym (view-closes w x count) in
-    let stood : MillAfter m (processed_view w y) (view_of y) =
-    subst (λ (j : ℕ). MillAfter m (processed_view w y) j) number (subst (λ (xs : List Tagged). MillAfter m xs (view_of x + length bs)) (sym (inputs-close w x count)) run.after) in
-    let held : IsNone (Some at) ↔ (y.closed ≡ []) = (λ none. absurd cc, λ e. absurd (not-empty x.closed bs count some (count-buckets w x (view_of x) count) e)) in
-    let keeper : StandsForKeeper MillAfter w false (record { state = m; held = Some at }) y = record { held = held; cursor = λ _. h.keeper.cursor refl; view = λ _. stood } in
+    let bs = buckets_from w x (frontier_of x) count in
+    let number : frontier_of x + length bs ≡ frontier_of y = ap (λ (j : ℕ). frontier_of x + j) (count-buckets w x (frontier_of x) count) ∙ sym (view-closes w x count) in
+    let stood : MillAfter m (processed_and_closed w y) (frontier_of y) =
+    subst (λ (j : ℕ). MillAfter m (processed_and_closed w y) j) number (subst (λ (xs : List Tagged). MillAfter m xs (frontier_of x + length bs)) (sym (inputs-close w x count)) run.after) in
+    let held : IsNone (Some at) ↔ (y.closed ≡ []) = (λ none. absurd cc, λ e. absurd (not-empty x.closed bs count some (count-buckets w x (frontier_of x) count) e)) in
+    let keeper : StandsForKeeper MillAfter w false (record { state = m; held = Some at }) y = record { held = held; cursor = λ _. h.keeper.cursor refl; frontier = λ _. stood } in
     record {
       stands = record {
         sound = h.sound;
@@ -176,21 +176,21 @@ work-open ops u k x count e h =
 
 -- ---- numbers
 
-pub view-number : (v : SUnionValue) (x : Inputs) (w i : ℕ) → StandsForPorts v.width v.union (after_closing_all w i x) → v.union.cursor + v.union.closed ≡ view_of x + i
+pub view-number : (v : SUnionValue) (x : Inputs) (w i : ℕ) → StandsForPorts v.width v.union (after_closing_all w i x) → v.union.cursor + v.union.closed ≡ frontier_of x + i
 view-number v x w i h = let cursor = h.cursor in let closed = h.closed in let next = view-closes w x i in omega (arith, cursor, closed, next)
 
 pub view-is : (v : SUnionValue) (x : Inputs) (w i k cursor closed : ℕ) → cursor ≡ v.union.cursor → closed ≡ v.union.closed → k ≡ cursor + closed →
-    StandsForPorts v.width v.union (after_closing_all w i x) → k ≡ view_of x + i
+    StandsForPorts v.width v.union (after_closing_all w i x) → k ≡ frontier_of x + i
 view-is v x w i k cursor closed a b e h = let number = view-number v x w i h in omega (arith, a, b, e, number)
 
 -- the next bucket to close, where i are closed, is that of the inputs before
-pub closed-bucket : (v : SUnionValue) (x : Inputs) (w i : ℕ) (bucket : List Tagged) → v.width ≡ w → bucket ≡ bucket_in v.width (after_closing_all w i x) (view_of (after_closing_all w i x)) → bucket ≡ bucket_in w x (view_of x + i)
+pub closed-bucket : (v : SUnionValue) (x : Inputs) (w i : ℕ) (bucket : List Tagged) → v.width ≡ w → bucket ≡ bucket_in v.width (after_closing_all w i x) (frontier_of (after_closing_all w i x)) → bucket ≡ bucket_in w x (frontier_of x + i)
 closed-bucket v x w i bucket wide e =
-    e ∙ ap (λ (j : ℕ). bucket_in j x (view_of (after_closing_all w i x))) wide ∙ ap (λ (n : ℕ). bucket_in w x n) (view-closes w x i)
+    e ∙ ap (λ (j : ℕ). bucket_in j x (frontier_of (after_closing_all w i x))) wide ∙ ap (λ (n : ℕ). bucket_in w x n) (view-closes w x i)
 
 -- where i of so many buckets are closed, one more can be
-pub can-end : (ops : List OpSpec) (u : SUnionValue) (k : KeptValue MillState) (x : Inputs) (count i : ℕ) → StandsForWork ops u k x → CanClose u.width x count → i < count → (view_of x + i + 1) * u.width < 2 ^ 64
-can-end ops u k x count i h can low = ends-below u.width (view_of x + i + 1) (view_of x + count) (2 ^ 64) (omega (arith, low)) can.end
+pub can-end : (ops : List OpSpec) (u : SUnionValue) (k : KeptValue MillState) (x : Inputs) (count i : ℕ) → StandsForWork ops u k x → CanClose u.width x count → i < count → (frontier_of x + i + 1) * u.width < 2 ^ 64
+can-end ops u k x count i h can low = ends-below u.width (frontier_of x + i + 1) (frontier_of x + count) (2 ^ 64) (omega (arith, low)) can.end
 
-pub can-number : (ops : List OpSpec) (u : SUnionValue) (k : KeptValue MillState) (x : Inputs) (count i : ℕ) → StandsForWork ops u k x → CanClose u.width x count → i < count → view_of x + i + 1 < 2 ^ 64
-can-number ops u k x count i h can low = number-below u.width (view_of x + i + 1) (2 ^ 64) h.some (can-end ops u k x count i h can low)
+pub can-number : (ops : List OpSpec) (u : SUnionValue) (k : KeptValue MillState) (x : Inputs) (count i : ℕ) → StandsForWork ops u k x → CanClose u.width x count → i < count → frontier_of x + i + 1 < 2 ^ 64
+can-number ops u k x count i h can low = number-below u.width (frontier_of x + i + 1) (2 ^ 64) h.some (can-end ops u k x count i h can low)

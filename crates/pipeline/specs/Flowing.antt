@@ -3,7 +3,7 @@ use Rattle.std.specs.Prelude.{◌≡◌, ℕ, ◌+◌, ◌-◌, ◌<◌, ◌≤�
 use Rattle.dpc_lists.specs.Lists.{is_nil}
 use Rattle.dpc_model.specs.Engines.{nameless}
 use Rattle.dpc_model.specs.Fragments.{AreSoundOps, fragment_value}
-use Rattle.dpc_model.specs.Parts.{Inputs, view_of, Stream, stream_by, Outputs}
+use Rattle.dpc_model.specs.Parts.{Inputs, frontier_of, Stream, stream_by, Outputs}
 use Rattle.dpc_model.specs.PartStands.{StandsForPorts, StandsForKeeper, OutputValue, StandsForOutput}
 use Rattle.dpc_model.specs.Sessions.{base_after, Given, given_items, batches_of, with_batches}
 use Rattle.dpc_model.specs.declared.operators.OpSpec.{OpSpec}
@@ -77,7 +77,7 @@ outputs_given items t o = record { subs = with_batches items o.subs; acks = o.ac
 
 -- of buckets up to a last one: how many there are, and how many of them are processed stably
 abbrev pub count_upto : ℕ → Inputs → ℕ
-count_upto last x = last + 1 - view_of x
+count_upto last x = last + 1 - frontier_of x
 
 abbrev pub stably_upto : ℕ → ℕ → Inputs → ℕ
 stably_upto width last x = min (count_upto last x) (if is_nil x.closed then complete_upto_in width x - x.cursor else 0)
@@ -104,7 +104,7 @@ pub record CanMill (ops : List OpSpec) (v : PipelineValue) (x : Inputs) (o : Out
 -- all buckets up to a last one can be processed or closed
 pub record CanProcess (ops : List OpSpec) (v : PipelineValue) (x : Inputs) (o : Outputs) (last : ℕ) : Type 0 where
   pub stands : StandsForData ops v x o
-  pub view : view_of x ≤ last
+  pub frontier : frontier_of x ≤ last
   pub stable : 0 < stably_upto v.union.width last x → AreReady v.union.width x (stably_upto v.union.width last x)
   pub closing : CanClose v.union.width (after_advancing (stably_upto v.union.width last x) x) (count_upto last x - stably_upto v.union.width last x)
 

@@ -3,7 +3,7 @@ use Rattle.std.specs.Prelude.{◌≡◌, ℕ, ◌+◌, ◌*◌, ◌^◌, ◌<◌
 use Rattle.dpc_model.specs.Operators.{all_of}
 use Rattle.dpc_model.specs.Engines.{engine_value}
 use Rattle.dpc_model.specs.Fragments.{AreSoundOps}
-use Rattle.dpc_model.specs.Parts.{Inputs, view_of, processed, processed_view}
+use Rattle.dpc_model.specs.Parts.{Inputs, frontier_of, processed, processed_and_closed}
 use Rattle.dpc_model.specs.PartStands.{StandsForPorts, StandsForKeeper}
 use Rattle.dpc_model.specs.declared.operators.OpSpec.{OpSpec}
 use Rattle.dpc_model.specs.declared.tuples.Tuple.{Tuple}
@@ -43,4 +43,4 @@ pub record HasAdvanced (ops : List OpSpec) (u : SUnionValue) (k : KeptValue Mill
 -- so many buckets were closed, and added these tuples
 pub record HasClosed (ops : List OpSpec) (u : SUnionValue) (k : KeptValue MillState) (width : ℕ) (x : Inputs) (count : ℕ) (added : List Tuple) : Type 0 where
   pub stands : StandsForWork ops u k (after_closing_all width count x)
-  pub output : added ≡ added_by (engine_value ops) width (processed_view width x) (buckets_from width x (view_of x) count) (view_of x)
+  pub output : added ≡ added_by (engine_value ops) width (processed_and_closed width x) (buckets_from width x (frontier_of x) count) (frontier_of x)

@@ -4,7 +4,7 @@ use Rattle.std.proofs.lemmas.Grind.{common_steps}
 use Rattle.dpc_lists.specs.Lists.{least, place_of, nth}
 use Rattle.dpc_model.specs.Replicas.{rank_order, choose}
 use Rattle.dpc_model.specs.declared.messages.Rank.{Rank}
-use Rattle.dpc_model.specs.declared.messages.Rank.TheVariants.{Stable, UpFailure, Stabilizing, Silent}
+use Rattle.dpc_model.specs.declared.messages.Rank.TheVariants.{Stable, UpFailure, Stabilizing, Absent}
 
 -- the least order of the first ranks, 3 where there is none
 abbrev pub least_to : ℕ → List Rank → ℕ
@@ -19,7 +19,7 @@ order-low : (r : Rank) → rank_order r ≤ 3
 order-low Stable = lit≤ tt
 order-low UpFailure = lit≤ tt
 order-low Stabilizing = lit≤ tt
-order-low Silent = lit≤ tt
+order-low Absent = lit≤ tt
 
 least-low : (ranks : List Rank) → least 3 (map rank_order ranks) ≤ 3
 least-low [] = lit≤ tt

@@ -14,7 +14,7 @@ fn order_of(rank: Rank) -> u8
         Rank::Stable => 0,
         Rank::UpFailure => 1,
         Rank::Stabilizing => 2,
-        Rank::Silent => 3,
+        Rank::Absent => 3,
     }
 }
 
@@ -22,7 +22,7 @@ fn order_of(rank: Rank) -> u8
 fn best_order(ranks: &[Rank]) -> u8
     ensures { result ≡ least 3 (map rank_order ranks.now) }
 {
-    let mut best = order_of(Rank::Silent);
+    let mut best = order_of(Rank::Absent);
     for rank in ranks {
         best = best.min(order_of(*rank));
     }

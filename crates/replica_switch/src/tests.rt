@@ -5,10 +5,10 @@ use dpc_model::messages::Rank;
 /// The ranks, the current replica, and the chosen one.
 const CASES: [([Rank; 3], usize, usize); 5] = [
     ([Rank::Stable, Rank::Stable, Rank::Stable], 1, 1),
-    ([Rank::UpFailure, Rank::Silent, Rank::UpFailure], 2, 2),
-    ([Rank::Silent, Rank::Stable, Rank::Stable], 0, 1),
-    ([Rank::Stabilizing, Rank::Silent, Rank::UpFailure], 0, 2),
-    ([Rank::Silent, Rank::Silent, Rank::Silent], 2, 2),
+    ([Rank::UpFailure, Rank::Absent, Rank::UpFailure], 2, 2),
+    ([Rank::Absent, Rank::Stable, Rank::Stable], 0, 1),
+    ([Rank::Stabilizing, Rank::Absent, Rank::UpFailure], 0, 2),
+    ([Rank::Absent, Rank::Absent, Rank::Absent], 2, 2),
 ];
 
 #[test]

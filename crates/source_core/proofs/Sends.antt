@@ -5,7 +5,7 @@ use Rattle.std.proofs.lemmas.Grind.{common_steps}
 use Rattle.std.proofs.lemmas.List.{map-append, append_assoc}
 use Rattle.std.specs.List.{zip}
 use Rattle.dpc_lists.specs.Lists.{nth, is_nil}
-use Rattle.dpc_model.specs.Sessions.{stable_items, boundary_item, given_items, with_batch, with_batches, batches_of, link_of}
+use Rattle.dpc_model.specs.Sessions.{stable_items, boundary_item, given_items, with_batch, with_batches, batches_of, tally_of}
 use Rattle.dpc_model.specs.Fragments.{log_of}
 use Rattle.dpc_model.specs.declared.plans.Plan.{Plan}
 use Rattle.dpc_model.specs.declared.tuples.Tuple.{Tuple}
@@ -88,19 +88,19 @@ addressed-more readers outs o m rest e k =
 -- ---- beats
 
 abbrev pub beats_to : List ℕ → List Sub → List Mail
-beats_to readers subs = map (λ (y : ℕ × Sub). mail y.0 (source_beat (link_of y.1))) (zip readers subs)
+beats_to readers subs = map (λ (y : ℕ × Sub). mail y.0 (source_beat (tally_of y.1))) (zip readers subs)
 
 beats-more : (i : ℕ) (readers : List ℕ) (subs : List Sub) (a : ℕ) (s : Sub) → i < length readers → i < length subs →
-    beats_to (take (i + 1) readers) (take (i + 1) subs) ≡ beats_to (take i readers) (take i subs) ++ mail (slice_index_or readers i a) (source_beat (link_of (slice_index_or subs i s))) ∷ []
+    beats_to (take (i + 1) readers) (take (i + 1) subs) ≡ beats_to (take i readers) (take i subs) ++ mail (slice_index_or readers i a) (source_beat (tally_of (slice_index_or subs i s))) ∷ []
 beats-more i [] subs a s low high = absurd (omega (arith, low))
 beats-more i (x ∷ readers) [] a s low high = absurd (omega (arith, high))
 beats-more zero (x ∷ readers) (y ∷ subs) a s low high = refl
 beats-more (suc i) (x ∷ readers) (y ∷ subs) a s low high =
     let next : suc i + 1 ≡ suc (i + 1) = omega arith in
-    rw next (ap (λ (ms : List Mail). mail x (source_beat (link_of y)) ∷ ms) (beats-more i readers subs a s (omega (arith, low)) (omega (arith, high))))
+    rw next (ap (λ (ms : List Mail). mail x (source_beat (tally_of y)) ∷ ms) (beats-more i readers subs a s (omega (arith, low)) (omega (arith, high))))
 
 pub told-more : (i : ℕ) (readers : List ℕ) (subs : List Sub) (old new : List Out) (o : Out) (a : ℕ) (s : Sub) → i < length readers → length subs ≡ length readers →
-    mails old ≡ beats_to (take i readers) (take i subs) → new ≡ old ++ o ∷ [] → o.to ≡ slice_index_or readers i a → o.message ≡ source_beat (link_of (slice_index_or subs i s)) →
+    mails old ≡ beats_to (take i readers) (take i subs) → new ≡ old ++ o ∷ [] → o.to ≡ slice_index_or readers i a → o.message ≡ source_beat (tally_of (slice_index_or subs i s)) →
     mails new ≡ beats_to (take (i + 1) readers) (take (i + 1) subs)
 told-more i readers subs old new o a s low same before pushed e k =
     ap mails pushed ∙ map-append as_mail old (o ∷ []) ∙ ap (λ (ms : List Mail). ms ++ as_mail o ∷ []) before

@@ -1,7 +1,7 @@
 //! What a source sends.
 ghost use Rattle.std.specs.Prelude.{◌≡◌, ◌≤◌, ℕ, not, map, zip, length, IfOk};
 ghost use Rattle.dpc_lists.specs.Lists.{nth};
-ghost use Rattle.dpc_model.specs.Sessions.{given_items, batches_of, link_of};
+ghost use Rattle.dpc_model.specs.Sessions.{given_items, batches_of, tally_of};
 ghost use Rattle.dpc_model.specs.declared.sessions.Sub.{Sub};
 ghost use Rattle.node_model.specs.Mails.{mail, mails, to_readers};
 ghost use Rattle.node_model.specs.Sources.{source_beat};
@@ -79,15 +79,15 @@ pub(crate) fn addressed(
 }
 
 /// What a source tells of itself.
-fn beat(link: Option<(Sess, u64)>) -> Message
-    ensures { result ≡ source_beat link }
+fn beat(tally: Option<(Sess, u64)>) -> Message
+    ensures { result ≡ source_beat tally }
 {
     Message::Beat(Beat {
         inc: 1,
         state: NodeState::Stable,
         recovering: false,
         over: 0,
-        link,
+        tally,
     })
 }
 
@@ -98,11 +98,11 @@ pub(crate) fn beats(
     sessions: &[Sub],
 ) -> Result<Vec<Out>, AllocError>
     requires { length sessions.now ≡ length readers.now }
-    ensures { IfOk result (λ outs. mails outs.items ≡ map (λ (y : ℕ × Sub). mail y.0 (source_beat (link_of y.1))) (zip readers.now sessions.now)) }
+    ensures { IfOk result (λ outs. mails outs.items ≡ map (λ (y : ℕ × Sub). mail y.0 (source_beat (tally_of y.1))) (zip readers.now sessions.now)) }
 {
     let mut outs = Vec::with_capacity(alloc, readers.len())?;
     for (reader, to) in readers.iter().enumerate() {
-        let message = beat(sessions[reader].link());
+        let message = beat(sessions[reader].tally());
         outs.push(Out { to: *to, message })?;
     }
     Ok(outs)

@@ -110,14 +110,14 @@ fn is_batch(outs: &[Out], wanted: Sess, number: u64, items: &[Item]) -> bool {
 }
 
 /// Whether exactly a beat with this session goes to actor 1.
-fn is_beat(outs: &[Out], link: Option<(Sess, u64)>) -> bool {
+fn is_beat(outs: &[Out], tally: Option<(Sess, u64)>) -> bool {
     let [out] = outs else {
         return false;
     };
     let Message::Beat(beat) = &out.message else {
         return false;
     };
-    out.to == 1 && beat.link == link
+    out.to == 1 && beat.tally == tally
 }
 
 #[test]

@@ -3,7 +3,7 @@ use Rattle.std.proofs.Common.{◌≡◌, ℕ, zero, suc, ◌+◌, ◌<◌, true,
 use Rattle.std.specs.Prelude.{◌^◌, nat_lt}
 use Rattle.std.proofs.lemmas.Bool.{and_parts, or_parts, ltb-true}
 use Rattle.dpc_lists.specs.Lists.{list_all, list_any}
-use Rattle.dpc_model.specs.Sessions.{link_of, with_batch, batches_from, batches_of}
+use Rattle.dpc_model.specs.Sessions.{tally_of, with_batch, batches_from, batches_of}
 use Rattle.dpc_model.specs.declared.tuples.Item.{Item}
 use Rattle.dpc_model.specs.declared.messages.Sess.{Sess}
 use Rattle.dpc_model.specs.declared.messages.Message.{Message}
@@ -12,20 +12,20 @@ use Rattle.dpc_model.specs.declared.sessions.Sub.{Sub}
 use Rattle.soutput.specs.Giving.{batch_to}
 
 pub batches-taken : (k i : ℕ) (items : List Item) (subs : List Sub) (d : Sub) → i < length subs →
-    batches_from k items (take (i + 1) subs) ≡ batches_from k items (take i subs) ++ batch_to (k + i) items (link_of (slice_index_or subs i d))
+    batches_from k items (take (i + 1) subs) ≡ batches_from k items (take i subs) ++ batch_to (k + i) items (tally_of (slice_index_or subs i d))
 batches-taken k i items [] d low = absurd (omega (arith, low))
 batches-taken k zero items (x ∷ subs) d low =
     let none : k + 0 ≡ k = omega arith in
     let first_to : Option (Sess × ℕ) → List (ℕ × Message) = λ o. elim o [ None ↦ [] | Some l ↦ (k, message.Batch l.0 l.1 items) ∷ [] ] in
-    rw none (elim (link_of x) as (λ o. first_to o ≡ batch_to k items o) [ None ↦ refl | Some l ↦ refl ])
+    rw none (elim (tally_of x) as (λ o. first_to o ≡ batch_to k items o) [ None ↦ refl | Some l ↦ refl ])
 batches-taken k (suc i) items (x ∷ subs) d low =
     let next : k + 1 + i ≡ k + suc i = omega arith in
     let more : suc i + 1 ≡ suc (i + 1) = omega arith in
     let ms = batches_from (k + 1) items (take i subs) in
-    let m = batch_to (k + suc i) items (link_of (slice_index_or subs i d)) in
+    let m = batch_to (k + suc i) items (tally_of (slice_index_or subs i d)) in
     let rest : batches_from (k + 1) items (take (i + 1) subs) ≡ ms ++ m = rw next at (batches-taken (k + 1) i items subs d (omega (arith, low))) in
     let in_front : List (ℕ × Message) → Option (Sess × ℕ) → List (ℕ × Message) = λ ns o. elim o [ None ↦ ns | Some l ↦ (k, message.Batch l.0 l.1 items) ∷ ns ] in
-    rw more (elim (link_of x) as (λ o. in_front (batches_from (k + 1) items (take (i + 1) subs)) o ≡ in_front ms o ++ m) [
+    rw more (elim (tally_of x) as (λ o. in_front (batches_from (k + 1) items (take (i + 1) subs)) o ≡ in_front ms o ++ m) [
       | None ↦ rest
       | Some l ↦ ap (λ (ns : List (ℕ × Message)). (k, message.Batch l.0 l.1 items) ∷ ns) rest
     ])
@@ -53,8 +53,8 @@ room-at i [] d h low = absurd (omega (arith, low))
 room-at zero (x ∷ subs) d h low = ltb-true (x.batches + 1) (2 ^ 64) (and_parts (nat_lt (x.batches + 1) (2 ^ 64)) _ h).0
 room-at (suc i) (x ∷ subs) d h low = room-at i subs d (and_parts (nat_lt (x.batches + 1) (2 ^ 64)) _ h).1 (omega (arith, low))
 
-shut-link : (s : Sub) → s.is_open ≡ false → link_of s ≡ None
-shut-link s h = elim s.kept as (λ k. link_of (record s { kept = k }) ≡ None) [ None ↦ refl | Some u ↦ rw h refl ]
+shut-tally : (s : Sub) → s.is_open ≡ false → tally_of s ≡ None
+shut-tally s h = elim s.kept as (λ k. tally_of (record s { kept = k }) ≡ None) [ None ↦ refl | Some u ↦ rw h refl ]
 
 -- where no session is open, nothing is sent
 none-sent : (k : ℕ) (items : List Item) (subs : List Sub) → list_any (λ (s : Sub). s.is_open) subs ≡ false → batches_from k items subs ≡ []
@@ -62,7 +62,7 @@ none-sent k items [] h = refl
 none-sent k items (x ∷ subs) h =
     let p = or_parts x.is_open (list_any (λ (s : Sub). s.is_open) subs) h in
     let after : Option (Sess × ℕ) → List (ℕ × Message) = λ o. elim o [ None ↦ batches_from (k + 1) items subs | Some l ↦ (k, message.Batch l.0 l.1 items) ∷ batches_from (k + 1) items subs ] in
-    ap after (shut-link x p.0) ∙ none-sent (k + 1) items subs p.1
+    ap after (shut-tally x p.0) ∙ none-sent (k + 1) items subs p.1
 
 pub none-of : (items : List Item) (subs : List Sub) → list_any (λ (s : Sub). s.is_open) subs ≡ false → batches_of items subs ≡ []
 none-of [] subs h = refl

@@ -1,7 +1,7 @@
 //! The sessions of all readers, and a batch to each.
 ghost use Rattle.std.specs.Prelude.{◌≡◌, ◌+◌, ◌^◌, ◌<◌, ◌++◌, true, nat_lt, map, IfOk, OnOk};
 ghost use Rattle.dpc_lists.specs.Lists.{list_all, list_any};
-ghost use Rattle.dpc_model.specs.Sessions.{opening_session, with_batch, with_session_shut, link_of, batches_of};
+ghost use Rattle.dpc_model.specs.Sessions.{opening_session, with_batch, with_session_shut, tally_of, batches_of};
 ghost use Rattle.dpc_model.specs.declared.sessions.Sub.{Sub};
 ghost use Rattle.soutput.specs.Giving.{batch_to};
 
@@ -29,9 +29,9 @@ fn push_batch(
     session: &Sub,
     items: &Shared<Item>,
 ) -> Result<(), NoMemory>
-    ensures { OnOk result (sends.new.items ≡ sends.old.items ++ batch_to reader items.now (link_of session.now)) }
+    ensures { OnOk result (sends.new.items ≡ sends.old.items ++ batch_to reader items.now (tally_of session.now)) }
 {
-    if let Some((sess, index)) = session.link() {
+    if let Some((sess, index)) = session.tally() {
         let batch = Message::Batch(sess, index, items.share()?);
         sends.push((reader as u64, batch))?;
     }

@@ -180,7 +180,7 @@ fn tuples_that_are_gone_are_not_sent(rt: HostRuntime) -> Result<(), Fail> {
     let answer = opened(alloc, &mut output, 0, asked(1, false), NodeState::Stable)?;
     assert!(rt; matches!(answer, Some(Message::Truncated(sess, 2)) if sess == FIRST));
     assert!(rt; output.readers() == 1);
-    assert!(rt; output.newest(0) == Some(FIRST) && output.link(0).is_none());
+    assert!(rt; output.newest(0) == Some(FIRST) && output.tally(0).is_none());
     Ok(())
 }
 

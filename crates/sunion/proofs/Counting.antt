@@ -5,11 +5,11 @@ use Rattle.std.proofs.lemmas.Grind.{common_steps}
 use Rattle.std.proofs.Math.Nat.{le-div_iff_mul-le}
 use Rattle.std.proofs.lemmas.Nat.{le-div}
 use Rattle.dpc_lists.specs.Lists.{last_below, list_all}
-use Rattle.dpc_model.specs.Due.{reach, is_passed}
+use Rattle.dpc_model.specs.Due.{reach, is_reached}
 use Rattle.dpc_model.specs.Inlets.{restarted_inlet}
 use Rattle.dpc_model.specs.Reading.{Reader, stable_reader}
 use Rattle.dpc_model.specs.PartStands.{InletValue}
-use Rattle.sunion.specs.Ports.{least_over, begun_anew, forgetting, passed_at, complete_at, passing_view}
+use Rattle.sunion.specs.Ports.{least_over, begun_anew, forgetting, reached_at, complete_at, passing_inputs}
 
 pub least_over-more : (f : InletValue → ℕ) (most : ℕ) (ports : List InletValue) (i : ℕ) (port : InletValue) → i < length ports → port ≡ slice_index_or ports i port →
     least_over f most (take (i + 1) ports) ≡ min (least_over f most (take i ports)) (f port)
@@ -103,42 +103,42 @@ reaching width k some [] f = refl
 reaching width k some (p ∷ ports) f = rw (below-div width k (f p.state.held) some, reaching width k some ports f) refl
 
 -- whether a bucket is passed, by the two counts
-pub passed-by : (width buckets view : ℕ) (any_closed : Bool) (ports : List InletValue) (k : ℕ) → 0 < width → k < buckets →
-    is_passed (passing_view width ports view any_closed) k
-    ≡ (nat_le view k && nat_lt k (least_over (passed_at width) buckets ports) && (any_closed || not (nat_lt k (least_over (complete_at width) buckets ports))))
-passed-by width buckets view any_closed ports k some low =
-    rw (reaching width k some ports reach, reaching width k some ports (λ (r : Reader). r.bound), all-below (passed_at width) buckets k ports low, all-below (complete_at width) buckets k ports low) refl
+pub reached-by : (width buckets frontier : ℕ) (any_closed : Bool) (ports : List InletValue) (k : ℕ) → 0 < width → k < buckets →
+    is_reached (passing_inputs width ports frontier any_closed) k
+    ≡ (nat_le frontier k && nat_lt k (least_over (reached_at width) buckets ports) && (any_closed || not (nat_lt k (least_over (complete_at width) buckets ports))))
+reached-by width buckets frontier any_closed ports k some low =
+    rw (reaching width k some ports reach, reaching width k some ports (λ (r : Reader). r.bound), all-below (reached_at width) buckets k ports low, all-below (complete_at width) buckets k ports low) refl
 
 -- the first bucket that can be the last passed one
 abbrev pub passing_from : ℕ → ℕ → ℕ → Bool → List InletValue → ℕ
-passing_from width buckets view any_closed ports = if any_closed then view else max view (least_over (complete_at width) buckets ports)
+passing_from width buckets frontier any_closed ports = if any_closed then frontier else max frontier (least_over (complete_at width) buckets ports)
 
-pub passed-last : (width buckets view : ℕ) (any_closed : Bool) (ports : List InletValue) → 0 < width →
-    passing_from width buckets view any_closed ports < least_over (passed_at width) buckets ports →
-    last_below (is_passed (passing_view width ports view any_closed)) buckets ≡ Some (least_over (passed_at width) buckets ports - 1)
-passed-last width buckets view any_closed ports some h =
-    let end = least_over (passed_at width) buckets ports in
+pub reached-last : (width buckets frontier : ℕ) (any_closed : Bool) (ports : List InletValue) → 0 < width →
+    passing_from width buckets frontier any_closed ports < least_over (reached_at width) buckets ports →
+    last_below (is_reached (passing_inputs width ports frontier any_closed)) buckets ≡ Some (least_over (reached_at width) buckets ports - 1)
+reached-last width buckets frontier any_closed ports some h =
+    let end = least_over (reached_at width) buckets ports in
     let complete = least_over (complete_at width) buckets ports in
-    let within : end ≤ buckets = least_over-within (passed_at width) buckets ports in
-    last-some (is_passed (passing_view width ports view any_closed)) buckets (end - 1) (omega (arith, within, h))
-    (passed-by width buckets view any_closed ports (end - 1) some (omega (arith, within, h)) ∙ here end complete view any_closed h)
-    (λ j up down. passed-by width buckets view any_closed ports j some down ∙ past end complete view j any_closed (omega (arith, up)))
+    let within : end ≤ buckets = least_over-within (reached_at width) buckets ports in
+    last-some (is_reached (passing_inputs width ports frontier any_closed)) buckets (end - 1) (omega (arith, within, h))
+    (reached-by width buckets frontier any_closed ports (end - 1) some (omega (arith, within, h)) ∙ here end complete frontier any_closed h)
+    (λ j up down. reached-by width buckets frontier any_closed ports j some down ∙ past end complete frontier j any_closed (omega (arith, up)))
   where
-    here : (end complete view : ℕ) (any : Bool) → (if any then view else max view complete) < end →
-        (nat_le view (end - 1) && nat_lt (end - 1) end && (any || not (nat_lt (end - 1) complete))) ≡ true
-    here end complete view true h = grind (arith, common_steps, h)
-    here end complete view false h = grind (arith, common_steps, h)
+    here : (end complete frontier : ℕ) (any : Bool) → (if any then frontier else max frontier complete) < end →
+        (nat_le frontier (end - 1) && nat_lt (end - 1) end && (any || not (nat_lt (end - 1) complete))) ≡ true
+    here end complete frontier true h = grind (arith, common_steps, h)
+    here end complete frontier false h = grind (arith, common_steps, h)
 
-    past : (end complete view j : ℕ) (any : Bool) → end ≤ j → (nat_le view j && nat_lt j end && (any || not (nat_lt j complete))) ≡ false
-    past end complete view j any h = grind (arith, common_steps, h)
+    past : (end complete frontier j : ℕ) (any : Bool) → end ≤ j → (nat_le frontier j && nat_lt j end && (any || not (nat_lt j complete))) ≡ false
+    past end complete frontier j any h = grind (arith, common_steps, h)
 
-pub passed-none : (width buckets view : ℕ) (any_closed : Bool) (ports : List InletValue) → 0 < width →
-    least_over (passed_at width) buckets ports ≤ passing_from width buckets view any_closed ports →
-    last_below (is_passed (passing_view width ports view any_closed)) buckets ≡ None
-passed-none width buckets view any_closed ports some h =
-    last-none (is_passed (passing_view width ports view any_closed)) buckets
-    (λ k low. passed-by width buckets view any_closed ports k some low ∙ none (least_over (passed_at width) buckets ports) (least_over (complete_at width) buckets ports) view k any_closed h)
+pub reached-none : (width buckets frontier : ℕ) (any_closed : Bool) (ports : List InletValue) → 0 < width →
+    least_over (reached_at width) buckets ports ≤ passing_from width buckets frontier any_closed ports →
+    last_below (is_reached (passing_inputs width ports frontier any_closed)) buckets ≡ None
+reached-none width buckets frontier any_closed ports some h =
+    last-none (is_reached (passing_inputs width ports frontier any_closed)) buckets
+    (λ k low. reached-by width buckets frontier any_closed ports k some low ∙ none (least_over (reached_at width) buckets ports) (least_over (complete_at width) buckets ports) frontier k any_closed h)
   where
-    none : (end complete view k : ℕ) (any : Bool) → end ≤ (if any then view else max view complete) → (nat_le view k && nat_lt k end && (any || not (nat_lt k complete))) ≡ false
-    none end complete view k true h = grind (arith, common_steps, h)
-    none end complete view k false h = grind (arith, common_steps, h)
+    none : (end complete frontier k : ℕ) (any : Bool) → end ≤ (if any then frontier else max frontier complete) → (nat_le frontier k && nat_lt k end && (any || not (nat_lt k complete))) ≡ false
+    none end complete frontier k true h = grind (arith, common_steps, h)
+    none end complete frontier k false h = grind (arith, common_steps, h)

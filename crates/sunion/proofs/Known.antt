@@ -10,15 +10,15 @@ use Rattle.dpc_model.specs.Reading.{Reader}
 use Rattle.dpc_model.specs.Operators.{between}
 use Rattle.dpc_model.specs.Fragments.{serial}
 use Rattle.dpc_model.specs.Inlets.{InletState}
-use Rattle.dpc_model.specs.Due.{reach, stamp_of, waited_long, is_passed}
-use Rattle.dpc_model.specs.Parts.{Inputs, view_of, bucket_at}
+use Rattle.dpc_model.specs.Due.{reach, stamp_of, waited_long, is_reached}
+use Rattle.dpc_model.specs.Parts.{Inputs, frontier_of, bucket_at}
 use Rattle.dpc_model.specs.PartStands.{InletValue, StandsForInlet}
 use Rattle.dpc_model.specs.declared.tuples.Tuple.{Tuple}
 use Rattle.inlet.proofs.Dropping.{kept-InOrder}
 use Rattle.inlet.proofs.Standing.{lacks-some}
 use Rattle.sunion.specs.Values.{SUnionValue}
-use Rattle.sunion.specs.Ports.{least_over, complete_at, bucket_of, KeptInOrder, passing_view}
-use Rattle.sunion.specs.Unions.{StandsForInputs, AreInOrder, complete_upto_in, bucket_in, due_view_of, last_due_in, later_of}
+use Rattle.sunion.specs.Ports.{least_over, complete_at, bucket_of, KeptInOrder, passing_inputs}
+use Rattle.sunion.specs.Unions.{StandsForInputs, AreInOrder, complete_upto_in, bucket_in, due_inputs_of, last_due_in, later_of}
 
 abbrev known : Reader → Reader
 known r = record r { stable = [] }
@@ -119,13 +119,13 @@ abbrev pub overdue_in : SUnionValue → ℕ → Option ℕ
 overdue_in v now = last_below (λ k. nat_le (v.union.cursor + v.union.closed) k && waited_long (stamp_of v.union.stamps k) v.delay now) v.buckets
 
 abbrev pub passed_in : SUnionValue → Option ℕ
-passed_in v = last_below (is_passed (passing_view v.width v.union.inlets (v.union.cursor + v.union.closed) (nat_lt 0 v.union.closed))) v.buckets
+passed_in v = last_below (is_reached (passing_inputs v.width v.union.inlets (v.union.cursor + v.union.closed) (nat_lt 0 v.union.closed))) v.buckets
 
-view-same : (v : SUnionValue) (x : Inputs) → StandsForInputs v x → view_of x ≡ v.union.cursor + v.union.closed
+view-same : (v : SUnionValue) (x : Inputs) → StandsForInputs v x → frontier_of x ≡ v.union.cursor + v.union.closed
 view-same v x h = let cursor = h.cursor in let closed = h.closed in omega (arith, cursor, closed)
 
 overdue-test : (v : SUnionValue) (x : Inputs) (now k : ℕ) → StandsForInputs v x →
-    (nat_le (view_of x) k && waited_long (stamp_of x.stamps k) v.delay now) ≡ (nat_le (v.union.cursor + v.union.closed) k && waited_long (stamp_of v.union.stamps k) v.delay now)
+    (nat_le (frontier_of x) k && waited_long (stamp_of x.stamps k) v.delay now) ≡ (nat_le (v.union.cursor + v.union.closed) k && waited_long (stamp_of v.union.stamps k) v.delay now)
 overdue-test v x now k h = rw (view-same v x h, h.stamps k) refl
 
 pub overdue-is : (v : SUnionValue) (x : Inputs) (now : ℕ) → StandsForInputs v x → last_due_in v false now x ≡ overdue_in v now
@@ -135,9 +135,9 @@ overdue-is v x now h = last-same _ _ v.buckets (λ k. or-false _ ∙ overdue-tes
     or-false true = refl
     or-false false = refl
 
-passed-test : (v : SUnionValue) (x : Inputs) (k : ℕ) → StandsForInputs v x →
-    is_passed (due_view_of v true x) k ≡ is_passed (passing_view v.width v.union.inlets (v.union.cursor + v.union.closed) (nat_lt 0 v.union.closed)) k
-passed-test v x k h =
+reached-test : (v : SUnionValue) (x : Inputs) (k : ℕ) → StandsForInputs v x →
+    is_reached (due_inputs_of v true x) k ≡ is_reached (passing_inputs v.width v.union.inlets (v.union.cursor + v.union.closed) (nat_lt 0 v.union.closed)) k
+reached-test v x k h =
     let upto = (k + 1) * v.width in
     let b = x.cursor * v.width in
     let reaches = all-same b (λ (r : Reader). nat_le upto (reach r)) (λ r. refl) v.union.inlets x.inlets h.inlets in
@@ -151,9 +151,9 @@ passed-test v x k h =
 pub due-is : (v : SUnionValue) (x : Inputs) (now : ℕ) → StandsForInputs v x → last_due_in v true now x ≡ later_of (overdue_in v now) (passed_in v)
 due-is v x now h =
     last-same _ (λ k. (nat_le (v.union.cursor + v.union.closed) k && waited_long (stamp_of v.union.stamps k) v.delay now)
-    || is_passed (passing_view v.width v.union.inlets (v.union.cursor + v.union.closed) (nat_lt 0 v.union.closed)) k) v.buckets (λ k. rw (overdue-test v x now k h, passed-test v x k h) refl)
+    || is_reached (passing_inputs v.width v.union.inlets (v.union.cursor + v.union.closed) (nat_lt 0 v.union.closed)) k) v.buckets (λ k. rw (overdue-test v x now k h, reached-test v x k h) refl)
     ∙ last-or (λ k. nat_le (v.union.cursor + v.union.closed) k && waited_long (stamp_of v.union.stamps k) v.delay now)
-    (is_passed (passing_view v.width v.union.inlets (v.union.cursor + v.union.closed) (nat_lt 0 v.union.closed))) v.buckets
+    (is_reached (passing_inputs v.width v.union.inlets (v.union.cursor + v.union.closed) (nat_lt 0 v.union.closed))) v.buckets
 
 -- ---- what a bucket holds
 

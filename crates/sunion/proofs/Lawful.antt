@@ -2,8 +2,8 @@
 use Rattle.std.proofs.Common.{◌≡◌, ap, ℕ, zero, suc, ◌*◌, ◌<◌, List, [], ◌∷◌, map, length, replicate, refl, arith, length-append}
 use Rattle.std.proofs.lemmas.List.Elements.{All-head, All-tail}
 use Rattle.std.specs.List.{All, AllZip}
-use Rattle.dpc_model.specs.Inlets.{InletState, new_inlet, restarted_inlet, sess_of, with_next_session, after_link}
-use Rattle.dpc_model.specs.Parts.{view_of}
+use Rattle.dpc_model.specs.Inlets.{InletState, new_inlet, restarted_inlet, sess_of, with_next_session, after_tally}
+use Rattle.dpc_model.specs.Parts.{frontier_of}
 use Rattle.dpc_model.specs.PartStands.{InletValue, StandsForInlet}
 use Rattle.dpc_model.specs.Reading.{stable_reader}
 use Rattle.dpc_model.specs.declared.tuples.Tuple.{Tuple}
@@ -53,7 +53,7 @@ closing-stands v x h = record {
   inlets = h.inlets;
   stamps = h.stamps;
   cursor = h.cursor;
-  closed = let more = length-append x.closed (bucket_in v.width x (view_of x) ∷ []) in let closed = h.closed in omega (arith, more, closed);
+  closed = let more = length-append x.closed (bucket_in v.width x (frontier_of x) ∷ []) in let closed = h.closed in omega (arith, more, closed);
 }
 
 pub undoing-stands : UndoingStands
@@ -68,10 +68,10 @@ sessions-stand v x port h =
         cursor = h.cursor;
         closed = h.closed;
       },
-      λ link. record {
+      λ tally. record {
         inlets =
-            stands-changed b port (λ (i : InletValue). record i { state = after_link i.state link }) (λ (y : InletState). after_link y link) v.union.inlets x.inlets
-            (λ i y s. heard-stands b i y link s) h.inlets;
+            stands-changed b port (λ (i : InletValue). record i { state = after_tally i.state tally }) (λ (y : InletState). after_tally y tally) v.union.inlets x.inlets
+            (λ i y s. heard-stands b i y tally s) h.inlets;
         stamps = h.stamps;
         cursor = h.cursor;
         closed = h.closed;
@@ -87,5 +87,5 @@ sessions-stand v x port h =
     )
 
 pub hearing-tells : HearingTells
-hearing-tells v x port link low h =
-    let b = x.cursor * v.width in heard-tells b (nth no_value v.union.inlets port) (nth no_inlet x.inlets port) link (stands-at b port v.union.inlets x.inlets low h.inlets)
+hearing-tells v x port tally low h =
+    let b = x.cursor * v.width in heard-tells b (nth no_value v.union.inlets port) (nth no_inlet x.inlets port) tally (stands-at b port v.union.inlets x.inlets low h.inlets)

@@ -1,7 +1,7 @@
 -- How the inputs go on to stand for the plain ones, where a call's clause gives the new value.
 use Rattle.std.specs.Prelude.{◌≡◌, ℕ, ◌+◌, ◌*◌, ◌<◌, List, [], ◌∷◌, length, replicate, map, All, Option}
 use Rattle.dpc_lists.specs.Lists.{nth, changed}
-use Rattle.dpc_model.specs.Inlets.{InletState, new_inlet, restarted_inlet, sess_of, with_next_session, after_link, shows_loss}
+use Rattle.dpc_model.specs.Inlets.{InletState, new_inlet, restarted_inlet, sess_of, with_next_session, after_tally, shows_loss}
 use Rattle.dpc_model.specs.Parts.{Inputs}
 use Rattle.dpc_model.specs.Reading.{stable_reader}
 use Rattle.dpc_model.specs.declared.tuples.Tuple.{Tuple}
@@ -56,12 +56,12 @@ abbrev pub SessionsStand : Type 0
 SessionsStand =
     (v : SUnionValue) (x : Inputs) (port : ℕ) → StandsForInputs v x →
     StandsForInputs (with_inlet_state port with_next_session v) (with_inlet port with_next_session x)
-    × ((link : Option (Sess × ℕ)) → StandsForInputs (with_inlet_state port (λ (i : InletState). after_link i link) v) (with_inlet port (λ (i : InletState). after_link i link) x))
+    × ((tally : Option (Sess × ℕ)) → StandsForInputs (with_inlet_state port (λ (i : InletState). after_tally i tally) v) (with_inlet port (λ (i : InletState). after_tally i tally) x))
     × ((number : ℕ) →
     StandsForInputs (with_inlet_state port (λ (i : InletState). record i { sess = sess_of i.sess.inc number }) v) (with_inlet port (λ (i : InletState). record i { sess = sess_of i.sess.inc number }) x))
 
 -- and what is told of a port's session shows a loss exactly where it does at the plain inlet
 abbrev pub HearingTells : Type 0
 HearingTells =
-    (v : SUnionValue) (x : Inputs) (port : ℕ) (link : Option (Sess × ℕ)) → port < length v.union.inlets → StandsForInputs v x →
-    shows_loss (nth no_value v.union.inlets port).state link ≡ shows_loss (nth no_inlet x.inlets port) link
+    (v : SUnionValue) (x : Inputs) (port : ℕ) (tally : Option (Sess × ℕ)) → port < length v.union.inlets → StandsForInputs v x →
+    shows_loss (nth no_value v.union.inlets port).state tally ≡ shows_loss (nth no_inlet x.inlets port) tally

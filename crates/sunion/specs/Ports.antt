@@ -1,6 +1,6 @@
 -- Numbers over all ports.
 use Rattle.std.specs.Prelude.{ℕ, Bool, true, ◌/◌, min, List, [], ◌∷◌, map}
-use Rattle.dpc_model.specs.Due.{reach, DueView}
+use Rattle.dpc_model.specs.Due.{reach, DueInputs}
 use Rattle.dpc_model.specs.Parts.{bucket_at}
 use Rattle.dpc_model.specs.Inlets.{new_inlet, restarted_inlet, sess_of}
 use Rattle.dpc_model.specs.Reading.{stable_reader}
@@ -19,8 +19,8 @@ abbrev pub complete_at : ℕ → InletValue → ℕ
 complete_at width port = port.state.held.bound / width
 
 -- how many buckets the port is known to go past
-abbrev pub passed_at : ℕ → InletValue → ℕ
-passed_at width port = reach port.state.held / width
+abbrev pub reached_at : ℕ → InletValue → ℕ
+reached_at width port = reach port.state.held / width
 
 -- the tuples of bucket k that each port holds
 abbrev pub bucket_of : ℕ → ℕ → List InletValue → List (List Tuple)
@@ -32,9 +32,9 @@ KeptInOrder [] = Unit {0}
 KeptInOrder (port ∷ ports) = InOrder port.state.held.stable × KeptInOrder ports
 
 -- the buckets from the view's cursor on, as these ports show them, where soft marks count
-abbrev pub passing_view : ℕ → List InletValue → ℕ → Bool → DueView
-passing_view width ports view any_closed =
-    record { width = width; delay = 0; passing = true; ports = map (λ (i : InletValue). i.state.held) ports; stamps = []; view = view; any_closed = any_closed }
+abbrev pub passing_inputs : ℕ → List InletValue → ℕ → Bool → DueInputs
+passing_inputs width ports frontier any_closed =
+    record { width = width; delay = 0; passing = true; ports = map (λ (i : InletValue). i.state.held) ports; stamps = []; frontier = frontier; any_closed = any_closed }
 
 -- the inlet without its first tuples below a time
 abbrev pub forgetting : ℕ → InletValue → InletValue

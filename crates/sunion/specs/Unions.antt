@@ -4,8 +4,8 @@ use Rattle.dpc_lists.specs.Lists.{nth, changed, is_nil}
 use Rattle.dpc_model.specs.Streams.{InOrder, NoneBelow, time_of}
 use Rattle.dpc_model.specs.Reading.{Reader, stable_reader, tuples_in}
 use Rattle.dpc_model.specs.Inlets.{InletState, AfterBatch, take_batch, new_inlet, restarted_inlet, sess_of}
-use Rattle.dpc_model.specs.Due.{Stamps, with_stamps, first_incomplete, DueView, last_due}
-use Rattle.dpc_model.specs.Parts.{Inputs, view_of, bucket_held}
+use Rattle.dpc_model.specs.Due.{Stamps, with_stamps, first_incomplete, DueInputs, last_due}
+use Rattle.dpc_model.specs.Parts.{Inputs, frontier_of, bucket_held}
 use Rattle.dpc_model.specs.PartStands.{InletValue, StandsForPorts}
 use Rattle.dpc_model.specs.declared.tuples.Tagged.{Tagged}
 use Rattle.dpc_model.specs.declared.tuples.Item.{Item}
@@ -71,16 +71,16 @@ abbrev pub bucket_in : ℕ → Inputs → ℕ → List Tagged
 bucket_in width x k = bucket_held width (held_in x) k
 
 -- what tells which buckets are due, where soft marks count or don't
-abbrev pub due_view_of : SUnionValue → Bool → Inputs → DueView
-due_view_of v passing x =
-    record { width = v.width; delay = v.delay; passing = passing; ports = held_in x; stamps = x.stamps; view = view_of x; any_closed = not (is_nil x.closed) }
+abbrev pub due_inputs_of : SUnionValue → Bool → Inputs → DueInputs
+due_inputs_of v passing x =
+    record { width = v.width; delay = v.delay; passing = passing; ports = held_in x; stamps = x.stamps; frontier = frontier_of x; any_closed = not (is_nil x.closed) }
 
 -- the last bucket that can't wait
 abbrev pub last_due_in : SUnionValue → Bool → ℕ → Inputs → Option ℕ
-last_due_in v passing now x = last_due (due_view_of v passing x) now v.buckets
+last_due_in v passing now x = last_due (due_inputs_of v passing x) now v.buckets
 
 abbrev pub after_closing : ℕ → Inputs → Inputs
-after_closing width x = record x { closed = x.closed ++ bucket_in width x (view_of x) ∷ [] }
+after_closing width x = record x { closed = x.closed ++ bucket_in width x (frontier_of x) ∷ [] }
 
 -- the cursor moves on by r buckets; buckets below it have no stamp
 abbrev pub after_advancing : ℕ → Inputs → Inputs

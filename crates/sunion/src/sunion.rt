@@ -1,8 +1,8 @@
 //! The inputs of a node by port, in buckets of time.
 ghost use Rattle.std.specs.Prelude.{◌≡◌, ◌↔◌, ◌+◌, ◌-◌, ◌*◌, ◌/◌, ◌^◌, ◌<◌, ◌≤◌, ℕ, List, [], true, false, length, IfOk, OnOk, OnErr};
 ghost use Rattle.dpc_lists.specs.Lists.{nth, changed};
-ghost use Rattle.dpc_model.specs.Inlets.{InletState, with_next_session, after_link, shows_loss, asked_by, sess_of};
-ghost use Rattle.dpc_model.specs.Parts.{Inputs, view_of};
+ghost use Rattle.dpc_model.specs.Inlets.{InletState, with_next_session, after_tally, shows_loss, asked_by, sess_of};
+ghost use Rattle.dpc_model.specs.Parts.{Inputs, frontier_of};
 ghost use Rattle.dpc_model.specs.PartStands.{UnionValue, InletValue};
 ghost use Rattle.inlet.specs.Forgotten.{HasRoom};
 ghost use Rattle.sunion.specs.Unions.{StandsForInputs, AreInOrder, no_inlet, no_value, IsAccepted, complete_upto_in, bucket_in, last_due_in, after_advancing, new_union, union_at, with_inlet_state, with_closed, ForgetsBelow, later_of};
@@ -10,7 +10,7 @@ ghost use Rattle.sunion.specs.Unions.{StandsForInputs, AreInOrder, no_inlet, no_
 use crate::buckets::bucket;
 use crate::clocks::{Clocks, drop_places, farthest, last_waiting, make_places, stamp};
 use crate::ports::{drop_below, new_ports, restarted_ports};
-use crate::spans::{count_complete, last_passed};
+use crate::spans::{count_complete, last_reached};
 use dpc_lists::faults::NoMemory;
 use dpc_model::messages::{Sess, Subscribe};
 use dpc_model::tuples::{Item, Tagged};
@@ -187,10 +187,10 @@ impl SUnion {
     pub fn due(&self, now: u64) -> Option<u64>
         ensures { (x : Inputs) → StandsForInputs self.now x → result ≡ last_due_in self.now true now x }
     {
-        let view = self.cursor + self.closed;
+        let frontier = self.cursor + self.closed;
         let ports = self.ports.as_slice();
-        let passed = last_passed(ports, self.width, self.buckets, view, self.closed > 0);
-        later(self.overdue(now), passed)
+        let reached = last_reached(ports, self.width, self.buckets, frontier, self.closed > 0);
+        later(self.overdue(now), reached)
     }
 
     /// The tuples of bucket k, in order of time, port and place. It costs what the bucket holds and a search
@@ -207,7 +207,7 @@ impl SUnion {
     /// Closes the next bucket as it stands, and gives it. Want of memory changes nothing.
     pub fn close(&mut self, alloc: Global) -> Result<Vec<Tagged>, NoMemory>
         requires range { (self.old.union.cursor + self.old.union.closed + 1) * self.old.width < 2 ^ 64 }
-        ensures bucket { IfOk result (λ xs. (x : Inputs) → StandsForInputs self.old x → AreInOrder x → xs.items ≡ bucket_in self.old.width x (view_of x)) }
+        ensures bucket { IfOk result (λ xs. (x : Inputs) → StandsForInputs self.old x → AreInOrder x → xs.items ≡ bucket_in self.old.width x (frontier_of x)) }
         ensures after { OnOk result (self.new ≡ with_closed (self.old.union.closed + 1) self.old) }
         ensures err { OnErr result (self.new ≡ self.old) }
     {

@@ -16,7 +16,7 @@ use Rattle.dpc_model.specs.declared.plans.Plan.{Plan}
 use Rattle.dpc_model.specs.declared.plans.StreamRef.TheVariants.{Source, Frag}
 use Rattle.dpc_model.specs.declared.operators.OpKind.TheVariants.{Filter}
 use Rattle.dpc_model.specs.declared.operators.Wire.TheVariants.{Port as from_port}
-use Rattle.node_model.specs.Nodes.{new_node, restarted_node, out_stable, out_view, out_tentative, ready}
+use Rattle.node_model.specs.Nodes.{new_node, restarted_node, out_stable, out_with_closed, out_tentative, ready}
 use Rattle.node_model.specs.NodeSteps.{enter_step, packet_step, tick_step}
 use Rattle.node_model.specs.Sources.{new_source, source_emits, source_releases, source_packet_step, source_tick_step}
 use Rattle.node_model.specs.Clients.{new_client}
@@ -72,19 +72,19 @@ first_asked l [] = None
 first_asked l (e ∷ es) = elim (asks_for l e) [ None ↦ first_asked l es | Some asked ↦ Some asked ]
 
 first_is : first_asked line (run plan events).envelopes ≡ Some (record { sess = sess_of 2 2; n = 0; tentative = false })
-unfolding run new_world new_node restarted_node out_stable out_view out_tentative ready enter_step packet_step tick_step new_source source_emits source_releases source_packet_step source_tick_step new_client take_batch
+unfolding run new_world new_node restarted_node out_stable out_with_closed out_tentative ready enter_step packet_step tick_step new_source source_emits source_releases source_packet_step source_tick_step new_client take_batch
 first_is = refl
 
 opened_is : opened_by line (first_subscription line) (new_world plan) events ≡ record { sess = sess_of 2 2; n = 1; tentative = false }
-unfolding run new_world new_node restarted_node out_stable out_view out_tentative ready enter_step packet_step tick_step new_source source_emits source_releases source_packet_step source_tick_step new_client take_batch
+unfolding run new_world new_node restarted_node out_stable out_with_closed out_tentative ready enter_step packet_step tick_step new_source source_emits source_releases source_packet_step source_tick_step new_client take_batch
 opened_is = refl
 
 -- the source has it open
 is_open : slice_get (source_at (run plan events) 0).subs 0 ≡ Some (record { kept = Some (sess_of 2 2); is_open = true; batches = 1 })
-unfolding run new_world new_node restarted_node out_stable out_view out_tentative ready enter_step packet_step tick_step new_source source_emits source_releases source_packet_step source_tick_step new_client take_batch
+unfolding run new_world new_node restarted_node out_stable out_with_closed out_tentative ready enter_step packet_step tick_step new_source source_emits source_releases source_packet_step source_tick_step new_client take_batch
 is_open = refl
 
 -- a reader that holds nothing, as the first one says, has no reading of what was sent
 unread : fold_items empty_reader (sent_after line [] (new_world plan) events) ≡ None
-unfolding run new_world new_node restarted_node out_stable out_view out_tentative ready enter_step packet_step tick_step new_source source_emits source_releases source_packet_step source_tick_step new_client take_batch
+unfolding run new_world new_node restarted_node out_stable out_with_closed out_tentative ready enter_step packet_step tick_step new_source source_emits source_releases source_packet_step source_tick_step new_client take_batch
 unread = refl

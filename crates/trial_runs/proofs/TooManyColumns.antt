@@ -19,7 +19,7 @@ use Rattle.dpc_model.specs.declared.operators.Wire.TheVariants.{Port as from_por
 use Rattle.dpc_model.specs.declared.messages.NodeState.TheVariants.{Stable}
 use Rattle.dpc_model.specs.declared.tuples.Tagged.{Tagged}
 use Rattle.dpc_model.specs.Engines.{lies_in, is_serial}
-use Rattle.node_model.specs.Nodes.{Home, PlainNode, view_cursor, buckets_of, out_stable, out_view, out_tentative, ready}
+use Rattle.node_model.specs.Nodes.{Home, PlainNode, node_frontier, buckets_of, out_stable, out_with_closed, out_tentative, ready}
 use Rattle.node_model.specs.NodeSteps.{tick_step, enter_step}
 use Rattle.world_model.specs.Worlds.{from}
 use Rattle.world_model.specs.Safe.{IsSafeNode}
@@ -46,7 +46,7 @@ home = record { plan = plan; frag = 0; replica = 0 }
 abbrev port : Port
 port =
     record {
-      inlet = record { held = record { stable = []; bound = 0; tentative = record { stime = 3; vals = (pos 5) ∷ (pos 6) ∷ [] } ∷ []; soft = 0 }; sess = sess_of 1 1; next = 1; answered = true; broken = false };
+      inlet = record { held = record { stable = []; bound = 0; tentative = record { stime = 3; vals = (pos 5) ∷ (pos 6) ∷ [] } ∷ []; passed = 0 }; sess = sess_of 1 1; next = 1; answered = true; broken = false };
       chosen = 0;
       watches = new_watch ∷ [];
       ticks = 0;
@@ -77,7 +77,7 @@ is_port_sound_before plan s i most p =
 
 abbrev closed_before : Home → PlainNode → Bool
 closed_before home n =
-    list_all (λ (b : ℕ × List Tagged). list_all (lies_in home.plan.width (n.cursor + b.0)) b.1 && is_serial b.1) (numbered n.closed) && nat_le (view_cursor n) (buckets_of home.plan)
+    list_all (λ (b : ℕ × List Tagged). list_all (lies_in home.plan.width (n.cursor + b.0)) b.1 && is_serial b.1) (numbered n.closed) && nat_le (node_frontier n) (buckets_of home.plan)
 
 -- the node is as it was asked to be
 before : (is_port_sound_before plan (Source 0) 1 1 port && has_state_of_closed node && recovers_empty node && closed_before home node && stamps_in_place home node && base_follows home node && has_shape home 1 node) ≡ true
@@ -95,5 +95,5 @@ safe =
 
 -- at clock 20 its tick sends a tuple that does not fit
 sends_wrong : list_all (is_fitting plan) (map (from 1) (tick_step home 20 node).sends) ≡ false
-unfolding tick_step ready out_stable out_view out_tentative enter_step
+unfolding tick_step ready out_stable out_with_closed out_tentative enter_step
 sends_wrong = refl

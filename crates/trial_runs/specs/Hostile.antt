@@ -10,17 +10,17 @@ use Rattle.node_model.specs.Clients.{ClientState, reader_of}
 use Rattle.world_model.specs.Worlds.{World, Envelope, run}
 use Rattle.world_model.specs.Safe.{packet_done}
 use Rattle.world_model.specs.Orderly.{items_carried}
-use Rattle.world_model.specs.Schedules.{lock_of, is_live, is_live_so_far, may}
+use Rattle.world_model.specs.Schedules.{lockstep_journal, is_live, is_live_so_far, may}
 use Rattle.trial_runs.specs.Opened.{all_opened}
 use Rattle.trial_runs.specs.BothAsk.{script as both_ask}
 
 -- the one-thread journal with a crash of the first replica behind its first k events
 abbrev pub crashed_at : ℕ → List Event
-crashed_at k = take k (lock_of both_ask) ++ Crash 2 ∷ drop k (lock_of both_ask)
+crashed_at k = take k (lockstep_journal both_ask) ++ Crash 2 ∷ drop k (lockstep_journal both_ask)
 
 -- and with a restart right behind the crash
 abbrev pub restarted_at : ℕ → List Event
-restarted_at k = take k (lock_of both_ask) ++ Crash 2 ∷ Restart 2 2 ∷ drop k (lock_of both_ask)
+restarted_at k = take k (lockstep_journal both_ask) ++ Crash 2 ∷ Restart 2 2 ∷ drop k (lockstep_journal both_ask)
 
 -- every envelope again, in the other order
 abbrev pub all_again : ℕ → List Event
@@ -28,7 +28,7 @@ all_again n = map Deliver (reverse (range_with_len 0 n))
 
 -- the journal with its first envelopes again, at two moments
 abbrev pub repeated : List Event
-repeated = take 90 (lock_of both_ask) ++ all_again 60 ++ Restart 2 7 ∷ drop 90 (lock_of both_ask) ++ all_again 100
+repeated = take 90 (lockstep_journal both_ask) ++ all_again 60 ++ Restart 2 7 ∷ drop 90 (lockstep_journal both_ask) ++ all_again 100
 
 -- ---- that these runs are safe is the law of every run; here, that there is something to be safe
 
@@ -62,19 +62,19 @@ again = refl
 
 -- ---- journals that are not live
 
-pub journal_length : length (lock_of both_ask) ≡ 300
+pub journal_length : length (lockstep_journal both_ask) ≡ 300
 unfolding all_opened
 journal_length = refl
 
-pub so_far : is_live_so_far both_ask (take 299 (lock_of both_ask)) ≡ true
+pub so_far : is_live_so_far both_ask (take 299 (lockstep_journal both_ask)) ≡ true
 unfolding all_opened
 so_far = refl
 
-pub not_whole : is_live both_ask (take 299 (lock_of both_ask)) ≡ false
+pub not_whole : is_live both_ask (take 299 (lockstep_journal both_ask)) ≡ false
 unfolding all_opened
 not_whole = refl
 
-pub no_phase : is_live_so_far both_ask (drop 1 (lock_of both_ask)) ≡ false
+pub no_phase : is_live_so_far both_ask (drop 1 (lockstep_journal both_ask)) ≡ false
 unfolding all_opened
 no_phase = refl
 

@@ -5,7 +5,7 @@ use Rattle.dpc_model.specs.declared.scripts.Directive.TheVariants.{Release}
 use Rattle.dpc_model.specs.declared.plans.StreamRef.TheVariants.{Source, Frag}
 use Rattle.dpc_model.specs.declared.operators.OpKind.TheVariants.{Join}
 use Rattle.dpc_model.specs.declared.operators.Wire.TheVariants.{Port}
-use Rattle.world_model.specs.Schedules.{lockstep, lock_of, is_live}
+use Rattle.world_model.specs.Schedules.{lockstep, lockstep_journal, is_live}
 use Rattle.report.specs.Text.{report_text}
 use Rattle.trial_runs.specs.Opened.{all_opened}
 
@@ -30,6 +30,6 @@ pub report : report_text (lockstep script).world ≡ codes "client c\nstable 0 1
 unfolding all_opened
 report = refl
 
-pub live : is_live script (lock_of script) ≡ true
+pub live : is_live script (lockstep_journal script) ≡ true
 unfolding all_opened
 live = refl

@@ -6,7 +6,7 @@ use Rattle.dpc_model.specs.declared.plans.StreamRef.TheVariants.{Source, Frag}
 use Rattle.dpc_model.specs.declared.operators.OpKind.TheVariants.{Filter}
 use Rattle.dpc_model.specs.declared.operators.Wire.TheVariants.{Port}
 use Rattle.dpc_model.specs.Formula as formula
-use Rattle.world_model.specs.Schedules.{lockstep, lock_of, is_live}
+use Rattle.world_model.specs.Schedules.{lockstep, lockstep_journal, is_live}
 use Rattle.report.specs.Text.{report_text}
 use Rattle.trial_runs.specs.Opened.{all_opened}
 
@@ -31,6 +31,6 @@ pub report : report_text (lockstep script).world ≡ codes "client c\nsummary c 
 unfolding all_opened
 report = refl
 
-pub live : is_live script (lock_of script) ≡ true
+pub live : is_live script (lockstep_journal script) ≡ true
 unfolding all_opened
 live = refl

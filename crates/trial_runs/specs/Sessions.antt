@@ -3,9 +3,9 @@ use Rattle.std.specs.Prelude.{◌≡◌, ℕ, true, nat_le, [], ◌∷◌, lengt
 use Rattle.std.specs.List.{list_all}
 use Rattle.dpc_lists.specs.Lists.{nth}
 use Rattle.dpc_model.specs.declared.scripts.Script.{Script}
-use Rattle.dpc_model.specs.Sessions.{no_session, link_of}
+use Rattle.dpc_model.specs.Sessions.{no_session, tally_of}
 use Rattle.world_model.specs.Worlds.{new_world, run, node_at}
-use Rattle.world_model.specs.Schedules.{lock_of}
+use Rattle.world_model.specs.Schedules.{lockstep_journal}
 use Rattle.world_model.specs.SessionLaw.{sent_after}
 use Rattle.trial_runs.specs.Opened.{all_opened}
 use Rattle.trial_runs.specs.BothAsk.{script as both_ask}
@@ -14,10 +14,10 @@ use Rattle.trial_runs.specs.PassedAndCorrected.{script as passed_and_corrected}
 -- how many items a node's open session with its first reader carried, after so many events of the one-thread journal
 abbrev carried_at : Script → ℕ → ℕ → ℕ → ℕ
 carried_at script a reader k =
-    let events = take k (lock_of script) in
+    let events = take k (lockstep_journal script) in
     elim (node_at (run script.plan events) a) [
       | None ↦ 0
-      | Some n ↦ elim (link_of (nth no_session n.subs 0)) [
+      | Some n ↦ elim (tally_of (nth no_session n.subs 0)) [
         | None ↦ 0
         | Some l ↦ length (sent_after (record { sender = a; reader = reader; sess = l.0 }) [] (new_world script.plan) events)
       ]

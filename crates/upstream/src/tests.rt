@@ -52,7 +52,7 @@ fn beat(state: NodeState) -> Beat {
         state,
         recovering: false,
         over: 0,
-        link: None,
+        tally: None,
     }
 }
 

@@ -16,7 +16,7 @@ use std::alloc::Global;
 use std::marker::Model;
 
 /// How many ticks without an answer open a session anew. More are not told apart.
-const PATIENCE: u64 = 3;
+const MOST_UNANSWERED: u64 = 3;
 
 /// The senders of one stream: the replica that is read, what is known of each, and the ticks since the
 /// session was opened. But for the making none of its calls takes memory. Contracts see an
@@ -118,7 +118,7 @@ impl Upstream {
         ensures { self.new ≡ record self.old { known = with_tick self.old.known } }
     {
         self.monitor.tick();
-        self.ticks = PATIENCE.min(self.ticks + 1);
+        self.ticks = MOST_UNANSWERED.min(self.ticks + 1);
     }
 
     /// The session is lost: its ticks are counted anew.
@@ -135,7 +135,7 @@ impl Upstream {
         ensures asked { result ≡ asked_actor broken answered self.old }
     {
         let chosen = choose(self.chosen, self.monitor.ranks().as_slice());
-        let lost = chosen != self.chosen || broken || (!answered && self.ticks >= PATIENCE);
+        let lost = chosen != self.chosen || broken || (!answered && self.ticks >= MOST_UNANSWERED);
         self.chosen = chosen;
         if !lost {
             return None;

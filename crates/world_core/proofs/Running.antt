@@ -6,7 +6,7 @@ use Rattle.world_model.specs.Worlds.{World, run, sums_after}
 use Rattle.law_safety.proofs.Runs.{run-push}
 use Rattle.law_fit.specs.Fits.{CanRun}
 use Rattle.law_fit.proofs.FitWorlds.{run-world}
-use Rattle.world_parts.specs.Parts.{PartsValue, StandsForWorld}
+use Rattle.world_parts.specs.Parts.{WorldPartsValue, StandsForWorld}
 use Rattle.world_parts.specs.Events.{IsWorldOf, IsSomeWorld, Happened, WouldPass}
 use Rattle.world_parts.specs.declared.faults.EventFault.{EventFault}
 use Rattle.world_parts.specs.declared.faults.EventFault.TheVariants as part_fault
@@ -14,18 +14,18 @@ use Rattle.world_core.specs.declared.faults.ApplyFault.{ApplyFault}
 use Rattle.world_core.specs.declared.faults.ApplyFault.TheVariants as fault
 use Rattle.world_core.specs.Runs.{WouldReach, fault_of}
 
-pub run-stands : (plan : Plan) (v : PartsValue) (events : List Event) → CanRun plan → StandsForWorld plan v (run plan events) → IsWorldOf plan v (run plan events) (1 + length events)
+pub run-stands : (plan : Plan) (v : WorldPartsValue) (events : List Event) → CanRun plan → StandsForWorld plan v (run plan events) → IsWorldOf plan v (run plan events) (1 + length events)
 run-stands plan v events can h = record { stands = h; fine = run-world plan events can.checked }
 
-pub some-stands : (plan : Plan) (v : PartsValue) (events : List Event) → CanRun plan → StandsForWorld plan v (run plan events) → IsSomeWorld plan v
+pub some-stands : (plan : Plan) (v : WorldPartsValue) (events : List Event) → CanRun plan → StandsForWorld plan v (run plan events) → IsSomeWorld plan v
 some-stands plan v events can h = (run plan events, 1 + length events, run-stands plan v events can h)
 
-pub next-stands : (plan : Plan) (old new : PartsValue) (events : List Event) (e : Event) → CanRun plan → StandsForWorld plan old (run plan events) → Happened plan old new e →
+pub next-stands : (plan : Plan) (old new : WorldPartsValue) (events : List Event) (e : Event) → CanRun plan → StandsForWorld plan old (run plan events) → Happened plan old new e →
     StandsForWorld plan new (run plan (events ++ e ∷ []))
 next-stands plan old new events e can h step =
     subst (λ (w : World). StandsForWorld plan new w) (sym (run-push plan events e)) (step.after (run plan events) (1 + length events) (run-stands plan old events can h))
 
-pub would-reach : (plan : Plan) (old : PartsValue) (events : List Event) (e : Event) (envelopes items : ℕ) → CanRun plan → StandsForWorld plan old (run plan events) →
+pub would-reach : (plan : Plan) (old : WorldPartsValue) (events : List Event) (e : Event) (envelopes items : ℕ) → CanRun plan → StandsForWorld plan old (run plan events) →
     WouldPass plan old e envelopes items → WouldReach (run plan events) e envelopes items
 would-reach plan old events e envelopes items can h past =
     let w = run plan events in

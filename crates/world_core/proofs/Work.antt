@@ -11,14 +11,14 @@ use Rattle.dpc_model.specs.declared.plans.Plan.{Plan}
 use Rattle.fragment_mill.specs.Mills.{MillState, MillAfter}
 use Rattle.mill_work.specs.Milling.{OrderValue}
 use Rattle.node_model.specs.Nodes.{Home, PlainNode, ready}
-use Rattle.node_model.specs.Views.{inputs_of}
+use Rattle.node_model.specs.NodeParts.{inputs_of}
 use Rattle.law_node.specs.Fitting.{IsFit}
 use Rattle.node_core.specs.declared.faults.Point.{Point}
 use Rattle.node_core.specs.Milling.{IsOrderOf, is_stale}
 use Rattle.node_core.specs.Standing.{NodeValue, StandsForNode}
 use Rattle.world_model.specs.Worlds.{home_of, slot_of, node_at, ready_at}
 use Rattle.law_fit.specs.Fits.{CanRun}
-use Rattle.world_parts.specs.Parts.{PartsValue, StandsForWorld}
+use Rattle.world_parts.specs.Parts.{WorldPartsValue, StandsForWorld}
 use Rattle.world_parts.specs.Handing.{up_node, IsHandedOut, StandsAt, IsTimely, down_point, IsElsewhere, IsStaleAt as IsStaleInParts}
 use Rattle.world_parts.specs.declared.faults.CommitFault.{CommitFault as PartFault}
 use Rattle.world_parts.specs.declared.faults.CommitFault.TheVariants as part_fault
@@ -60,7 +60,7 @@ fits-at home n p o h fit at =
 
 -- ---- what is handed out
 
-pub work-of : (w : RunOf) (v : PartsValue) (actor : ℕ) (o : OrderValue MillState) → CanRun w.plan → StandsForWorld w.plan v (world_of w) → IsHandedOut w.plan v actor o → IsWorkOf w actor o
+pub work-of : (w : RunOf) (v : WorldPartsValue) (actor : ℕ) (o : OrderValue MillState) → CanRun w.plan → StandsForWorld w.plan v (world_of w) → IsHandedOut w.plan v actor o → IsWorkOf w actor o
 work-of w v actor o can stands h =
     let most = 1 + length w.events in
     let of = run-stands w.plan v w.events can stands in
@@ -83,13 +83,13 @@ work-of w v actor o can stands h =
     }
 
 -- so it is of a run that contracts see
-pub work-told : (w old : RunOf) (v : PartsValue) (actor : ℕ) (told : Option (OrderValue MillState)) → w ≡ old → CanRun w.plan → StandsForWorld w.plan v (world_of w) → IfSome told (IsHandedOut w.plan v actor) → IfSome told (IsWorkOf old actor)
+pub work-told : (w old : RunOf) (v : WorldPartsValue) (actor : ℕ) (told : Option (OrderValue MillState)) → w ≡ old → CanRun w.plan → StandsForWorld w.plan v (world_of w) → IfSome told (IsHandedOut w.plan v actor) → IfSome told (IsWorkOf old actor)
 work-told w old v actor None same can stands h = tt
 work-told w old v actor (Some o) same can stands h = subst (λ (r : RunOf). IsWorkOf r actor o) same (work-of w v actor o can stands h)
 
 -- ---- what comes back
 
-pub still-fits : (w : RunOf) (v : PartsValue) (o : OrderValue MillState) → CanRun w.plan → StandsForWorld w.plan v (world_of w) → IsTimely w.plan v o → Fits w o
+pub still-fits : (w : RunOf) (v : WorldPartsValue) (o : OrderValue MillState) → CanRun w.plan → StandsForWorld w.plan v (world_of w) → IsTimely w.plan v o → Fits w o
 still-fits w v o can stands h =
     let at = up-in w.plan v (world_of w) (1 + length w.events) o.node h.0 can (run-stands w.plan v w.events can stands) h.1 in
     record { frag = at.frag; replica = at.replica; plain = at.plain; role = at.role; up = at.up; work = fits-at (home_of w.plan (at.frag, at.replica)) h.0 at.plain o at.stands at.fit h.2 }
@@ -122,7 +122,7 @@ up-elsewhere home last_inc n (Some m) p o had needed is stands fit h =
 no-node : (o : Option PlainNode) (p : PlainNode) → o ≡ None → o ≡ Some p → ⊥
 no-node o p e f = cc
 
-pub still-stale : (w : RunOf) (v : PartsValue) (o : OrderValue MillState) (had needed : Point) → CanRun w.plan → StandsForWorld w.plan v (world_of w) → IsStaleInParts w.plan v o had needed → IsStaleAt w o had needed
+pub still-stale : (w : RunOf) (v : WorldPartsValue) (o : OrderValue MillState) (had needed : Point) → CanRun w.plan → StandsForWorld w.plan v (world_of w) → IsStaleInParts w.plan v o had needed → IsStaleAt w o had needed
 still-stale w v o had needed can stands h =
     let x = world_of w in
     let most = 1 + length w.events in

@@ -7,7 +7,7 @@ use Rattle.dpc_model.specs.declared.actors.Role.TheVariants.{Node as IsNode}
 use Rattle.fragment_mill.specs.Mills.{MillState, MillAfter}
 use Rattle.mill_work.specs.Milling.{OrderValue}
 use Rattle.node_model.specs.Nodes.{Home, PlainNode, ready}
-use Rattle.node_model.specs.Views.{inputs_of}
+use Rattle.node_model.specs.NodeParts.{inputs_of}
 use Rattle.node_core.specs.declared.faults.Point.{Point}
 use Rattle.node_core.specs.Milling.{CanBeMilled, next_buckets, IsBeside, needed_by, is_stale}
 use Rattle.node_core.specs.Standing.{NodeValue, StandsForNode}

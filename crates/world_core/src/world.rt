@@ -14,7 +14,7 @@ use dpc_model::plans::Plan;
 use std::alloc::Global;
 use std::marker::Model;
 use world_parts::faults::EventFault;
-use world_parts::parts::Parts;
+use world_parts::parts::WorldParts;
 
 mod handing;
 mod telling;
@@ -24,7 +24,7 @@ mod telling;
 #[derive(Drop)]
 pub struct World {
     plan: Plan,
-    parts: Parts,
+    parts: WorldParts,
     events: Vec<Event>,
     spent: bool,
 }
@@ -48,7 +48,7 @@ impl Model for World {
 }
 
 /// What an event makes of all actors and envelopes.
-fn happen(alloc: Global, plan: &Plan, parts: &mut Parts, e: Event) -> Result<(), EventFault>
+fn happen(alloc: Global, plan: &Plan, parts: &mut WorldParts, e: Event) -> Result<(), EventFault>
     requires plan { CanRun plan.now }
     requires some { IsSomeWorld plan.now parts.old }
     ensures ok { OnOk result (Happened plan.now parts.old parts.new e) }
@@ -75,7 +75,7 @@ impl World {
         requires { CanRun plan }
         ensures { IfOk result (λ w. w ≡ record { plan = plan; events = []; spent = false }) }
     {
-        let parts = Parts::new(alloc, &plan)?;
+        let parts = WorldParts::new(alloc, &plan)?;
         Ok(World {
             plan,
             parts,

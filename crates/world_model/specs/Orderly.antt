@@ -24,7 +24,7 @@ use Rattle.dpc_model.specs.declared.plans.StreamRef.{StreamRef}
 use Rattle.dpc_model.specs.declared.plans.StreamRef.TheVariants.{Source, Frag}
 use Rattle.node_model.specs.Mails.{Packet, Plain, SnapFor}
 use Rattle.dpc_model.specs.NodeStates.{is_up_failure, is_stabilization}
-use Rattle.node_model.specs.Nodes.{Home, spec_of, streams_of, own_readers, buckets_of, PlainNode, view_cursor, out_stable}
+use Rattle.node_model.specs.Nodes.{Home, spec_of, streams_of, own_readers, buckets_of, PlainNode, node_frontier, out_stable}
 use Rattle.node_model.specs.Sources.{SourceState, source_readers}
 use Rattle.node_model.specs.Clients.{ClientState, client_stream}
 use Rattle.world_model.specs.Worlds.{World, Envelope, Slot, home_of}
@@ -78,12 +78,12 @@ is_fitting plan e =
 -- ---- readers
 
 -- a soft mark is 0; where the plan passes it on, it may also lie above the bound
-abbrev pub is_soft_mark : Plan → ℕ → ℕ → Bool
-is_soft_mark plan bound soft = soft == 0 || (plan.passing && nat_lt bound soft)
+abbrev pub is_passed_mark : Plan → ℕ → ℕ → Bool
+is_passed_mark plan bound passed = passed == 0 || (plan.passing && nat_lt bound passed)
 
 -- tentative tuples lie at or past the bound, and so does the soft mark; the tuples need not be in order of time
 abbrev pub is_tentative_past : Plan → Reader → Bool
-is_tentative_past plan r = list_all (λ (t : Tuple). nat_le r.bound t.stime) r.tentative && is_soft_mark plan r.bound r.soft
+is_tentative_past plan r = list_all (λ (t : Tuple). nat_le r.bound t.stime) r.tentative && is_passed_mark plan r.bound r.passed
 
 -- a port's session is of the reader's incarnation, with a number within a limit, it reads one of the stream's senders,
 -- and its tentative tuples fit the stream
@@ -134,7 +134,7 @@ fits_port columns x = has_columns (nth 0 columns x.port) x.tuple
 abbrev pub closed_in_place : Home → PlainNode → Bool
 closed_in_place home n =
     list_all (λ (b : ℕ × List Tagged). list_all (lies_in home.plan.width (n.cursor + b.0)) b.1 && is_serial b.1 && list_all (fits_port (port_columns home)) b.1) (numbered n.closed)
-    && nat_le (view_cursor n) (buckets_of home.plan)
+    && nat_le (node_frontier n) (buckets_of home.plan)
 
 -- stamps are of buckets that are still to be processed stably
 abbrev pub stamps_in_place : Home → PlainNode → Bool

@@ -18,7 +18,7 @@ use Rattle.dpc_model.specs.declared.messages.Message.TheVariants as message
 use Rattle.dpc_model.specs.declared.plans.Plan.{Plan}
 use Rattle.dpc_model.specs.declared.plans.StreamRef.{StreamRef}
 use Rattle.dpc_model.specs.declared.plans.StreamRef.TheVariants.{Source, Frag}
-use Rattle.dpc_model.specs.Sessions.{link_of, given_items}
+use Rattle.dpc_model.specs.Sessions.{tally_of, given_items}
 use Rattle.dpc_model.specs.declared.sessions.Sub.{Sub}
 use Rattle.node_model.specs.Mails.{Snap, Packet, Plain, SnapFor, Mail, mail, Stepped}
 use Rattle.dpc_model.specs.NodeStates.{is_stable, is_stabilization}
@@ -174,7 +174,7 @@ CarriesLast sends to items l = (index : ℕ) × (l.1 ≡ index + 1) × Contains 
 pub record Serves (home : Home) (now : ℕ) (n : PlainNode) (s : Stepped PlainNode) : Type 0 where
   pub nothing_due : due_at home s.after now ≡ None
   pub given : (k : ℕ) → let items = given_items (length (out_stable home n)) (given_by home n s.after (nat_lt n.cursor s.after.cursor) (nat_lt (length n.closed) (length s.after.closed)))
-      in items ≢ [] → (sub : Sub) → slice_get s.after.subs k ≡ Some sub → IfSome (link_of sub) (CarriesLast s.sends (nth 0 (own_readers home) k) items)
+      in items ≢ [] → (sub : Sub) → slice_get s.after.subs k ≡ Some sub → IfSome (tally_of sub) (CarriesLast s.sends (nth 0 (own_readers home) k) items)
 
 abbrev pub ServesAt : World → ℕ → ℕ → Role → Type 0
 ServesAt w a now (IsNode f r) =

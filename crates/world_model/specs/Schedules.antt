@@ -350,5 +350,5 @@ is_live script events =
     is_live_so_far script events && is_phase_complete (progress script events) && not (phase_left script (progress script events))
 
 -- the one-thread journal of a script
-unfoldable pub lock_of : Script → List Event
-lock_of script = reverse (lockstep script).events
+unfoldable pub lockstep_journal : Script → List Event
+lockstep_journal script = reverse (lockstep script).events

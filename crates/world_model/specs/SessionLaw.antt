@@ -64,9 +64,9 @@ bound_of None = 0
 bound_of (Some b) = b.0
 
 -- how far tentative output is known to go at a reader with this bound
-abbrev pub soft_of : ℕ → Option ℕ → ℕ
-soft_of b None = 0
-soft_of b (Some v) = if nat_lt b v then v else 0
+abbrev pub passed_of : ℕ → Option ℕ → ℕ
+passed_of b None = 0
+passed_of b (Some v) = if nat_lt b v then v else 0
 
 -- what a reader holds that takes the whole of a session
 abbrev pub taken_whole : Plan → StreamRef → Subscribe → Shown → Reader → Reader
@@ -76,7 +76,7 @@ taken_whole plan s asked x start =
       stable = take (max asked.n (length x.stable)) (ideal plan s);
       bound = b;
       tentative = from_time b x.tentative;
-      soft = soft_of b x.passed;
+      passed = passed_of b x.passed;
     }
 
 -- the items sent in a session have a reading from every start that fits, and leave the sender's view

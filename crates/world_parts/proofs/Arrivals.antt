@@ -8,7 +8,7 @@ use Rattle.dpc_model.specs.declared.actors.Role.TheVariants.{Nobody}
 use Rattle.dpc_model.specs.declared.messages.Event.TheVariants.{Deliver}
 use Rattle.dpc_model.specs.declared.plans.Plan.{Plan}
 use Rattle.world_model.specs.Worlds.{World, Envelope, link_up, role_up, taken_by, comes, happens}
-use Rattle.world_parts.specs.Parts.{PartsValue, EnvelopeValue, StandsForSent, StandsForEnvelope, StandsForWorld}
+use Rattle.world_parts.specs.Parts.{WorldPartsValue, EnvelopeValue, StandsForSent, StandsForEnvelope, StandsForWorld}
 use Rattle.world_parts.specs.Counting.{IsWithinLimits}
 use Rattle.world_parts.specs.Events.{IsComing, Happened}
 use Rattle.world_parts.proofs.PartFrames.{void}
@@ -50,7 +50,7 @@ pub record Arrived (plan : Plan) (x : World) (k : ℕ) (e : EnvelopeValue) (role
   pub packet : StandsForSent plan role e.packet plain.packet
   pub happens : happens x (Deliver k) ≡ cond (role_up x plain.to role) (taken_by x plain role) x
 
-pub arrived : (plan : Plan) (v : PartsValue) (x : World) (k : ℕ) (role : Role) → StandsForWorld plan v x → (c : IsComing plan v k role) → Arrived plan x k c.envelope role
+pub arrived : (plan : Plan) (v : WorldPartsValue) (x : World) (k : ℕ) (role : Role) → StandsForWorld plan v x → (c : IsComing plan v k role) → Arrived plan x k c.envelope role
 arrived plan v x k role h c =
     let found = zip-at (StandsForEnvelope plan) v.envelopes x.envelopes k c.envelope h.envelopes c.is in
     let plain = found.0 in
@@ -68,19 +68,19 @@ arrived plan v x k role h c =
 
 -- the envelope at its place, as an index reads it
 pub envelope-is :
-    (plan : Plan) (v : PartsValue) (k : ℕ) (role : Role) (es : List EnvelopeValue) (e : EnvelopeValue) → (c : IsComing plan v k role) → es ≡ v.envelopes → e ≡ get_or es k e → c.envelope ≡ e
+    (plan : Plan) (v : WorldPartsValue) (k : ℕ) (role : Role) (es : List EnvelopeValue) (e : EnvelopeValue) → (c : IsComing plan v k role) → es ≡ v.envelopes → e ≡ get_or es k e → c.envelope ≡ e
 envelope-is plan v k role es e c same read = sym (get_or_from_slice_get v.envelopes k c.envelope e c.is) ∙ ap (λ (ys : List EnvelopeValue). get_or ys k e) (sym same) ∙ sym read
 
 -- ---- what changes nothing
 
 -- an envelope that was not sent
-pub not_sent : (plan : Plan) (v : PartsValue) (k : ℕ) → IsWithinLimits v → slice_get v.envelopes k ≡ None → Happened plan v v (Deliver k)
+pub not_sent : (plan : Plan) (v : WorldPartsValue) (k : ℕ) → IsWithinLimits v → slice_get v.envelopes k ≡ None → Happened plan v v (Deliver k)
 not_sent plan v k within none =
     void plan v (Deliver k) within (λ x h. ap (λ (o : Option Envelope). comes x o) (zip-none (StandsForEnvelope plan) v.envelopes x.envelopes k h.envelopes none))
 
 -- one whose link is not up
 pub link_down :
-    (plan : Plan) (v : PartsValue) (k : ℕ) (e : EnvelopeValue) → IsWithinLimits v → slice_get v.envelopes k ≡ Some e → ((x : World) → StandsForWorld plan v x → false ≡ link_up x e.sender e.to) → Happened plan v v (Deliver k)
+    (plan : Plan) (v : WorldPartsValue) (k : ℕ) (e : EnvelopeValue) → IsWithinLimits v → slice_get v.envelopes k ≡ Some e → ((x : World) → StandsForWorld plan v x → false ≡ link_up x e.sender e.to) → Happened plan v v (Deliver k)
 link_down plan v k e within is down = void plan v (Deliver k) within stays
   where
     stays : (x : World) → StandsForWorld plan v x → happens x (Deliver k) ≡ x
@@ -91,11 +91,11 @@ link_down plan v k e within is down = void plan v (Deliver k) within stays
         ap (λ (o : Option Envelope). comes x o) found.1 ∙ ap (λ (b : Bool). cond (b && role_up x y.to (role_of x.plan y.to)) (taken_by x y (role_of x.plan y.to)) x) low
 
 -- one to nobody
-pub to_nobody : (plan : Plan) (v : PartsValue) (k : ℕ) → IsWithinLimits v → IsComing plan v k Nobody → Happened plan v v (Deliver k)
+pub to_nobody : (plan : Plan) (v : WorldPartsValue) (k : ℕ) → IsWithinLimits v → IsComing plan v k Nobody → Happened plan v v (Deliver k)
 to_nobody plan v k within c = void plan v (Deliver k) within (λ x h. (arrived plan v x k Nobody h c).happens)
 
 -- one that was read comes over a link that is up
 pub is_coming :
-    (plan : Plan) (v : PartsValue) (k : ℕ) (role : Role) (e : EnvelopeValue) → slice_get v.envelopes k ≡ Some e → ((x : World) → StandsForWorld plan v x → true ≡ link_up x e.sender e.to) → role_of plan e.to ≡ role →
+    (plan : Plan) (v : WorldPartsValue) (k : ℕ) (role : Role) (e : EnvelopeValue) → slice_get v.envelopes k ≡ Some e → ((x : World) → StandsForWorld plan v x → true ≡ link_up x e.sender e.to) → role_of plan e.to ≡ role →
     IsComing plan v k role
 is_coming plan v k role e is up to = record { envelope = e; is = is; to = to; linked = λ x h. sym (up x h) }

@@ -12,7 +12,7 @@ use Rattle.node_core.specs.declared.packets.Packet.TheVariants as packet
 use Rattle.client_fold.specs.Folding.{ClientValue, StandsForClient, Follows, StandForClients}
 use Rattle.world_model.specs.Worlds.{World, happens}
 use Rattle.law_safety.proofs.Worlding.{client-below}
-use Rattle.world_parts.specs.Parts.{PartsValue, StandsForWorld}
+use Rattle.world_parts.specs.Parts.{WorldPartsValue, StandsForWorld}
 use Rattle.world_parts.specs.Counting.{IsWithinLimits}
 use Rattle.world_parts.specs.Events.{IsSomeWorld, IsComing, IsWorldOf, Happened}
 use Rattle.world_parts.proofs.Arrivals.{arrived}
@@ -49,14 +49,14 @@ clients-set plan c (suc i) old new f (u ∷ vs) (x ∷ xs) h e steps =
     let next : c + suc i ≡ c + 1 + i = omega arith in (h.0, clients-set plan (c + 1) i old new f vs xs h.1 e (rw next at steps))
 
 -- a client's place is there
-pub client_there : (plan : Plan) (v : PartsValue) (a c : ℕ) → IsSomeWorld plan v → role_of plan a ≡ IsClient c → c < length v.clients
+pub client_there : (plan : Plan) (v : WorldPartsValue) (a c : ℕ) → IsSomeWorld plan v → role_of plan a ≡ IsClient c → c < length v.clients
 client_there plan v a c some role =
     let count = client-count plan 0 v.clients some.0.clients some.2.stands.clients in
     let low = client-below plan a c role in
     omega (arith, count, low)
 
 -- what comes to a client is a message
-pub client_message : (plan : Plan) (v : PartsValue) (k c : ℕ) → IsSomeWorld plan v → (comes : IsComing plan v k (IsClient c)) → (m : Message) × (comes.envelope.packet ≡ packet.Plain m)
+pub client_message : (plan : Plan) (v : WorldPartsValue) (k c : ℕ) → IsSomeWorld plan v → (comes : IsComing plan v k (IsClient c)) → (m : Message) × (comes.envelope.packet ≡ packet.Plain m)
 client_message plan v k c some comes = let p = (arrived plan v some.0 k (IsClient c) some.2.stands comes).packet in (p.0, p.1)
 
 -- what a message made of it, said of the packet that came
@@ -68,11 +68,11 @@ follows-packet plan p c a b m q old next y same who told follows stands =
 
 -- a client that took what came
 pub client_took :
-    (plan : Plan) (v new : PartsValue) (k c : ℕ) (m : Message) (old next : ClientValue) → IsWithinLimits v → (comes : IsComing plan v k (IsClient c)) → comes.envelope.packet ≡ packet.Plain m →
+    (plan : Plan) (v new : WorldPartsValue) (k c : ℕ) (m : Message) (old next : ClientValue) → IsWithinLimits v → (comes : IsComing plan v k (IsClient c)) → comes.envelope.packet ≡ packet.Plain m →
     slice_get v.clients c ≡ Some old → Follows (λ plan c x. client_after_packet plan c comes.envelope.sender (Plain m) x) old next → record v { clients = slice_set v.clients c next } ≡ new →
     Happened plan v new (Deliver k)
 client_took plan v new k c m old next within comes is at follows same =
-    subst (λ (n : PartsValue). Happened plan v n (Deliver k)) same (unsent plan v (record v { clients = slice_set v.clients c next }) (Deliver k) within refl refl leads)
+    subst (λ (n : WorldPartsValue). Happened plan v n (Deliver k)) same (unsent plan v (record v { clients = slice_set v.clients c next }) (Deliver k) within refl refl leads)
   where
     leads : (x : World) (most : ℕ) → IsWorldOf plan v x most → StandsForWorld plan (record v { clients = slice_set v.clients c next }) (happens x (Deliver k))
     leads x most h =

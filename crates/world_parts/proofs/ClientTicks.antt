@@ -12,7 +12,7 @@ use Rattle.node_core.specs.declared.packets.Packet.TheVariants as packet
 use Rattle.node_core.specs.declared.packets.Mail as code_mail
 use Rattle.client_fold.specs.Folding.{ClientValue, StandsForClient, Follows, Sends}
 use Rattle.world_model.specs.Worlds.{World, happens, ticks, is_clock, client_at, client_stepped}
-use Rattle.world_parts.specs.Parts.{PartsValue, StandsForWorld}
+use Rattle.world_parts.specs.Parts.{WorldPartsValue, StandsForWorld}
 use Rattle.world_parts.specs.Counting.{IsWithinLimits, with_posted}
 use Rattle.world_parts.specs.Events.{Leads, Happened}
 use Rattle.world_parts.proofs.Posting.{posted-stands}
@@ -29,7 +29,7 @@ record Ticks (plan : Plan) (x : World) (a c now : ℕ) (old : ClientValue) : Typ
   stands : StandsForClient plan c old plain
   becomes : happens x (Tick a now) ≡ cond (is_clock old.clock now) (client_stepped a c (client_tick_step plan c now plain) x) x
 
-tick-of : (plan : Plan) (v : PartsValue) (x : World) (a c now : ℕ) (old : ClientValue) → StandsForWorld plan v x → role_of plan a ≡ IsClient c → slice_get v.clients c ≡ Some old → Ticks plan x a c now old
+tick-of : (plan : Plan) (v : WorldPartsValue) (x : World) (a c now : ℕ) (old : ClientValue) → StandsForWorld plan v x → role_of plan a ≡ IsClient c → slice_get v.clients c ≡ Some old → Ticks plan x a c now old
 tick-of plan v x a c now old h role at =
     let zero_on : 0 + c ≡ c = omega arith in
     let found = client-stands plan 0 c v.clients x.clients old h.clients at in
@@ -47,7 +47,7 @@ tick-of plan v x a c now old h role at =
 
 -- a client that ticked, and posts what it sends
 pub client_ticked :
-    (plan : Plan) (v mid : PartsValue) (a c now : ℕ) (old next : ClientValue) (told : List code_mail.Mail) (outs : List Out) → role_of plan a ≡ IsClient c → slice_get v.clients c ≡ Some old →
+    (plan : Plan) (v mid : WorldPartsValue) (a c now : ℕ) (old next : ClientValue) (told : List code_mail.Mail) (outs : List Out) → role_of plan a ≡ IsClient c → slice_get v.clients c ≡ Some old →
     is_clock old.clock now ≡ true → Follows (λ plan c x. (client_tick_step plan c now x).after) old next → Sends now old outs → record v { clients = slice_set v.clients c next } ≡ mid →
     told ≡ map (λ (o : Out). record { to = o.to; packet = packet.Plain o.message }) outs → Leads plan v (with_posted a told mid) (Tick a now)
 client_ticked plan v mid a c now old next told outs role at clock follows sends same is x most h =
@@ -61,11 +61,11 @@ client_ticked plan v mid a c now old next told outs role at clock follows sends 
     (λ y e k. subst (λ (i : ℕ). StandsForClient plan i next s.after) (sym zero_on) (follows plan c t.plain t.stands))) in
     subst (λ (w : World). StandsForWorld plan (with_posted a told mid) w) (sym becomes)
     (posted-stands plan mid (record x { clients = changed c (λ _. s.after) x.clients }) a told s.sends
-    (subst (λ (m : PartsValue). StandsForWorld plan m (record x { clients = changed c (λ _. s.after) x.clients })) same stands) (told-sent plan told outs s.sends is (sends plan c t.plain t.stands)))
+    (subst (λ (m : WorldPartsValue). StandsForWorld plan m (record x { clients = changed c (λ _. s.after) x.clients })) same stands) (told-sent plan told outs s.sends is (sends plan c t.plain t.stands)))
 
 -- one whose clock would fall
 pub client_waits :
-    (plan : Plan) (v : PartsValue) (a c now : ℕ) (old : ClientValue) → IsWithinLimits v → role_of plan a ≡ IsClient c → slice_get v.clients c ≡ Some old → is_clock old.clock now ≡ false → Happened plan v v (Tick a now)
+    (plan : Plan) (v : WorldPartsValue) (a c now : ℕ) (old : ClientValue) → IsWithinLimits v → role_of plan a ≡ IsClient c → slice_get v.clients c ≡ Some old → is_clock old.clock now ≡ false → Happened plan v v (Tick a now)
 client_waits plan v a c now old within role at clock =
     void plan v (Tick a now) within
     (λ x h. let t = tick-of plan v x a c now old h role at in t.becomes ∙ ap (λ (b : Bool). cond b (client_stepped a c (client_tick_step plan c now t.plain) x) x) clock)

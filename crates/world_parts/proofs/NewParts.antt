@@ -19,7 +19,7 @@ use Rattle.world_model.specs.Worlds.{new_world}
 use Rattle.law_safety.proofs.Tests.{lt-of}
 use Rattle.law_fit.specs.Fits.{CanRun}
 use Rattle.law_fit.proofs.Replicas.{few-senders}
-use Rattle.world_parts.specs.Parts.{PartsValue, SlotValue, StandForSources, StandForSlots, StandsForWorld}
+use Rattle.world_parts.specs.Parts.{WorldPartsValue, SlotValue, StandForSources, StandForSlots, StandsForWorld}
 use Rattle.world_parts.specs.Opening.{new_slot, IsNewSlot, AreNewSlots, replicas_below, AreNewClients}
 use Rattle.world_parts.proofs.PartFrames.{read-at}
 
@@ -107,7 +107,7 @@ stand-sources plan s (suc n) logs all =
 -- ---- all of it
 
 pub new_stands :
-    (plan : Plan) (v : PartsValue) → CanRun plan → v.sources ≡ map (opening_source plan) (range_with_len 0 (length plan.sources)) → AreNewSlots plan (nodes_of plan) v.nodes →
+    (plan : Plan) (v : WorldPartsValue) → CanRun plan → v.sources ≡ map (opening_source plan) (range_with_len 0 (length plan.sources)) → AreNewSlots plan (nodes_of plan) v.nodes →
     AreNewClients plan (range_with_len 0 (length plan.clients)) v.clients → v.cuts ≡ [] → v.envelopes ≡ [] → v.items ≡ 0 → StandsForWorld plan v (new_world plan)
 unfolding new_world
 new_stands plan v can sources nodes clients cuts envelopes items =

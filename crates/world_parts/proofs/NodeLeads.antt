@@ -21,7 +21,7 @@ use Rattle.law_safety.proofs.Tests.{both}
 use Rattle.law_safety.proofs.Law.{event-keeps}
 use Rattle.law_fit.specs.Fits.{CanRun}
 use Rattle.law_fit.proofs.FitWorlds.{world-nodes, world-packets}
-use Rattle.world_parts.specs.Parts.{PartsValue, SlotValue, EnvelopeValue, StandsForSlot, StandsForSent, StandsForEnvelope, StandsForWorld}
+use Rattle.world_parts.specs.Parts.{WorldPartsValue, SlotValue, EnvelopeValue, StandsForSlot, StandsForSent, StandsForEnvelope, StandsForWorld}
 use Rattle.world_parts.specs.Counting.{with_posted}
 use Rattle.world_parts.specs.Events.{IsWorldOf, IsSomeWorld, Leads}
 use Rattle.world_parts.specs.Slots.{slot_mills, slot_takes, slot_ticks, CanStep, CanCome, IsStepped}
@@ -48,7 +48,7 @@ sends-fit x most a e step checked fine event =
     all-behind q [] ys h = h
     all-behind q (x ∷ xs) ys h = all-behind q xs ys (both (q x) (list_all q (xs ++ ys)) h).1
 
-steps-stand : (x : World) (most a f r : ℕ) (v : PartsValue) (new : SlotValue) (told : List code_mail.Mail) (e : Event) → CanRun x.plan → role_of x.plan a ≡ IsNode f r → IsWorldOf x.plan v x most → IsEventOf a f r new told e x →
+steps-stand : (x : World) (most a f r : ℕ) (v : WorldPartsValue) (new : SlotValue) (told : List code_mail.Mail) (e : Event) → CanRun x.plan → role_of x.plan a ≡ IsNode f r → IsWorldOf x.plan v x most → IsEventOf a f r new told e x →
     StandsForWorld x.plan (with_posted a told (with_slot (node_place x.plan a) new v)) (happens x e)
 steps-stand x most a f r v new told e can role w h =
     let mid = record x { nodes = changed (node_place x.plan a) (λ _. h.step.after) x.nodes } in
@@ -57,7 +57,7 @@ steps-stand x most a f r v new told e can role w h =
     subst (λ (y : World). StandsForWorld x.plan (with_posted a told (with_slot (node_place x.plan a) new v)) y) (sym h.event)
     (posted-stands x.plan (with_slot (node_place x.plan a) new v) mid a told h.step.sends stands (node-sent x.plan a f r told h.step.sends role fits h.stepped.sends))
 
-pub steps-lead : (plan : Plan) (v : PartsValue) (a f r : ℕ) (new : SlotValue) (told : List code_mail.Mail) (e : Event) → CanRun plan → role_of plan a ≡ IsNode f r →
+pub steps-lead : (plan : Plan) (v : WorldPartsValue) (a f r : ℕ) (new : SlotValue) (told : List code_mail.Mail) (e : Event) → CanRun plan → role_of plan a ≡ IsNode f r →
     ((x : World) (most : ℕ) → x.plan ≡ plan → CanRun x.plan → role_of x.plan a ≡ IsNode f r → IsWorldOf x.plan v x most → IsEventOf a f r new told e x) → Leads plan v (with_posted a told (with_slot (node_place plan a) new v)) e
 steps-lead plan v a f r new told e can role each = λ x most w.
     subst (λ (p : Plan). x.plan ≡ p → CanRun p → role_of p a ≡ IsNode f r → IsWorldOf p v x most → ((x : World) (most : ℕ) → x.plan ≡ p → CanRun x.plan → role_of x.plan a ≡ IsNode f r → IsWorldOf x.plan v x most → IsEventOf a f r new told e x) →
@@ -87,7 +87,7 @@ pub record CanStepAt (x : World) (a f r : ℕ) (u : SlotValue) : Type 0 where
   pub plain : slice_get x.nodes (node_place x.plan a) ≡ Some slot
   pub can : CanStep (home_of x.plan (f, r)) u slot
 
-pub step-at : (x : World) (most a f r : ℕ) (v : PartsValue) (u : SlotValue) → CanRun x.plan → role_of x.plan a ≡ IsNode f r → IsWorldOf x.plan v x most → slice_get v.nodes (node_place x.plan a) ≡ Some u → CanStepAt x a f r u
+pub step-at : (x : World) (most a f r : ℕ) (v : WorldPartsValue) (u : SlotValue) → CanRun x.plan → role_of x.plan a ≡ IsNode f r → IsWorldOf x.plan v x most → slice_get v.nodes (node_place x.plan a) ≡ Some u → CanStepAt x a f r u
 step-at x most a f r v u can role w e =
     let at = place-of x.plan a f r v x role w.stands in
     let same : at.value ≡ u = some-same (sym at.is ∙ e) in
@@ -108,7 +108,7 @@ record CanComeAt (x : World) (k f r : ℕ) (env : EnvelopeValue) (u : SlotValue)
   there : slice_get x.envelopes k ≡ Some (record { sender = env.sender; to = env.to; packet = q })
   can : CanCome env.sender (home_of x.plan (f, r)) u slot env.packet q
 
-come-at : (x : World) (most k f r : ℕ) (v : PartsValue) (env : EnvelopeValue) (u : SlotValue) → CanRun x.plan → role_of x.plan env.to ≡ IsNode f r → IsWorldOf x.plan v x most →
+come-at : (x : World) (most k f r : ℕ) (v : WorldPartsValue) (env : EnvelopeValue) (u : SlotValue) → CanRun x.plan → role_of x.plan env.to ≡ IsNode f r → IsWorldOf x.plan v x most →
     slice_get v.envelopes k ≡ Some env → slice_get v.nodes (node_place x.plan env.to) ≡ Some u → CanComeAt x k f r env u
 come-at x most k f r v env u can role w i e =
     let found = zip-at (StandsForEnvelope x.plan) k env v.envelopes x.envelopes i w.stands.envelopes in
@@ -132,21 +132,21 @@ come-at x most k f r v env u can role w i e =
 
 -- ---- steps lead on
 
-pub mill-leads : (plan : Plan) (v : PartsValue) (a f r count : ℕ) (u new : SlotValue) (told : List code_mail.Mail) → CanRun plan → role_of plan a ≡ IsNode f r → slice_get v.nodes (node_place plan a) ≡ Some u →
+pub mill-leads : (plan : Plan) (v : WorldPartsValue) (a f r count : ℕ) (u new : SlotValue) (told : List code_mail.Mail) → CanRun plan → role_of plan a ≡ IsNode f r → slice_get v.nodes (node_place plan a) ≡ Some u →
     ((home : Home) (s : Slot) → CanStep home u s → IsStepped home new told (slot_mills home count s)) → Leads plan v (with_posted a told (with_slot (node_place plan a) new v)) (Mill a count)
 mill-leads plan v a f r count u new told can role e steps =
     steps-lead plan v a f r new told (Mill a count) can role (λ x most same can role w.
     let at = step-at x most a f r v u can role w (subst (λ (p : Plan). slice_get v.nodes (node_place p a) ≡ Some u) (sym same) e) in
     record { step = slot_mills (home_of x.plan (f, r)) count at.slot; stepped = steps (home_of x.plan (f, r)) at.slot at.can; event = mill-event x a f r count at.slot role at.plain })
 
-pub tick-leads : (plan : Plan) (v : PartsValue) (a f r now : ℕ) (u new : SlotValue) (told : List code_mail.Mail) → CanRun plan → role_of plan a ≡ IsNode f r → slice_get v.nodes (node_place plan a) ≡ Some u →
+pub tick-leads : (plan : Plan) (v : WorldPartsValue) (a f r now : ℕ) (u new : SlotValue) (told : List code_mail.Mail) → CanRun plan → role_of plan a ≡ IsNode f r → slice_get v.nodes (node_place plan a) ≡ Some u →
     ((home : Home) (s : Slot) → CanStep home u s → IsStepped home new told (slot_ticks home now s)) → Leads plan v (with_posted a told (with_slot (node_place plan a) new v)) (Tick a now)
 tick-leads plan v a f r now u new told can role e steps =
     steps-lead plan v a f r new told (Tick a now) can role (λ x most same can role w.
     let at = step-at x most a f r v u can role w (subst (λ (p : Plan). slice_get v.nodes (node_place p a) ≡ Some u) (sym same) e) in
     record { step = slot_ticks (home_of x.plan (f, r)) now at.slot; stepped = steps (home_of x.plan (f, r)) at.slot at.can; event = tick-event x a f r now at.slot role at.plain })
 
-pub deliver-leads : (plan : Plan) (v : PartsValue) (k f r : ℕ) (env : EnvelopeValue) (u new : SlotValue) (told : List code_mail.Mail) → CanRun plan → role_of plan env.to ≡ IsNode f r → slice_get v.envelopes k ≡ Some env →
+pub deliver-leads : (plan : Plan) (v : WorldPartsValue) (k f r : ℕ) (env : EnvelopeValue) (u new : SlotValue) (told : List code_mail.Mail) → CanRun plan → role_of plan env.to ≡ IsNode f r → slice_get v.envelopes k ≡ Some env →
     ((x : World) → StandsForWorld plan v x → link_up x env.sender env.to ≡ true) → slice_get v.nodes (node_place plan env.to) ≡ Some u →
     ((home : Home) (s : Slot) (q : Packet) → CanCome env.sender home u s env.packet q → IsStepped home new told (slot_takes home env.sender q s)) →
     Leads plan v (with_posted env.to told (with_slot (node_place plan env.to) new v)) (Deliver k)
@@ -161,7 +161,7 @@ deliver-leads plan v k f r env u new told can role i linked e steps =
 
 -- ---- what is sent nothing for
 
-slots-lead : (plan : Plan) (v : PartsValue) (a f r : ℕ) (new : SlotValue) (e : Event) (g : Plan → Slot → Slot) → role_of plan a ≡ IsNode f r →
+slots-lead : (plan : Plan) (v : WorldPartsValue) (a f r : ℕ) (new : SlotValue) (e : Event) (g : Plan → Slot → Slot) → role_of plan a ≡ IsNode f r →
     ((u : SlotValue) (s : Slot) → slice_get v.nodes (node_place plan a) ≡ Some u → StandsForSlot (home_of plan (f, r)) u s → StandsForSlot (home_of plan (f, r)) new (g plan s)) →
     ((x : World) → role_of x.plan a ≡ IsNode f r → happens x e ≡ record x { nodes = changed (node_place x.plan a) (g x.plan) x.nodes }) → Leads plan v (with_slot (node_place plan a) new v) e
 slots-lead plan v a f r new e g role keeps event = λ x most w.
@@ -174,7 +174,7 @@ slots-lead plan v a f r new e g role keeps event = λ x most w.
 same-value : {u t : SlotValue} → Some u ≡ Some t → u ≡ t
 same-value p = cc
 
-pub crash-leads : (plan : Plan) (v : PartsValue) (a f r : ℕ) (u new : SlotValue) → role_of plan a ≡ IsNode f r → slice_get v.nodes (node_place plan a) ≡ Some u → new ≡ record u { node = None } →
+pub crash-leads : (plan : Plan) (v : WorldPartsValue) (a f r : ℕ) (u new : SlotValue) → role_of plan a ≡ IsNode f r → slice_get v.nodes (node_place plan a) ≡ Some u → new ≡ record u { node = None } →
     Leads plan v (with_slot (node_place plan a) new v) (Crash a)
 crash-leads plan v a f r u new role e is =
     slots-lead plan v a f r new (Crash a) (λ plan slot. record slot { node = None }) role
@@ -182,38 +182,38 @@ crash-leads plan v a f r u new role e is =
     subst (λ (z : SlotValue). StandsForSlot (home_of plan (f, r)) z (record s { node = None })) (sym is) (record { last_inc = ap (λ (z : SlotValue). z.last_inc) (sym same) ∙ h.last_inc; node = tt }))
     (λ x role. crash-event x a f r role)
 
-pub restart-leads : (plan : Plan) (v : PartsValue) (a f r inc : ℕ) (u new : SlotValue) → role_of plan a ≡ IsNode f r → slice_get v.nodes (node_place plan a) ≡ Some u →
+pub restart-leads : (plan : Plan) (v : WorldPartsValue) (a f r inc : ℕ) (u new : SlotValue) → role_of plan a ≡ IsNode f r → slice_get v.nodes (node_place plan a) ≡ Some u →
     ((s : Slot) → StandsForSlot (home_of plan (f, r)) u s → StandsForSlot (home_of plan (f, r)) new (restart_slot (home_of plan (f, r)) inc s)) → Leads plan v (with_slot (node_place plan a) new v) (Restart a inc)
 restart-leads plan v a f r inc u new role e keeps =
     slots-lead plan v a f r new (Restart a inc) (λ plan slot. restart_slot (home_of plan (f, r)) inc slot) role
     (λ t s i h. keeps s (subst (λ (z : SlotValue). StandsForSlot (home_of plan (f, r)) z s) (same-value (sym i ∙ e)) h)) (λ x role. restart-event x a f r inc role)
 
 -- an event that changes nothing
-void-leads : (plan : Plan) (v : PartsValue) (a : ℕ) (e : Event) → IsNoNode (role_of plan a) → ((x : World) → IsNoNode (role_of x.plan a) → happens x e ≡ x) → Leads plan v v e
+void-leads : (plan : Plan) (v : WorldPartsValue) (a : ℕ) (e : Event) → IsNoNode (role_of plan a) → ((x : World) → IsNoNode (role_of x.plan a) → happens x e ≡ x) → Leads plan v v e
 void-leads plan v a e other void = λ x most w.
     subst (λ (y : World). StandsForWorld plan v y) (sym (void x (subst (λ (p : Plan). IsNoNode (role_of p a)) (sym w.stands.plan_is) other))) w.stands
 
-pub crash-stays : (plan : Plan) (v : PartsValue) (a : ℕ) → IsNoNode (role_of plan a) → Leads plan v v (Crash a)
+pub crash-stays : (plan : Plan) (v : WorldPartsValue) (a : ℕ) → IsNoNode (role_of plan a) → Leads plan v v (Crash a)
 crash-stays plan v a other = void-leads plan v a (Crash a) other (λ x h. crash-void x a h)
 
-pub restart-stays : (plan : Plan) (v : PartsValue) (a inc : ℕ) → IsNoNode (role_of plan a) → Leads plan v v (Restart a inc)
+pub restart-stays : (plan : Plan) (v : WorldPartsValue) (a inc : ℕ) → IsNoNode (role_of plan a) → Leads plan v v (Restart a inc)
 restart-stays plan v a inc other = void-leads plan v a (Restart a inc) other (λ x h. restart-void x a inc h)
 
-pub mill-stays : (plan : Plan) (v : PartsValue) (a count : ℕ) → IsNoNode (role_of plan a) → Leads plan v v (Mill a count)
+pub mill-stays : (plan : Plan) (v : WorldPartsValue) (a count : ℕ) → IsNoNode (role_of plan a) → Leads plan v v (Mill a count)
 mill-stays plan v a count other = void-leads plan v a (Mill a count) other (λ x h. mill-void x a count h)
 
 -- ---- what the calls want
 
 -- the number of a node's place is one
-pub place-low : (plan : Plan) (a f r : ℕ) (v : PartsValue) → role_of plan a ≡ IsNode f r → IsSomeWorld plan v → node_place plan a < length v.nodes
+pub place-low : (plan : Plan) (a f r : ℕ) (v : WorldPartsValue) → role_of plan a ≡ IsNode f r → IsSomeWorld plan v → node_place plan a < length v.nodes
 place-low plan a f r v role some = let at = place-of plan a f r v some.0 role some.2.stands in slice_get_within v.nodes (node_place plan a) at.value at.is
 
-pub some-step : (plan : Plan) (v : PartsValue) (a f r : ℕ) (u : SlotValue) → CanRun plan → role_of plan a ≡ IsNode f r → slice_get v.nodes (node_place plan a) ≡ Some u → IsSomeWorld plan v → (home : Home) × (s : Slot) × CanStep home u s
+pub some-step : (plan : Plan) (v : WorldPartsValue) (a f r : ℕ) (u : SlotValue) → CanRun plan → role_of plan a ≡ IsNode f r → slice_get v.nodes (node_place plan a) ≡ Some u → IsSomeWorld plan v → (home : Home) × (s : Slot) × CanStep home u s
 some-step plan v a f r u can role e some =
     subst (λ (p : Plan). CanRun p → role_of p a ≡ IsNode f r → slice_get v.nodes (node_place p a) ≡ Some u → IsWorldOf p v some.0 some.1 → (home : Home) × (s : Slot) × CanStep home u s) some.2.stands.plan_is
     (λ can role e w. let at = step-at some.0 some.1 a f r v u can role w e in (home_of some.0.plan (f, r), at.slot, at.can)) can role e some.2
 
-pub some-come : (plan : Plan) (v : PartsValue) (k f r : ℕ) (env : EnvelopeValue) (u : SlotValue) → CanRun plan → role_of plan env.to ≡ IsNode f r → slice_get v.envelopes k ≡ Some env → slice_get v.nodes (node_place plan env.to) ≡ Some u →
+pub some-come : (plan : Plan) (v : WorldPartsValue) (k f r : ℕ) (env : EnvelopeValue) (u : SlotValue) → CanRun plan → role_of plan env.to ≡ IsNode f r → slice_get v.envelopes k ≡ Some env → slice_get v.nodes (node_place plan env.to) ≡ Some u →
     IsSomeWorld plan v → (home : Home) × (s : Slot) × (q : Packet) × CanCome env.sender home u s env.packet q
 some-come plan v k f r env u can role i e some =
     subst (λ (p : Plan). CanRun p → role_of p env.to ≡ IsNode f r → slice_get v.nodes (node_place p env.to) ≡ Some u → IsWorldOf p v some.0 some.1 → (home : Home) × (s : Slot) × (q : Packet) × CanCome env.sender home u s env.packet q)

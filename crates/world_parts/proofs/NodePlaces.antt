@@ -7,7 +7,7 @@ use Rattle.dpc_model.specs.declared.actors.Role.TheVariants.{Node as IsNode}
 use Rattle.dpc_model.specs.declared.plans.Plan.{Plan}
 use Rattle.world_model.specs.Worlds.{World, Envelope, Slot, home_of, node_place, slot_of, items_in, item_count}
 use Rattle.law_safety.proofs.Numbering.{node-at}
-use Rattle.world_parts.specs.Parts.{PartsValue, SlotValue, StandsForSlot, StandForSlots, StandsForWorld}
+use Rattle.world_parts.specs.Parts.{WorldPartsValue, SlotValue, StandsForSlot, StandForSlots, StandsForWorld}
 
 -- ---- lists of places
 
@@ -43,10 +43,10 @@ slots-changed plan (suc i) n new f (m ∷ ns) (v ∷ vs) (x ∷ xs) e keeps h = 
 -- ---- the nodes of a world
 
 -- the parts with another value at a place
-abbrev pub with_slot : ℕ → SlotValue → PartsValue → PartsValue
+abbrev pub with_slot : ℕ → SlotValue → WorldPartsValue → WorldPartsValue
 with_slot i new v = record v { nodes = slice_set v.nodes i new }
 
-pub place-of : (plan : Plan) (a f r : ℕ) (v : PartsValue) (x : World) → role_of plan a ≡ IsNode f r → StandsForWorld plan v x → IsPlaceAt plan (node_place plan a) (f, r) v.nodes x.nodes
+pub place-of : (plan : Plan) (a f r : ℕ) (v : WorldPartsValue) (x : World) → role_of plan a ≡ IsNode f r → StandsForWorld plan v x → IsPlaceAt plan (node_place plan a) (f, r) v.nodes x.nodes
 place-of plan a f r v x role h = slots-at plan (node_place plan a) (f, r) (nodes_of plan) v.nodes x.nodes (node-at plan a f r role) h.nodes
 
 pub slot-here : (x : World) (a : ℕ) (s : Slot) → slice_get x.nodes (node_place x.plan a) ≡ Some s → slot_of x a ≡ s
@@ -59,7 +59,7 @@ items-same x y (e ∷ es) same =
     ap (λ (p : Plan). items_in p e.to e.packet + item_count x es) same ∙ ap (λ (n : ℕ). items_in y.plan e.to e.packet + n) (items-same x y es same)
 
 -- a world with another place of a node
-pub place-changed : (plan : Plan) (a f r : ℕ) (v : PartsValue) (x : World) (new : SlotValue) (g : Slot → Slot) → role_of plan a ≡ IsNode f r → StandsForWorld plan v x →
+pub place-changed : (plan : Plan) (a f r : ℕ) (v : WorldPartsValue) (x : World) (new : SlotValue) (g : Slot → Slot) → role_of plan a ≡ IsNode f r → StandsForWorld plan v x →
     ((u : SlotValue) (s : Slot) → slice_get v.nodes (node_place plan a) ≡ Some u → slice_get x.nodes (node_place plan a) ≡ Some s → StandsForSlot (home_of plan (f, r)) u s → StandsForSlot (home_of plan (f, r)) new (g s)) →
     StandsForWorld plan (with_slot (node_place plan a) new v) (record x { nodes = changed (node_place plan a) g x.nodes })
 place-changed plan a f r v x new g role h keeps =

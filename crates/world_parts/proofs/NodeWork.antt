@@ -27,7 +27,7 @@ use Rattle.world_parts.specs.declared.faults.CommitFault.TheVariants as commit_f
 use Rattle.world_parts.specs.Counting.{IsTooLong}
 use Rattle.world_parts.specs.Events.{IsWorldOf, Leads, WouldPass}
 use Rattle.world_parts.specs.Handing.{up_role, up_node, IsSlotOrder, IsHandedOut, IsUpAt, IsTimely, IsElsewhere, IsSlotStale, IsStaleAt, fault_of_node, fault_of_event}
-use Rattle.world_parts.specs.Parts.{SlotValue, PartsValue}
+use Rattle.world_parts.specs.Parts.{SlotValue, WorldPartsValue}
 use Rattle.world_parts.specs.Slots.{CanStep}
 use Rattle.world_parts.proofs.NodeCalls.{IsPlaceRead, read-is}
 use Rattle.world_parts.proofs.NodeLeads.{CanStepAt, step-at}
@@ -38,7 +38,7 @@ use Rattle.world_parts.proofs.SlotWork.{slot-plain}
 
 -- ---- the place that was read, in a world that is stood for
 
-read-step-at : (plan : Plan) (v : PartsValue) (a f r : ℕ) (u : SlotValue) (x : World) (most : ℕ) → CanRun plan → role_of plan a ≡ IsNode f r → slice_get v.nodes (node_place plan a) ≡ Some u → IsWorldOf plan v x most → CanStepAt x a f r u
+read-step-at : (plan : Plan) (v : WorldPartsValue) (a f r : ℕ) (u : SlotValue) (x : World) (most : ℕ) → CanRun plan → role_of plan a ≡ IsNode f r → slice_get v.nodes (node_place plan a) ≡ Some u → IsWorldOf plan v x most → CanStepAt x a f r u
 read-step-at plan v a f r u x most can role e w =
     subst (λ (p : Plan). CanRun p → role_of p a ≡ IsNode f r → slice_get v.nodes (node_place p a) ≡ Some u → IsWorldOf p v x most → CanStepAt x a f r u) w.stands.plan_is
     (λ can role e w. step-at x most a f r v u can role w e) can role e w
@@ -49,17 +49,17 @@ own-role plan a f r x same role = ap (λ (p : Plan). role_of p a) same ∙ role
 ready-place : (x : World) (a f r : ℕ) (s : Slot) → role_of x.plan a ≡ IsNode f r → slice_get x.nodes (node_place x.plan a) ≡ Some s → ready_in (home_of x.plan (f, r)) s.node ≡ ready_at x a
 ready-place x a f r s role e = ap (λ (t : Slot). ready_in (home_of x.plan (f, r)) t.node) (sym (slot-here x a s e)) ∙ sym (ap (λ (z : Role). ready_role x a z) role)
 
-pub up-place : (plan : Plan) (v : PartsValue) (a f r : ℕ) (u : SlotValue) → role_of plan a ≡ IsNode f r → slice_get v.nodes (node_place plan a) ≡ Some u → up_node plan v a ≡ u.node
+pub up-place : (plan : Plan) (v : WorldPartsValue) (a f r : ℕ) (u : SlotValue) → role_of plan a ≡ IsNode f r → slice_get v.nodes (node_place plan a) ≡ Some u → up_node plan v a ≡ u.node
 up-place plan v a f r u role e =
     ap (λ (z : Role). up_role v (node_place plan a) z) role ∙ ap (λ (o : Option SlotValue). (unwrap_or o (record { last_inc = 0; node = None })).node) e
 
 -- what was read, of the parts as contracts see them
-read-old : (plan : Plan) (v old : PartsValue) (a f r i : ℕ) (u : SlotValue) → IsPlaceRead plan v old a f r i u → slice_get old.nodes (node_place plan a) ≡ Some u
-read-old plan v old a f r i u h = subst (λ (w : PartsValue). slice_get w.nodes (node_place plan a) ≡ Some u) h.same (read-is plan v old a f r i u h)
+read-old : (plan : Plan) (v old : WorldPartsValue) (a f r i : ℕ) (u : SlotValue) → IsPlaceRead plan v old a f r i u → slice_get old.nodes (node_place plan a) ≡ Some u
+read-old plan v old a f r i u h = subst (λ (w : WorldPartsValue). slice_get w.nodes (node_place plan a) ≡ Some u) h.same (read-is plan v old a f r i u h)
 
 -- ---- what is handed out
 
-pub handed-out : (plan : Plan) (v old : PartsValue) (a f r i : ℕ) (u : SlotValue) (o : OrderValue MillState) → CanRun plan → IsPlaceRead plan v old a f r i u → IsSlotOrder u o → IsHandedOut plan old a o
+pub handed-out : (plan : Plan) (v old : WorldPartsValue) (a f r i : ℕ) (u : SlotValue) (o : OrderValue MillState) → CanRun plan → IsPlaceRead plan v old a f r i u → IsSlotOrder u o → IsHandedOut plan old a o
 handed-out plan v old a f r i u o can h order =
     let there = read-old plan v old a f r i u h in
     let at : (x : World) (most : ℕ) → IsWorldOf plan old x most → CanStepAt x a f r u = λ x most w. read-step-at plan old a f r u x most can h.role there w in
@@ -78,7 +78,7 @@ handed-out plan v old a f r i u o can h order =
         let up = slot-plain (home_of x.plan (f, r)) u here.slot order.from order.up here.can in
         ap (λ (actors : List ℕ). nth 0 actors order.from.links.me) up.stands.knows.replicas ∙ ap (λ (k : ℕ). nth 0 (replicas_of x.plan f) k) up.stands.knows.me ∙ replica-at x.plan a f r role
 
-pub each-handed : (plan : Plan) (v old : PartsValue) (a f r i : ℕ) (u : SlotValue) (told : Option (OrderValue MillState)) → CanRun plan → IsPlaceRead plan v old a f r i u → IfSome told (IsSlotOrder u) → IfSome told (IsHandedOut plan old a)
+pub each-handed : (plan : Plan) (v old : WorldPartsValue) (a f r i : ℕ) (u : SlotValue) (told : Option (OrderValue MillState)) → CanRun plan → IsPlaceRead plan v old a f r i u → IfSome told (IsSlotOrder u) → IfSome told (IsHandedOut plan old a)
 each-handed plan v old a f r i u None can h k = tt
 each-handed plan v old a f r i u (Some o) can h k = handed-out plan v old a f r i u o can h k
 
@@ -90,12 +90,12 @@ none-or-some (Some o) ready none some = (none, λ e. absurd (no-bucket (length o
     no-bucket : (k ready : ℕ) → 1 ≤ k → k ≡ min most_milled ready → ready ≡ 0 → ⊥
     no-bucket k ready low is zero = grind (arith, common_steps)
 
-handed-some : (plan : Plan) (v : PartsValue) (a : ℕ) (told : Option (OrderValue MillState)) (x : World) (most : ℕ) → IfSome told (IsHandedOut plan v a) → IsWorldOf plan v x most →
+handed-some : (plan : Plan) (v : WorldPartsValue) (a : ℕ) (told : Option (OrderValue MillState)) (x : World) (most : ℕ) → IfSome told (IsHandedOut plan v a) → IsWorldOf plan v x most →
     IfSome told (λ o. (1 ≤ length o.buckets) × (length o.buckets ≡ min most_milled (ready_at x a)))
 handed-some plan v a None x most h w = tt
 handed-some plan v a (Some o) x most h w = (h.of.can.some, h.count x most w)
 
-pub handed-none : (plan : Plan) (v old : PartsValue) (a f r i : ℕ) (u : SlotValue) (told : Option (OrderValue MillState)) → CanRun plan → IsPlaceRead plan v old a f r i u →
+pub handed-none : (plan : Plan) (v old : WorldPartsValue) (a f r i : ℕ) (u : SlotValue) (told : Option (OrderValue MillState)) → CanRun plan → IsPlaceRead plan v old a f r i u →
     (IsNone told → (home : Home) (s : Slot) → CanStep home u s → ready_in home s.node ≡ 0) → IfSome told (IsSlotOrder u) → (x : World) (most : ℕ) → IsWorldOf plan old x most → IsNone told ↔ (ready_at x a ≡ 0)
 handed-none plan v old a f r i u told can h none some x most w =
     let here = read-step-at plan old a f r u x most can h.role (read-old plan v old a f r i u h) w in
@@ -106,15 +106,15 @@ handed-none plan v old a f r i u told can h none some x most w =
 -- ---- what comes back
 
 -- the actor is the order's
-pub own-read : (plan : Plan) (v old : PartsValue) (a b f r i : ℕ) (u : SlotValue) → a ≡ b → IsPlaceRead plan v old a f r i u → IsPlaceRead plan v old b f r i u
+pub own-read : (plan : Plan) (v old : WorldPartsValue) (a b f r i : ℕ) (u : SlotValue) → a ≡ b → IsPlaceRead plan v old a f r i u → IsPlaceRead plan v old b f r i u
 own-read plan v old a b f r i u same h = subst (λ (n : ℕ). IsPlaceRead plan v old n f r i u) same h
 
 -- where its place stood there, the node did
-pub timely : (plan : Plan) (v old : PartsValue) (f r i : ℕ) (u : SlotValue) (o : OrderValue MillState) → IsPlaceRead plan v old o.node f r i u → IsUpAt u.node o → IsTimely plan old o
+pub timely : (plan : Plan) (v old : WorldPartsValue) (f r i : ℕ) (u : SlotValue) (o : OrderValue MillState) → IsPlaceRead plan v old o.node f r i u → IsUpAt u.node o → IsTimely plan old o
 timely plan v old f r i u o h at = subst (λ (n : Option NodeValue). IsUpAt n o) (sym (up-place plan old o.node f r u h.role (read-old plan v old o.node f r i u h))) at
 
 -- where it is stale at its place it is stale
-pub stale-at : (plan : Plan) (v old : PartsValue) (f r i : ℕ) (u : SlotValue) (o : OrderValue MillState) (had needed : Point) → IsPlaceRead plan v old o.node f r i u → IsSlotStale u o had needed → IsStaleAt plan old o had needed
+pub stale-at : (plan : Plan) (v old : WorldPartsValue) (f r i : ℕ) (u : SlotValue) (o : OrderValue MillState) (had needed : Point) → IsPlaceRead plan v old o.node f r i u → IsSlotStale u o had needed → IsStaleAt plan old o had needed
 stale-at plan v old f r i u o had needed h at =
     let there = read-old plan v old o.node f r i u h in
     record {
@@ -124,7 +124,7 @@ stale-at plan v old f r i u o had needed h at =
     }
 
 -- a place that is put back as it was
-pub place-stays : (plan : Plan) (v old : PartsValue) (a f r i : ℕ) (u new : SlotValue) → IsPlaceRead plan v old a f r i u → new ≡ u → with_slot i new v ≡ old
+pub place-stays : (plan : Plan) (v old : WorldPartsValue) (a f r i : ℕ) (u new : SlotValue) → IsPlaceRead plan v old a f r i u → new ≡ u → with_slot i new v ≡ old
 place-stays plan v old a f r i u new h same =
     ap (λ (w : SlotValue). with_slot i w v) (same ∙ h.value) ∙ ap (λ (nodes : List SlotValue). record v { nodes = nodes }) (set-get_or v.nodes i u) ∙ h.same
 
@@ -166,7 +166,7 @@ stale-of-event r why had needed h e = by-fault why (handed-fault r (fault_of_eve
     by-fault (event_fault.TooLong a b) k = cc
 
 -- what could not be posted would pass a limit
-pub commit-passes : (plan : Plan) (old w : PartsValue) (e : Event) (r : Result (Unit {0}) CommitFault) (why : EventFault) → IsErrAnd r (λ y. y ≡ fault_of_event why) →
+pub commit-passes : (plan : Plan) (old w : WorldPartsValue) (e : Event) (r : Result (Unit {0}) CommitFault) (why : EventFault) → IsErrAnd r (λ y. y ≡ fault_of_event why) →
     ((envelopes items : ℕ) → ◌≡◌ {A = Result (Unit {0}) EventFault} (Err why) (Err (event_fault.TooLong envelopes items)) → IsTooLong envelopes items w) → Leads plan old w e →
     (envelopes items : ℕ) → r ≡ Err (commit_fault.TooLong envelopes items) → WouldPass plan old e envelopes items
 commit-passes plan old w e r why given long leads envelopes items is =

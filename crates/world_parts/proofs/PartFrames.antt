@@ -6,7 +6,7 @@ use Rattle.dpc_model.specs.declared.plans.Plan.{Plan}
 use Rattle.node_model.specs.Clients.{ClientState}
 use Rattle.client_fold.specs.Folding.{ClientValue, StandForClients}
 use Rattle.world_model.specs.Worlds.{World, Envelope, item_count, happens}
-use Rattle.world_parts.specs.Parts.{PartsValue, StandsForWorld}
+use Rattle.world_parts.specs.Parts.{WorldPartsValue, StandsForWorld}
 use Rattle.world_parts.specs.Counting.{IsWithinLimits, IsPastLimits, with_posted}
 use Rattle.world_parts.specs.Events.{Leads, Happened}
 use Rattle.world_parts.proofs.Posting.{AreSent, plain-sent, happened}
@@ -36,7 +36,7 @@ item_count-plan w u [] h = refl
 item_count-plan w u (e ∷ es) h = let rest = item_count-plan w u es h in cc
 
 pub with-clients :
-    (plan : Plan) (v : PartsValue) (x : World) (vs : List ClientValue) (xs : List ClientState) → StandsForWorld plan v x → StandForClients plan 0 vs xs →
+    (plan : Plan) (v : WorldPartsValue) (x : World) (vs : List ClientValue) (xs : List ClientState) → StandsForWorld plan v x → StandForClients plan 0 vs xs →
     StandsForWorld plan (record v { clients = vs }) (record x { clients = xs })
 with-clients plan v x vs xs h k =
     record {
@@ -50,7 +50,7 @@ with-clients plan v x vs xs h k =
     }
 
 pub with-cuts :
-    (plan : Plan) (v : PartsValue) (x : World) (vs xs : List (ℕ × ℕ)) → StandsForWorld plan v x → vs ≡ xs →
+    (plan : Plan) (v : WorldPartsValue) (x : World) (vs xs : List (ℕ × ℕ)) → StandsForWorld plan v x → vs ≡ xs →
     StandsForWorld plan (record v { cuts = vs }) (record x { cuts = xs })
 with-cuts plan v x vs xs h k =
     record {
@@ -64,15 +64,15 @@ with-cuts plan v x vs xs h k =
     }
 
 -- an event that sends nothing stays within the limits
-pub unsent : (plan : Plan) (v new : PartsValue) (e : Event) → IsWithinLimits v → new.envelopes ≡ v.envelopes → new.items ≡ v.items → Leads plan v new e → Happened plan v new e
+pub unsent : (plan : Plan) (v new : WorldPartsValue) (e : Event) → IsWithinLimits v → new.envelopes ≡ v.envelopes → new.items ≡ v.items → Leads plan v new e → Happened plan v new e
 unsent plan v new e within same count leads = happened plan v new e (record { envelopes = rw same within.envelopes; items = rw count within.items }) leads
 
 -- one that changes nothing
-pub void : (plan : Plan) (v : PartsValue) (e : Event) → IsWithinLimits v → ((x : World) → StandsForWorld plan v x → happens x e ≡ x) → Happened plan v v e
+pub void : (plan : Plan) (v : WorldPartsValue) (e : Event) → IsWithinLimits v → ((x : World) → StandsForWorld plan v x → happens x e ≡ x) → Happened plan v v e
 void plan v e within same = happened plan v v e within (λ x most h. subst (λ (y : World). StandsForWorld plan v y) (sym (same x h.stands)) h.stands)
 
 -- what is not past the limits is within them
-pub not-past : (v : PartsValue) → (IsPastLimits v → ⊥) → IsWithinLimits v
+pub not-past : (v : WorldPartsValue) → (IsPastLimits v → ⊥) → IsWithinLimits v
 not-past v h =
     record {
       envelopes = elim (cases_lt most_envelopes (length v.envelopes)) [ inl high ↦ absurd (h (inl high)) | inr low ↦ low ];
@@ -81,10 +81,10 @@ not-past v h =
 
 -- an event that posts what it leads to, within the limits
 pub posted_happened :
-    (plan : Plan) (old v new : PartsValue) (a : ℕ) (told : List code_mail.Mail) (e : Event) → new ≡ with_posted a told v → (IsPastLimits (with_posted a told v) → ⊥) → Leads plan old (with_posted a told v) e →
+    (plan : Plan) (old v new : WorldPartsValue) (a : ℕ) (told : List code_mail.Mail) (e : Event) → new ≡ with_posted a told v → (IsPastLimits (with_posted a told v) → ⊥) → Leads plan old (with_posted a told v) e →
     Happened plan old new e
 posted_happened plan old v new a told e is low leads =
-    subst (λ (n : PartsValue). Happened plan old n e) (sym is) (happened plan old (with_posted a told v) e (not-past (with_posted a told v) low) leads)
+    subst (λ (n : WorldPartsValue). Happened plan old n e) (sym is) (happened plan old (with_posted a told v) e (not-past (with_posted a told v) low) leads)
 
 -- messages as mails stand for the plain ones
 pub told-sent : (plan : Plan) (told : List code_mail.Mail) (outs : List Out) (ms : List Mail) → told ≡ map (λ (o : Out). record { to = o.to; packet = packet.Plain o.message }) outs → mails outs ≡ ms → AreSent plan told ms

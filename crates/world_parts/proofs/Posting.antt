@@ -23,7 +23,7 @@ use Rattle.node_core.specs.declared.packets.Mail as code_mail
 use Rattle.world_model.specs.Worlds.{World, Envelope, home_of, happens, from, sent, item_count, items_in, passes_limit}
 use Rattle.world_model.specs.Orderly.{is_fitting, packet_way, carries_fitting}
 use Rattle.law_safety.proofs.Tests.{both, eq-of}
-use Rattle.world_parts.specs.Parts.{PartsValue, EnvelopeValue, StandsForSent, StandsForEnvelope, StandsForWorld}
+use Rattle.world_parts.specs.Parts.{WorldPartsValue, EnvelopeValue, StandsForSent, StandsForEnvelope, StandsForWorld}
 use Rattle.world_parts.specs.Counting.{items_carried, all_carried, posted, with_posted, IsPastLimits, IsWithinLimits, IsTooLong}
 use Rattle.world_parts.specs.Events.{Leads, Happened, WouldPass}
 
@@ -118,7 +118,7 @@ envelopes-stand plan a (m ∷ told) [] h = absurd h
 envelopes-stand plan a (m ∷ told) (q ∷ ms) h = (record { sender = refl; to = h.0.to; packet = h.0.packet }, envelopes-stand plan a told ms h.1)
 
 pub posted-stands :
-    (plan : Plan) (v : PartsValue) (x : World) (a : ℕ) (told : List code_mail.Mail) (ms : List Mail) → StandsForWorld plan v x → AreSent plan told ms →
+    (plan : Plan) (v : WorldPartsValue) (x : World) (a : ℕ) (told : List code_mail.Mail) (ms : List Mail) → StandsForWorld plan v x → AreSent plan told ms →
     StandsForWorld plan (with_posted a told v) (sent a ms x)
 posted-stands plan v x a told ms h k =
     record {
@@ -140,7 +140,7 @@ pub record IsEnvelopeAt (plan : Plan) (k : ℕ) (v : EnvelopeValue) (x : World) 
   pub is : slice_get x.envelopes k ≡ Some envelope
   pub stands : StandsForEnvelope plan v envelope
 
-pub envelope-at : (plan : Plan) (v : PartsValue) (x : World) (k : ℕ) (e : EnvelopeValue) → StandsForWorld plan v x → slice_get v.envelopes k ≡ Some e → IsEnvelopeAt plan k e x
+pub envelope-at : (plan : Plan) (v : WorldPartsValue) (x : World) (k : ℕ) (e : EnvelopeValue) → StandsForWorld plan v x → slice_get v.envelopes k ≡ Some e → IsEnvelopeAt plan k e x
 envelope-at plan v x k e h is = let found = among v.envelopes x.envelopes k h.envelopes is in record { envelope = found.0; is = found.1; stands = found.2 }
   where
     among : (vs : List EnvelopeValue) (xs : List Envelope) (i : ℕ) → AllZip (StandsForEnvelope plan) vs xs → slice_get vs i ≡ Some e → (y : Envelope) × (slice_get xs i ≡ Some y) × StandsForEnvelope plan e y
@@ -150,8 +150,8 @@ envelope-at plan v x k e h is = let found = among v.envelopes x.envelopes k h.en
     among (u ∷ vs) (y ∷ xs) (suc i) all f = among vs xs i all.1 f
 
 -- an envelope that the code reads
-pub envelope-seen : (old seen : PartsValue) (k : ℕ) (e read : EnvelopeValue) → seen ≡ old → slice_get old.envelopes k ≡ Some e → read ≡ slice_index_or seen.envelopes k read → read ≡ e
-envelope-seen old seen k e read same is here = here ∙ ap (λ (p : PartsValue). slice_index_or p.envelopes k read) same ∙ get_or_from_slice_get old.envelopes k e read is
+pub envelope-seen : (old seen : WorldPartsValue) (k : ℕ) (e read : EnvelopeValue) → seen ≡ old → slice_get old.envelopes k ≡ Some e → read ≡ slice_index_or seen.envelopes k read → read ≡ e
+envelope-seen old seen k e read same is here = here ∙ ap (λ (p : WorldPartsValue). slice_index_or p.envelopes k read) same ∙ get_or_from_slice_get old.envelopes k e read is
 
 -- ---- limits
 
@@ -172,11 +172,11 @@ is-past : (n m : ℕ) → n < m → nat_lt n m ≡ true
 is-past n m h = grind (arith, common_steps)
 
 -- as many envelopes as the plain world has
-as-many : (plan : Plan) (v : PartsValue) (y : World) → StandsForWorld plan v y → length y.envelopes ≡ length v.envelopes
+as-many : (plan : Plan) (v : WorldPartsValue) (y : World) → StandsForWorld plan v y → length y.envelopes ≡ length v.envelopes
 as-many plan v y s = AllZip-long (StandsForEnvelope plan) v.envelopes y.envelopes s.envelopes
 
 -- an event that leads to this, within the limits, happened
-pub happened : (plan : Plan) (old new : PartsValue) (e : Event) → IsWithinLimits new → Leads plan old new e → Happened plan old new e
+pub happened : (plan : Plan) (old new : WorldPartsValue) (e : Event) → IsWithinLimits new → Leads plan old new e → Happened plan old new e
 happened plan old new e h leads = record { within = λ x most w. within x (leads x most w); after = leads }
   where
     within : (x : World) → StandsForWorld plan new (happens x e) → passes_limit x e ≡ false
@@ -186,12 +186,12 @@ happened plan old new e h leads = record { within = λ x most w. within x (leads
         let items : item_count (happens x e) (happens x e).envelopes ≤ most_items = rw (← s.items) h.items in
         either-false (nat_lt most_envelopes (length (happens x e).envelopes)) (nat_lt most_items (item_count (happens x e) (happens x e).envelopes)) (none-past _ _ envelopes) (none-past _ _ items)
 
-past-limit : (plan : Plan) (v : PartsValue) (y : World) → StandsForWorld plan v y → IsPastLimits v → (nat_lt most_envelopes (length y.envelopes) || nat_lt most_items (item_count y y.envelopes)) ≡ true
+past-limit : (plan : Plan) (v : WorldPartsValue) (y : World) → StandsForWorld plan v y → IsPastLimits v → (nat_lt most_envelopes (length y.envelopes) || nat_lt most_items (item_count y y.envelopes)) ≡ true
 past-limit plan v y s (inl far) = either-left (nat_lt most_envelopes (length y.envelopes)) (nat_lt most_items (item_count y y.envelopes)) (is-past _ _ (rw (as-many plan v y s) far))
 past-limit plan v y s (inr far) = either-right (nat_lt most_envelopes (length y.envelopes)) (nat_lt most_items (item_count y y.envelopes)) (is-past _ _ (rw (← s.items) far))
 
 -- one that would lead to this, past them, would pass a limit
-pub would-pass : (plan : Plan) (old v : PartsValue) (e : Event) (envelopes items : ℕ) → IsTooLong envelopes items v → Leads plan old v e → WouldPass plan old e envelopes items
+pub would-pass : (plan : Plan) (old v : WorldPartsValue) (e : Event) (envelopes items : ℕ) → IsTooLong envelopes items v → Leads plan old v e → WouldPass plan old e envelopes items
 would-pass plan old v e envelopes items h leads =
     record {
       passes = λ x most w. past-limit plan v (happens x e) (leads x most w) h.past;
@@ -200,5 +200,5 @@ would-pass plan old v e envelopes items h leads =
     }
 
 -- one that changes nothing happened, where all is within the limits
-pub nothing-happened : (plan : Plan) (v : PartsValue) (e : Event) → IsWithinLimits v → ((x : World) → StandsForWorld plan v x → happens x e ≡ x) → Happened plan v v e
+pub nothing-happened : (plan : Plan) (v : WorldPartsValue) (e : Event) → IsWithinLimits v → ((x : World) → StandsForWorld plan v x → happens x e ≡ x) → Happened plan v v e
 nothing-happened plan v e h same = happened plan v v e h (λ x most w. subst (λ (y : World). StandsForWorld plan v y) (sym (same x w.stands)) w.stands)

@@ -8,7 +8,7 @@ use Rattle.dpc_model.specs.declared.plans.Plan.{Plan}
 use Rattle.node_model.specs.Clients.{ClientState, client_settled}
 use Rattle.client_fold.specs.Folding.{ClientValue, StandsForClient, StandForClients}
 use Rattle.world_model.specs.Worlds.{World, all_settled}
-use Rattle.world_parts.specs.Parts.{PartsValue, StandsForWorld}
+use Rattle.world_parts.specs.Parts.{WorldPartsValue, StandsForWorld}
 use Rattle.world_parts.proofs.ClientPlaces.{client-stands}
 
 -- as one of them tells of itself
@@ -16,13 +16,13 @@ abbrev pub Tells : ClientValue → Bool → Type 0
 Tells client b = (plan : Plan) (c : ℕ) (y : ClientState) → StandsForClient plan c client y → b ≡ client_settled plan y
 
 pub one_told :
-    (plan : Plan) (v : PartsValue) (x : World) (i : ℕ) (client : ClientValue) (b : Bool) → StandsForWorld plan v x → slice_get v.clients i ≡ Some client → Tells client b →
+    (plan : Plan) (v : WorldPartsValue) (x : World) (i : ℕ) (client : ClientValue) (b : Bool) → StandsForWorld plan v x → slice_get v.clients i ≡ Some client → Tells client b →
     (y : ClientState) × (slice_get x.clients i ≡ Some y) × (client_settled x.plan y ≡ b)
 one_told plan v x i client b h at tells =
     let found = client-stands plan 0 i v.clients x.clients client h.clients at in
     (found.0, found.1, ap (λ (p : Plan). client_settled p found.0) h.plan_is ∙ sym (tells plan (0 + i) found.0 found.2))
 
-pub one_waits : (plan : Plan) (v : PartsValue) (x : World) (i : ℕ) (client : ClientValue) (b : Bool) → StandsForWorld plan v x → slice_get v.clients i ≡ Some client → Tells client b → b ≡ false → false ≡ all_settled x
+pub one_waits : (plan : Plan) (v : WorldPartsValue) (x : World) (i : ℕ) (client : ClientValue) (b : Bool) → StandsForWorld plan v x → slice_get v.clients i ≡ Some client → Tells client b → b ≡ false → false ≡ all_settled x
 one_waits plan v x i client b h at tells is =
     let found = one_told plan v x i client b h at tells in
     let y = found.0 in
@@ -33,7 +33,7 @@ one_waits plan v x i client b h at tells is =
     sym (ap not any)
 
 pub one_more :
-    (plan : Plan) (v : PartsValue) (x : World) (i : ℕ) (client : ClientValue) (b : Bool) → StandsForWorld plan v x → slice_get v.clients i ≡ Some client → Tells client b → b ≡ true →
+    (plan : Plan) (v : WorldPartsValue) (x : World) (i : ℕ) (client : ClientValue) (b : Bool) → StandsForWorld plan v x → slice_get v.clients i ≡ Some client → Tells client b → b ≡ true →
     list_any (λ (y : ClientState). not (client_settled x.plan y)) (take i x.clients) ≡ false → list_any (λ (y : ClientState). not (client_settled x.plan y)) (take (i + 1) x.clients) ≡ false
 one_more plan v x i client b h at tells is before =
     let found = one_told plan v x i client b h at tells in
@@ -44,7 +44,7 @@ one_more plan v x i client b h at tells is before =
     list_any_more test x.clients i y (slice_get_within x.clients i y found.1) ∙ ap (λ (c : Bool). c || test (get_or x.clients i y)) before ∙ last
 
 pub all_told :
-    (plan : Plan) (v : PartsValue) (x : World) (n : ℕ) → StandsForWorld plan v x → length v.clients ≤ n → list_any (λ (y : ClientState). not (client_settled x.plan y)) (take n x.clients) ≡ false → true ≡ all_settled x
+    (plan : Plan) (v : WorldPartsValue) (x : World) (n : ℕ) → StandsForWorld plan v x → length v.clients ≤ n → list_any (λ (y : ClientState). not (client_settled x.plan y)) (take n x.clients) ≡ false → true ≡ all_settled x
 all_told plan v x n h all before =
     let test = λ (z : ClientState). not (client_settled x.plan z) in
     let many : length x.clients ≤ n = let same = lengths plan 0 v.clients x.clients h.clients in omega (arith, same, all) in

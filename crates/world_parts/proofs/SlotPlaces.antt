@@ -9,7 +9,7 @@ use Rattle.node_model.specs.Nodes.{Home, PlainNode, ready}
 use Rattle.node_core.specs.Standing.{NodeValue, StandsForNode}
 use Rattle.world_model.specs.Worlds.{World, Slot, node_place, home_of, slot_of, node_role, node_at, role_up, is_up, ready_in, ready_role, ready_at}
 use Rattle.law_safety.proofs.Numbering.{node-at}
-use Rattle.world_parts.specs.Parts.{SlotValue, PartsValue, StandsForUp, StandsForSlot, StandForSlots, StandsForWorld}
+use Rattle.world_parts.specs.Parts.{SlotValue, WorldPartsValue, StandsForUp, StandsForSlot, StandForSlots, StandsForWorld}
 use Rattle.world_parts.specs.Telling.{IsNoNode, StandsForRole}
 
 -- ---- the places
@@ -34,14 +34,14 @@ slot-there plan (suc i) n (m ∷ ns) (v ∷ vs) (x ∷ xs) e h =
     let rest = slot-there plan i n ns vs xs e h.1 in record { code = rest.code; plain = rest.plain; code_at = rest.code_at; plain_at = rest.plain_at; stands = rest.stands }
 
 -- the place of a node
-pub node-there : (plan : Plan) (v : PartsValue) (x : World) (a f r : ℕ) → StandsForWorld plan v x → role_of plan a ≡ IsNode f r → SlotThere plan (node_place plan a) (f, r) v.nodes x.nodes
+pub node-there : (plan : Plan) (v : WorldPartsValue) (x : World) (a f r : ℕ) → StandsForWorld plan v x → role_of plan a ≡ IsNode f r → SlotThere plan (node_place plan a) (f, r) v.nodes x.nodes
 node-there plan v x a f r h role = slot-there plan (node_place plan a) (f, r) (nodes_of plan) v.nodes x.nodes (node-at plan a f r role) h.nodes
 
 no-slot : Slot
 no-slot = record { last_inc = 0; node = None }
 
 -- the plain one
-pub slot-is : (plan : Plan) (v : PartsValue) (x : World) (a : ℕ) (y : Slot) → StandsForWorld plan v x → slice_get x.nodes (node_place plan a) ≡ Some y → slot_of x a ≡ y
+pub slot-is : (plan : Plan) (v : WorldPartsValue) (x : World) (a : ℕ) (y : Slot) → StandsForWorld plan v x → slice_get x.nodes (node_place plan a) ≡ Some y → slot_of x a ≡ y
 slot-is plan v x a y h e =
     ap (λ (p : Plan). unwrap_or (slice_get x.nodes (node_place p a)) (record { last_inc = 0; node = None })) h.plan_is ∙ ap (λ (o : Option Slot). unwrap_or o (record { last_inc = 0; node = None })) e
 
@@ -64,12 +64,12 @@ inc-none plan i (n ∷ ns) (u ∷ vs) [] h e = absurd h
 inc-none plan zero (n ∷ ns) (u ∷ vs) (x ∷ xs) h e = cc
 inc-none plan (suc i) (n ∷ ns) (u ∷ vs) (x ∷ xs) h e = inc-none plan i ns vs xs h.1 e
 
-pub last_inc_told : (plan : Plan) (v : PartsValue) (x : World) (a : ℕ) (u : SlotValue) → StandsForWorld plan v x → slice_get v.nodes (node_place plan a) ≡ Some u → u.last_inc ≡ (slot_of x a).last_inc
+pub last_inc_told : (plan : Plan) (v : WorldPartsValue) (x : World) (a : ℕ) (u : SlotValue) → StandsForWorld plan v x → slice_get v.nodes (node_place plan a) ≡ Some u → u.last_inc ≡ (slot_of x a).last_inc
 last_inc_told plan v x a u h e =
     let found = inc-some plan (node_place plan a) u (nodes_of plan) v.nodes x.nodes h.nodes e in
     found.2 ∙ ap (λ (y : Slot). y.last_inc) (sym (slot-is plan v x a found.0 h found.1))
 
-pub last_inc_none : (plan : Plan) (v : PartsValue) (x : World) (a : ℕ) → StandsForWorld plan v x → slice_get v.nodes (node_place plan a) ≡ None → 0 ≡ (slot_of x a).last_inc
+pub last_inc_none : (plan : Plan) (v : WorldPartsValue) (x : World) (a : ℕ) → StandsForWorld plan v x → slice_get v.nodes (node_place plan a) ≡ None → 0 ≡ (slot_of x a).last_inc
 last_inc_none plan v x a h e =
     let none = inc-none plan (node_place plan a) (nodes_of plan) v.nodes x.nodes h.nodes e in
     sym (ap (λ (p : Plan). (unwrap_or (slice_get x.nodes (node_place p a)) (record { last_inc = 0; node = None })).last_inc) h.plan_is
@@ -79,7 +79,7 @@ last_inc_none plan v x a h e =
 
 -- a node's place, as it was read
 pub node_stands :
-    (plan : Plan) (v : PartsValue) (x : World) (a f r : ℕ) (u : SlotValue) (o : Option NodeValue) → StandsForWorld plan v x → role_of plan a ≡ IsNode f r → slice_get v.nodes (node_place plan a) ≡ Some u → u.node ≡ o →
+    (plan : Plan) (v : WorldPartsValue) (x : World) (a f r : ℕ) (u : SlotValue) (o : Option NodeValue) → StandsForWorld plan v x → role_of plan a ≡ IsNode f r → slice_get v.nodes (node_place plan a) ≡ Some u → u.node ≡ o →
     StandsForRole plan (role_of plan a) o (node_at x a)
 node_stands plan v x a f r u o h role e is =
     let t = node-there plan v x a f r h role in
@@ -93,7 +93,7 @@ node_stands plan v x a f r u o h role e is =
     one y z p q = cc
 
 -- its place is there
-pub node_found : (plan : Plan) (v : PartsValue) (x : World) (a f r : ℕ) → StandsForWorld plan v x → role_of plan a ≡ IsNode f r → slice_get v.nodes (node_place plan a) ≡ None → ⊥
+pub node_found : (plan : Plan) (v : WorldPartsValue) (x : World) (a f r : ℕ) → StandsForWorld plan v x → role_of plan a ≡ IsNode f r → slice_get v.nodes (node_place plan a) ≡ None → ⊥
 node_found plan v x a f r h role e = let at = (node-there plan v x a f r h role).code_at in none-some (node-there plan v x a f r h role).code at e
   where
     none-some : (y : SlotValue) → slice_get v.nodes (node_place plan a) ≡ Some y → slice_get v.nodes (node_place plan a) ≡ None → ⊥
@@ -102,7 +102,7 @@ node_found plan v x a f r h role e = let at = (node-there plan v x a f r h role)
 -- ---- what is told of it
 
 -- said by the world's own plan
-by-own : (plan : Plan) (v : PartsValue) (x : World) (a : ℕ) (o : Option NodeValue) → StandsForWorld plan v x → StandsForRole plan (role_of plan a) o (node_at x a) → StandsForRole x.plan (role_of x.plan a) o (node_role x a (role_of x.plan a))
+by-own : (plan : Plan) (v : WorldPartsValue) (x : World) (a : ℕ) (o : Option NodeValue) → StandsForWorld plan v x → StandsForRole plan (role_of plan a) o (node_at x a) → StandsForRole x.plan (role_of x.plan a) o (node_role x a (role_of x.plan a))
 by-own plan v x a o h k = subst (λ (p : Plan). StandsForRole p (role_of p a) o (node_at x a)) (sym h.plan_is) k
 
 up-same : (home : Home) (o : Option NodeValue) (p : Option PlainNode) → StandsForUp home o p → is_some o ≡ is_some p
@@ -111,7 +111,7 @@ up-same home (Some v) (Some p) h = refl
 up-same home None (Some p) h = absurd h
 up-same home (Some v) None h = absurd h
 
-pub up_told : (plan : Plan) (v : PartsValue) (x : World) (a f r : ℕ) (o : Option NodeValue) → StandsForWorld plan v x → role_of plan a ≡ IsNode f r → StandsForRole plan (role_of plan a) o (node_at x a) → is_some o ≡ is_up x a
+pub up_told : (plan : Plan) (v : WorldPartsValue) (x : World) (a f r : ℕ) (o : Option NodeValue) → StandsForWorld plan v x → role_of plan a ≡ IsNode f r → StandsForRole plan (role_of plan a) o (node_at x a) → is_some o ≡ is_up x a
 up_told plan v x a f r o h role k =
     let here : role_of x.plan a ≡ IsNode f r = subst (λ (p : Plan). role_of p a ≡ IsNode f r) (sym h.plan_is) role in
     let up : StandsForUp (home_of x.plan (f, r)) o (slot_of x a).node = subst (λ (q : Role). StandsForRole x.plan q o (node_role x a q)) here (by-own plan v x a o h k) in
@@ -127,7 +127,7 @@ ready-down home None h = refl
 ready-down home (Some p) h = absurd h
 
 pub ready_told :
-    (plan : Plan) (v : PartsValue) (x : World) (a : ℕ) (n : NodeValue) (count : ℕ) → StandsForWorld plan v x → ((home : Home) (p : PlainNode) → StandsForNode home n p → count ≡ ready home p) →
+    (plan : Plan) (v : WorldPartsValue) (x : World) (a : ℕ) (n : NodeValue) (count : ℕ) → StandsForWorld plan v x → ((home : Home) (p : PlainNode) → StandsForNode home n p → count ≡ ready home p) →
     StandsForRole plan (role_of plan a) (Some n) (node_at x a) → count ≡ ready_at x a
 ready_told plan v x a n count h told k = by-role (role_of x.plan a) (by-own plan v x a (Some n) h k)
   where
@@ -137,7 +137,7 @@ ready_told plan v x a n count h told k = by-role (role_of x.plan a) (by-own plan
     by-role (IsClient c) up = let none = up.code in cc
     by-role Nobody up = let none = up.code in cc
 
-pub none_ready : (plan : Plan) (v : PartsValue) (x : World) (a : ℕ) → StandsForWorld plan v x → StandsForRole plan (role_of plan a) None (node_at x a) → 0 ≡ ready_at x a
+pub none_ready : (plan : Plan) (v : WorldPartsValue) (x : World) (a : ℕ) → StandsForWorld plan v x → StandsForRole plan (role_of plan a) None (node_at x a) → 0 ≡ ready_at x a
 none_ready plan v x a h k = by-role (role_of x.plan a) (by-own plan v x a None h k)
   where
     by-role : (q : Role) → StandsForRole x.plan q None (node_role x a q) → 0 ≡ ready_role x a q
@@ -154,7 +154,7 @@ state-up home None (Some p) h = absurd h
 state-up home (Some n) None h = absurd h
 
 pub state_told :
-    (plan : Plan) (v : PartsValue) (x : World) (a : ℕ) (o : Option NodeValue) → StandsForWorld plan v x → StandsForRole plan (role_of plan a) o (node_at x a) →
+    (plan : Plan) (v : WorldPartsValue) (x : World) (a : ℕ) (o : Option NodeValue) → StandsForWorld plan v x → StandsForRole plan (role_of plan a) o (node_at x a) →
     option_map (λ (n : NodeValue). n.state) o ≡ option_map (λ (p : PlainNode). p.state) (node_at x a)
 state_told plan v x a o h k = by-role (role_of x.plan a) (by-own plan v x a o h k)
   where

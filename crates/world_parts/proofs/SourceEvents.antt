@@ -13,7 +13,7 @@ use Rattle.node_core.specs.declared.packets.Packet.TheVariants as packet
 use Rattle.source_core.specs.Emitting.{SourceValue}
 use Rattle.source_core.proofs.Staying.{stays-one}
 use Rattle.world_model.specs.Worlds.{World, Envelope, source_at, source_stepped, is_release_time, is_clock, emits, releases, link_up, role_up, taken_by, comes as plain_comes, ticks, happens}
-use Rattle.world_parts.specs.Parts.{PartsValue, StandsForSent, StandsForWorld}
+use Rattle.world_parts.specs.Parts.{WorldPartsValue, StandsForSent, StandsForWorld}
 use Rattle.world_parts.specs.Events.{IsSomeWorld, IsComing}
 use Rattle.world_parts.proofs.Posting.{envelope-at}
 use Rattle.world_parts.proofs.Sources.{IsSourceAt, IsStep, source-here, source-is, source-of}
@@ -71,7 +71,7 @@ release-plain plan a s t n x role time same number =
     ∙ step-in (λ p i y. source_releases p i t y) plan a s n x same number
 
 pub emit-step :
-    (plan : Plan) (old seen : PartsValue) (a s t : ℕ) (v : SourceValue) (outs : List Out) → IsSomeWorld plan old → role_of plan a ≡ IsSource s → is_release_time plan t ≡ true → seen ≡ old → v ≡ slice_index_or seen.sources s v →
+    (plan : Plan) (old seen : WorldPartsValue) (a s t : ℕ) (v : SourceValue) (outs : List Out) → IsSomeWorld plan old → role_of plan a ≡ IsSource s → is_release_time plan t ≡ true → seen ≡ old → v ≡ slice_index_or seen.sources s v →
     mails outs ≡ (source_emits plan v.number t v.state).sends → IsStep plan old a s (Emit a t) (λ y. source_emits plan v.number t y) v outs
 emit-step plan old seen a s t v outs some role time same is sends =
     let here = source-here plan old seen a s v some role same is in
@@ -84,7 +84,7 @@ emit-step plan old seen a s t v outs some role time same is sends =
     }
 
 pub release-step :
-    (plan : Plan) (old seen : PartsValue) (a s t : ℕ) (v : SourceValue) (outs : List Out) → IsSomeWorld plan old → role_of plan a ≡ IsSource s → is_release_time plan t ≡ true → seen ≡ old → v ≡ slice_index_or seen.sources s v →
+    (plan : Plan) (old seen : WorldPartsValue) (a s t : ℕ) (v : SourceValue) (outs : List Out) → IsSomeWorld plan old → role_of plan a ≡ IsSource s → is_release_time plan t ≡ true → seen ≡ old → v ≡ slice_index_or seen.sources s v →
     mails outs ≡ (source_releases plan v.number t v.state).sends → IsStep plan old a s (Release a t) (λ y. source_releases plan v.number t y) v outs
 release-step plan old seen a s t v outs some role time same is sends =
     let here = source-here plan old seen a s v some role same is in
@@ -103,16 +103,16 @@ tick-plain : (plan : Plan) (a s now n : ℕ) (x : World) (b : Bool) → role_of 
 tick-plain plan a s now n x b role clock same =
     ap (λ (r : Role). ticks x a now r) (role-in plan a (IsSource s) x role same) ∙ ap (λ (c : Bool). cond c (source_stepped a (source_tick_step x.plan s now (source_at x s)) x) x) clock
 
-clock-in : (plan : Plan) (old : PartsValue) (s now : ℕ) (v : SourceValue) (x : World) (b : Bool) → IsSourceAt old s v → StandsForWorld plan old x → is_clock v.state.clock now ≡ b → is_clock (source_at x s).clock now ≡ b
+clock-in : (plan : Plan) (old : WorldPartsValue) (s now : ℕ) (v : SourceValue) (x : World) (b : Bool) → IsSourceAt old s v → StandsForWorld plan old x → is_clock v.state.clock now ≡ b → is_clock (source_at x s).clock now ≡ b
 clock-in plan old s now v x b here h clock = ap (λ (y : SourceState). is_clock y.clock now) (sym (source-is plan old s v x here h).state) ∙ clock
 
 -- the clock would fall, or is none
 pub tick-void :
-    (plan : Plan) (old : PartsValue) (a s now : ℕ) (v : SourceValue) (x : World) → role_of plan a ≡ IsSource s → IsSourceAt old s v → is_clock v.state.clock now ≡ false → StandsForWorld plan old x → happens x (Tick a now) ≡ x
+    (plan : Plan) (old : WorldPartsValue) (a s now : ℕ) (v : SourceValue) (x : World) → role_of plan a ≡ IsSource s → IsSourceAt old s v → is_clock v.state.clock now ≡ false → StandsForWorld plan old x → happens x (Tick a now) ≡ x
 tick-void plan old a s now v x role here clock h = tick-plain plan a s now s x false role (clock-in plan old s now v x false here h clock) h.plan_is
 
 pub tick-step :
-    (plan : Plan) (old seen : PartsValue) (a s now : ℕ) (u v : SourceValue) (outs : List Out) → IsSomeWorld plan old → role_of plan a ≡ IsSource s → seen ≡ old → u ≡ slice_index_or seen.sources s u → is_clock u.state.clock now ≡ true →
+    (plan : Plan) (old seen : WorldPartsValue) (a s now : ℕ) (u v : SourceValue) (outs : List Out) → IsSomeWorld plan old → role_of plan a ≡ IsSource s → seen ≡ old → u ≡ slice_index_or seen.sources s u → is_clock u.state.clock now ≡ true →
     v ≡ slice_index_or seen.sources s v → mails outs ≡ (source_tick_step plan v.number now v.state).sends → IsStep plan old a s (Tick a now) (λ y. source_tick_step plan v.number now y) v outs
 tick-step plan old seen a s now u v outs some role same was clock is sends =
     let before = source-here plan old seen a s u some role same was in
@@ -128,7 +128,7 @@ tick-step plan old seen a s now u v outs some role same was clock is sends =
 -- ---- an envelope comes to it
 
 -- to a source goes no snapshot
-pub no-snapshot : (plan : Plan) (old : PartsValue) (k s : ℕ) → IsSomeWorld plan old → (comes : IsComing plan old k (IsSource s)) → (m : Message) × (comes.envelope.packet ≡ packet.Plain m)
+pub no-snapshot : (plan : Plan) (old : WorldPartsValue) (k s : ℕ) → IsSomeWorld plan old → (comes : IsComing plan old k (IsSource s)) → (m : Message) × (comes.envelope.packet ≡ packet.Plain m)
 no-snapshot plan old k s some comes =
     let at = envelope-at plan old some.0 k comes.envelope some.2.stands comes.is in
     let sent : StandsForSent plan (IsSource s) comes.envelope.packet at.envelope.packet = rw (ap (λ (b : ℕ). role_of plan b) (sym at.stands.to) ∙ comes.to) at at.stands.packet in
@@ -148,7 +148,7 @@ plain-same : (m n : Message) → packet.Plain m ≡ packet.Plain n → m ≡ n
 plain-same m n e = cc
 
 deliver-plain :
-    (plan : Plan) (old : PartsValue) (k s n : ℕ) (m : Message) (x : World) → (comes : IsComing plan old k (IsSource s)) → comes.envelope.packet ≡ packet.Plain m → StandsForWorld plan old x → n ≡ s →
+    (plan : Plan) (old : WorldPartsValue) (k s n : ℕ) (m : Message) (x : World) → (comes : IsComing plan old k (IsSource s)) → comes.envelope.packet ≡ packet.Plain m → StandsForWorld plan old x → n ≡ s →
     happens x (Deliver k) ≡ source_stepped comes.envelope.to (source_message plan n comes.envelope.sender m (source_at x s)) x
 deliver-plain plan old k s n m x comes is h number =
     let at = envelope-at plan old x k comes.envelope h comes.is in
@@ -166,7 +166,7 @@ deliver-plain plan old k s n m x comes is h number =
     ∙ ap (λ (b : ℕ). source_stepped comes.envelope.to (source_message plan n b m (source_at x s)) x) (sym at.stands.sender)
 
 pub deliver-step :
-    (plan : Plan) (old seen : PartsValue) (k s sender a : ℕ) (m : Message) (v : SourceValue) (outs : List Out) → IsSomeWorld plan old → (comes : IsComing plan old k (IsSource s)) → comes.envelope.sender ≡ sender → comes.envelope.to ≡ a →
+    (plan : Plan) (old seen : WorldPartsValue) (k s sender a : ℕ) (m : Message) (v : SourceValue) (outs : List Out) → IsSomeWorld plan old → (comes : IsComing plan old k (IsSource s)) → comes.envelope.sender ≡ sender → comes.envelope.to ≡ a →
     comes.envelope.packet ≡ packet.Plain m → seen ≡ old → v ≡ slice_index_or seen.sources s v → mails outs ≡ (source_message plan v.number sender m v.state).sends →
     IsStep plan old a s (Deliver k) (λ y. source_message plan v.number sender m y) v outs
 deliver-step plan old seen k s sender a m v outs some comes from to packet same is sends =

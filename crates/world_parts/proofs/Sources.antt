@@ -14,7 +14,7 @@ use Rattle.source_core.specs.Emitting.{SourceValue, IsSourceOf, after_step}
 use Rattle.world_model.specs.Worlds.{World, no_source, source_at, source_stepped, happens}
 use Rattle.law_safety.proofs.Numbering.{source-at, role-split, no-node-source}
 use Rattle.world_parts.specs.declared.faults.EventFault.{EventFault}
-use Rattle.world_parts.specs.Parts.{PartsValue, StandsForSource, StandForSources, StandsForWorld}
+use Rattle.world_parts.specs.Parts.{WorldPartsValue, StandsForSource, StandForSources, StandsForWorld}
 use Rattle.world_parts.specs.Counting.{with_posted, IsPastLimits, IsWithinLimits, IsTooLong}
 use Rattle.world_parts.specs.Events.{IsSomeWorld, Leads, Happened, WouldPass}
 use Rattle.world_parts.proofs.Posting.{as_mail, AreSent, plain-sent, posted-stands, happened, would-pass}
@@ -61,41 +61,41 @@ set plan k (suc i) (u ∷ vs) (y ∷ xs) v x h new =
 -- ---- in what stands for a world
 
 -- the source at a place
-pub record IsSourceAt (old : PartsValue) (s : ℕ) (v : SourceValue) : Type 0 where
+pub record IsSourceAt (old : WorldPartsValue) (s : ℕ) (v : SourceValue) : Type 0 where
   pub low : s < length old.sources
   pub is : v ≡ slice_index_or old.sources s v
 
-pub source-low : (plan : Plan) (old : PartsValue) (a s : ℕ) → IsSomeWorld plan old → role_of plan a ≡ IsSource s → s < length old.sources
+pub source-low : (plan : Plan) (old : WorldPartsValue) (a s : ℕ) → IsSomeWorld plan old → role_of plan a ≡ IsSource s → s < length old.sources
 source-low plan old a s some role =
     let below = source-below plan a s role in
     let all = many plan 0 old.sources some.0.sources some.2.stands.sources in omega (arith, below, all)
 
 -- the source that an actor is
-pub source-here : (plan : Plan) (old seen : PartsValue) (a s : ℕ) (v : SourceValue) → IsSomeWorld plan old → role_of plan a ≡ IsSource s → seen ≡ old → v ≡ slice_index_or seen.sources s v → IsSourceAt old s v
+pub source-here : (plan : Plan) (old seen : WorldPartsValue) (a s : ℕ) (v : SourceValue) → IsSomeWorld plan old → role_of plan a ≡ IsSource s → seen ≡ old → v ≡ slice_index_or seen.sources s v → IsSourceAt old s v
 source-here plan old seen a s v some role same is =
-    record { low = source-low plan old a s some role; is = is ∙ ap (λ (p : PartsValue). slice_index_or p.sources s v) same }
+    record { low = source-low plan old a s some role; is = is ∙ ap (λ (p : WorldPartsValue). slice_index_or p.sources s v) same }
 
-pub source-is : (plan : Plan) (old : PartsValue) (s : ℕ) (v : SourceValue) (x : World) → IsSourceAt old s v → StandsForWorld plan old x → StandsForSource plan s v (source_at x s)
+pub source-is : (plan : Plan) (old : WorldPartsValue) (s : ℕ) (v : SourceValue) (x : World) → IsSourceAt old s v → StandsForWorld plan old x → StandsForSource plan s v (source_at x s)
 source-is plan old s v x here h = let zero_on : 0 + s ≡ s = omega arith in rw zero_on at (at plan 0 s old.sources x.sources v h.sources here.low here.is)
 
-pub source-of : (plan : Plan) (old : PartsValue) (s : ℕ) (v : SourceValue) → IsSomeWorld plan old → IsSourceAt old s v → IsSourceOf plan v
+pub source-of : (plan : Plan) (old : WorldPartsValue) (s : ℕ) (v : SourceValue) → IsSomeWorld plan old → IsSourceAt old s v → IsSourceOf plan v
 source-of plan old s v some here = (source-is plan old s v some.0 here some.2.stands).of
 
 -- ---- its step
 
 -- what the step of one source leaves, with what it sends
-abbrev pub stepped : ℕ → ℕ → SourceValue → List code_mail.Mail → PartsValue → PartsValue
+abbrev pub stepped : ℕ → ℕ → SourceValue → List code_mail.Mail → WorldPartsValue → WorldPartsValue
 stepped a s v told old = with_posted a told (record old { sources = slice_set old.sources s v })
 
 -- this source does this step, and sends these
-pub record IsStep (plan : Plan) (old : PartsValue) (a s : ℕ) (e : Event) (step : SourceState → Stepped SourceState) (v : SourceValue) (outs : List Out) : Type 0 where
+pub record IsStep (plan : Plan) (old : WorldPartsValue) (a s : ℕ) (e : Event) (step : SourceState → Stepped SourceState) (v : SourceValue) (outs : List Out) : Type 0 where
   pub role : role_of plan a ≡ IsSource s
   pub here : IsSourceAt old s v
   pub stays : IsSourceOf plan (after_step v (step v.state))
   pub sends : mails outs ≡ (step v.state).sends
   pub plain : (x : World) → StandsForWorld plan old x → v.number ≡ s → happens x e ≡ source_stepped a (step (source_at x s)) x
 
-step-stands : (plan : Plan) (old : PartsValue) (a s : ℕ) (v : SourceValue) (t : Stepped SourceState) (outs : List Out) (x : World) → role_of plan a ≡ IsSource s → v.number ≡ s → IsSourceOf plan (after_step v t) → mails outs ≡ t.sends →
+step-stands : (plan : Plan) (old : WorldPartsValue) (a s : ℕ) (v : SourceValue) (t : Stepped SourceState) (outs : List Out) (x : World) → role_of plan a ≡ IsSource s → v.number ≡ s → IsSourceOf plan (after_step v t) → mails outs ≡ t.sends →
     StandsForWorld plan old x → StandsForWorld plan (stepped a s (after_step v t) (map as_mail outs) old) (source_stepped a t x)
 step-stands plan old a s v t outs x role number stays sends h =
     let zero_on : 0 + s ≡ s = omega arith in
@@ -114,7 +114,7 @@ step-stands plan old a s v t outs x role number stays sends h =
     let told : AreSent plan (map as_mail outs) t.sends = subst (λ (ms : List Mail). AreSent plan (map as_mail outs) ms) sends (plain-sent plan outs) in
     posted-stands plan _ _ a (map as_mail outs) t.sends after told
 
-step-leads : (plan : Plan) (old : PartsValue) (a s : ℕ) (e : Event) (step : SourceState → Stepped SourceState) (v : SourceValue) (outs : List Out) → IsStep plan old a s e step v outs →
+step-leads : (plan : Plan) (old : WorldPartsValue) (a s : ℕ) (e : Event) (step : SourceState → Stepped SourceState) (v : SourceValue) (outs : List Out) → IsStep plan old a s e step v outs →
     Leads plan old (stepped a s (after_step v (step v.state)) (map as_mail outs) old) e
 step-leads plan old a s e step v outs did x most w =
     let h = w.stands in
@@ -123,7 +123,7 @@ step-leads plan old a s e step v outs did x most w =
     subst (λ (y : World). StandsForWorld plan (stepped a s (after_step v (step v.state)) (map as_mail outs) old) y)
     (ap (λ (y : SourceState). source_stepped a (step y) x) is.state ∙ sym (did.plain x h is.number)) after
 
-within-limits : (v : PartsValue) → (IsPastLimits v → ⊥) → IsWithinLimits v
+within-limits : (v : WorldPartsValue) → (IsPastLimits v → ⊥) → IsWithinLimits v
 within-limits v none = record { envelopes = le-unless _ _ (λ far. none (inl far)); items = le-unless _ _ (λ far. none (inr far)) }
   where
     le-unless : (n m : ℕ) → (n < m → ⊥) → m ≤ n
@@ -131,14 +131,14 @@ within-limits v none = record { envelopes = le-unless _ _ (λ far. none (inl far
 
 -- within the limits it happened
 step-happened :
-    (plan : Plan) (old seen new : PartsValue) (a s : ℕ) (e : Event) (step : SourceState → Stepped SourceState) (v after : SourceValue) (outs : List Out) (told : List code_mail.Mail) → seen ≡ old → IsStep plan old a s e step v outs →
+    (plan : Plan) (old seen new : WorldPartsValue) (a s : ℕ) (e : Event) (step : SourceState → Stepped SourceState) (v after : SourceValue) (outs : List Out) (told : List code_mail.Mail) → seen ≡ old → IsStep plan old a s e step v outs →
     after ≡ after_step v (step v.state) → told ≡ map as_mail outs → new ≡ stepped a s after told seen → (IsPastLimits (stepped a s after told seen) → ⊥) → Happened plan old new e
 step-happened plan old seen new a s e step v after outs told same did is says made within =
     let leads : Leads plan old new e = rw (made, same, is, says) (step-leads plan old a s e step v outs did) in
-    happened plan old new e (within-limits new (subst (λ (p : PartsValue). IsPastLimits p → ⊥) (sym made) within)) leads
+    happened plan old new e (within-limits new (subst (λ (p : WorldPartsValue). IsPastLimits p → ⊥) (sym made) within)) leads
 
 pub step-ok :
-    (plan : Plan) (old seen new : PartsValue) (a s : ℕ) (e : Event) (step : SourceState → Stepped SourceState) (v after : SourceValue) (outs : List Out) (told : List code_mail.Mail) (r : Result (Unit {0}) EventFault) →
+    (plan : Plan) (old seen new : WorldPartsValue) (a s : ℕ) (e : Event) (step : SourceState → Stepped SourceState) (v after : SourceValue) (outs : List Out) (told : List code_mail.Mail) (r : Result (Unit {0}) EventFault) →
     seen ≡ old → IsStep plan old a s e step v outs → after ≡ after_step v (step v.state) → told ≡ map as_mail outs → OnOk r (new ≡ stepped a s after told seen) → OnOk r (IsPastLimits (stepped a s after told seen) → ⊥) →
     OnOk r (Happened plan old new e)
 step-ok plan old seen new a s e step v after outs told (Ok u) same did is says made within = step-happened plan old seen new a s e step v after outs told same did is says made within
@@ -146,7 +146,7 @@ step-ok plan old seen new a s e step v after outs told (Err f) same did is says 
 
 -- past them it would not have
 pub step-would :
-    (plan : Plan) (old seen : PartsValue) (a s : ℕ) (e : Event) (step : SourceState → Stepped SourceState) (v after : SourceValue) (outs : List Out) (told : List code_mail.Mail) (envelopes items : ℕ) → seen ≡ old → IsStep plan old a s e step v outs →
+    (plan : Plan) (old seen : WorldPartsValue) (a s : ℕ) (e : Event) (step : SourceState → Stepped SourceState) (v after : SourceValue) (outs : List Out) (told : List code_mail.Mail) (envelopes items : ℕ) → seen ≡ old → IsStep plan old a s e step v outs →
     after ≡ after_step v (step v.state) → told ≡ map as_mail outs → IsTooLong envelopes items (stepped a s after told seen) → WouldPass plan old e envelopes items
 step-would plan old seen a s e step v after outs told envelopes items same did is says long =
     let leads : Leads plan old (stepped a s after told seen) e = rw (same, is, says) (step-leads plan old a s e step v outs did) in

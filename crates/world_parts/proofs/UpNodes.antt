@@ -10,7 +10,7 @@ use Rattle.node_core.specs.Standing.{NodeValue, StandsForNode}
 use Rattle.world_model.specs.Worlds.{World, home_of, node_place, slot_of, node_role, node_at, ready_in, ready_role, ready_at}
 use Rattle.law_fit.specs.Fits.{CanRun}
 use Rattle.law_fit.proofs.FitWorlds.{world-nodes}
-use Rattle.world_parts.specs.Parts.{PartsValue, StandsForUp, StandsForWorld}
+use Rattle.world_parts.specs.Parts.{WorldPartsValue, StandsForUp, StandsForWorld}
 use Rattle.world_parts.specs.Telling.{StandsForRole}
 use Rattle.world_parts.specs.Events.{IsWorldOf}
 use Rattle.world_parts.specs.Handing.{up_role, up_node}
@@ -23,12 +23,12 @@ pub own-node : (plan : Plan) (x : World) (a f r : ℕ) → x.plan ≡ plan → r
 own-node plan x a f r same role = ap (λ (k : Role). node_role x a k) (ap (λ (p : Plan). role_of p a) same ∙ role)
 
 -- the code's node stands for the plain one
-pub up-stands : (plan : Plan) (v : PartsValue) (x : World) (a f r : ℕ) → StandsForWorld plan v x → role_of plan a ≡ IsNode f r → StandsForUp (home_of plan (f, r)) (up_node plan v a) (node_at x a)
+pub up-stands : (plan : Plan) (v : WorldPartsValue) (x : World) (a f r : ℕ) → StandsForWorld plan v x → role_of plan a ≡ IsNode f r → StandsForUp (home_of plan (f, r)) (up_node plan v a) (node_at x a)
 up-stands plan v x a f r h role =
     let t = node-there plan v x a f r h role in
     subst (λ (k : Role). StandsForRole plan k (up_node plan v a) (node_at x a)) role (node_stands plan v x a f r t.code (up_node plan v a) h role t.code_at (sym (up-place plan v a f r t.code role t.code_at)))
 
-pub fit-there : (plan : Plan) (v : PartsValue) (x : World) (most a f r : ℕ) (p : PlainNode) → CanRun plan → IsWorldOf plan v x most → role_of plan a ≡ IsNode f r → node_at x a ≡ Some p → IsFit (home_of plan (f, r)) p
+pub fit-there : (plan : Plan) (v : WorldPartsValue) (x : World) (most a f r : ℕ) (p : PlainNode) → CanRun plan → IsWorldOf plan v x most → role_of plan a ≡ IsNode f r → node_at x a ≡ Some p → IsFit (home_of plan (f, r)) p
 fit-there plan v x most a f r p can w role up =
     let here : (slot_of x a).node ≡ Some p = sym (own-node plan x a f r w.stands.plan_is role) ∙ up in
     subst (λ (q : Plan). CanRun q → role_of q a ≡ IsNode f r → IsFit (home_of q (f, r)) p) w.stands.plan_is (λ can role. world-nodes x most can.checked can.end w.fine a f r p role here) can role
@@ -45,7 +45,7 @@ pub record IsUpIn (plan : Plan) (x : World) (a : ℕ) (n : NodeValue) : Type 0 w
   pub fit : IsFit (home_of plan (frag, replica)) plain
   pub ready : ready_at x a ≡ ready (home_of plan (frag, replica)) plain
 
-role-of-up : (v : PartsValue) (place : ℕ) (role : Role) (n : NodeValue) → up_role v place role ≡ Some n → (f : ℕ) × (r : ℕ) × (role ≡ IsNode f r)
+role-of-up : (v : WorldPartsValue) (place : ℕ) (role : Role) (n : NodeValue) → up_role v place role ≡ Some n → (f : ℕ) × (r : ℕ) × (role ≡ IsNode f r)
 role-of-up v place (IsSource s) n e = cc
 role-of-up v place (IsNode f r) n e = (f, r, refl)
 role-of-up v place (IsClient c) n e = cc
@@ -60,7 +60,7 @@ ready-here plan x a f r p same role up =
     let here : (slot_of x a).node ≡ Some p = sym (own-node plan x a f r same role) ∙ up in
     ap (λ (k : Role). ready_role x a k) (ap (λ (q : Plan). role_of q a) same ∙ role) ∙ ap (λ (o : Option PlainNode). ready_in (home_of x.plan (f, r)) o) here ∙ ap (λ (q : Plan). ready (home_of q (f, r)) p) same
 
-pub up-in : (plan : Plan) (v : PartsValue) (x : World) (most a : ℕ) (n : NodeValue) → CanRun plan → IsWorldOf plan v x most → up_node plan v a ≡ Some n → IsUpIn plan x a n
+pub up-in : (plan : Plan) (v : WorldPartsValue) (x : World) (most a : ℕ) (n : NodeValue) → CanRun plan → IsWorldOf plan v x most → up_node plan v a ≡ Some n → IsUpIn plan x a n
 up-in plan v x most a n can w is =
     let role = role-of-up v (node_place plan a) (role_of plan a) n is in
     let home = home_of plan (role.0, role.1) in
@@ -89,5 +89,5 @@ one-of home (Some n) None p h e fit = cc
 one-of home None (Some q) p h e fit = absurd h
 one-of home (Some n) (Some q) p h e fit = let same : q ≡ p = cc in record { node = n; is = refl; stands = subst (λ (z : PlainNode). StandsForNode home n z) same h.0; fit = fit }
 
-pub one-in : (plan : Plan) (v : PartsValue) (x : World) (most a f r : ℕ) (p : PlainNode) → CanRun plan → IsWorldOf plan v x most → role_of plan a ≡ IsNode f r → node_at x a ≡ Some p → IsOneIn (home_of plan (f, r)) (up_node plan v a) p
+pub one-in : (plan : Plan) (v : WorldPartsValue) (x : World) (most a f r : ℕ) (p : PlainNode) → CanRun plan → IsWorldOf plan v x most → role_of plan a ≡ IsNode f r → node_at x a ≡ Some p → IsOneIn (home_of plan (f, r)) (up_node plan v a) p
 one-in plan v x most a f r p can w role up = one-of (home_of plan (f, r)) (up_node plan v a) (node_at x a) p (up-stands plan v x a f r w.stands role) up (fit-there plan v x most a f r p can w role up)

@@ -5,7 +5,7 @@ use Rattle.node_core.specs.declared.packets.Packet as code
 use Rattle.node_core.specs.declared.packets.Packet.TheVariants as packet
 use Rattle.node_core.specs.declared.packets.Mail as code_mail
 use Rattle.world_model.specs.Worlds.{items_in_message}
-use Rattle.world_parts.specs.Parts.{PartsValue, EnvelopeValue}
+use Rattle.world_parts.specs.Parts.{WorldPartsValue, EnvelopeValue}
 
 -- those of a batch, or the tuples that a snapshot keeps
 abbrev pub items_carried : code.Packet → ℕ
@@ -20,20 +20,20 @@ all_carried (m ∷ mails) = items_carried m.packet + all_carried mails
 abbrev pub posted : ℕ → code_mail.Mail → EnvelopeValue
 posted sender m = record { sender = sender; to = m.to; packet = m.packet }
 
-abbrev pub with_posted : ℕ → List code_mail.Mail → PartsValue → PartsValue
+abbrev pub with_posted : ℕ → List code_mail.Mail → WorldPartsValue → WorldPartsValue
 with_posted sender mails v = record v { envelopes = v.envelopes ++ map (posted sender) mails; items = v.items + all_carried mails }
 
 -- no more envelopes, nor items, than a run may have
-pub record IsWithinLimits (v : PartsValue) : Type 0 where
+pub record IsWithinLimits (v : WorldPartsValue) : Type 0 where
   pub envelopes : length v.envelopes ≤ most_envelopes
   pub items : v.items ≤ most_items
 
 -- so many envelopes, or items, are too many
-abbrev pub IsPastLimits : PartsValue → Type 0
+abbrev pub IsPastLimits : WorldPartsValue → Type 0
 IsPastLimits v = (most_envelopes < length v.envelopes) ⊎ (most_items < v.items)
 
 -- these are the numbers, and they are too many
-pub record IsTooLong (envelopes items : ℕ) (v : PartsValue) : Type 0 where
+pub record IsTooLong (envelopes items : ℕ) (v : WorldPartsValue) : Type 0 where
   pub envelopes_are : envelopes ≡ length v.envelopes
   pub items_are : items ≡ v.items
   pub past : IsPastLimits v

@@ -21,19 +21,19 @@ use Rattle.world_parts.specs.declared.faults.EventFault.TheVariants as event_fau
 use Rattle.world_parts.specs.declared.faults.CommitFault.{CommitFault}
 use Rattle.world_parts.specs.declared.faults.CommitFault.TheVariants as commit_fault
 use Rattle.world_parts.specs.Events.{IsWorldOf}
-use Rattle.world_parts.specs.Parts.{SlotValue, PartsValue, StandsForWorld}
+use Rattle.world_parts.specs.Parts.{SlotValue, WorldPartsValue, StandsForWorld}
 use Rattle.world_parts.specs.Slots.{CanStep}
 
 -- ---- which node
 
 -- the node that an actor is, where it is one and is up
-abbrev pub up_role : PartsValue → ℕ → Role → Option NodeValue
+abbrev pub up_role : WorldPartsValue → ℕ → Role → Option NodeValue
 up_role v place (IsNode f r) = (nth (record { last_inc = 0; node = None }) v.nodes place).node
 up_role v place (IsSource s) = None
 up_role v place (IsClient c) = None
 up_role v place Nobody = None
 
-abbrev pub up_node : Plan → PartsValue → ℕ → Option NodeValue
+abbrev pub up_node : Plan → WorldPartsValue → ℕ → Option NodeValue
 up_node plan v actor = up_role v (node_place plan actor) (role_of plan actor)
 
 -- ---- work that is handed out
@@ -46,7 +46,7 @@ pub record IsSlotOrder (v : SlotValue) (o : OrderValue MillState) : Type 0 where
   pub count : (home : Home) (x : Slot) → CanStep home v x → length o.buckets ≡ min most_milled (ready_in home x.node)
 
 -- work for that actor, likewise
-pub record IsHandedOut (plan : Plan) (v : PartsValue) (actor : ℕ) (o : OrderValue MillState) : Type 0 where
+pub record IsHandedOut (plan : Plan) (v : WorldPartsValue) (actor : ℕ) (o : OrderValue MillState) : Type 0 where
   pub node : o.node ≡ actor
   pub from : NodeValue
   pub up : up_node plan v actor ≡ Some from
@@ -65,7 +65,7 @@ pub record StandsAt (n : NodeValue) (o : OrderValue MillState) : Type 0 where
 abbrev pub IsUpAt : Option NodeValue → OrderValue MillState → Type 0
 IsUpAt node o = (n : NodeValue) × (node ≡ Some n) × StandsAt n o
 
-abbrev pub IsTimely : Plan → PartsValue → OrderValue MillState → Type 0
+abbrev pub IsTimely : Plan → WorldPartsValue → OrderValue MillState → Type 0
 IsTimely plan v o = IsUpAt (up_node plan v o.node) o
 
 -- ---- work that is stale
@@ -89,7 +89,7 @@ pub record IsSlotStale (v : SlotValue) (o : OrderValue MillState) (had needed : 
   pub asked : needed ≡ needed_by o
   pub beside : IsElsewhere v.last_inc v.node o had needed
 
-pub record IsStaleAt (plan : Plan) (v : PartsValue) (o : OrderValue MillState) (had needed : Point) : Type 0 where
+pub record IsStaleAt (plan : Plan) (v : WorldPartsValue) (o : OrderValue MillState) (had needed : Point) : Type 0 where
   pub asked : needed ≡ needed_by o
   pub beside : (x : World) → StandsForWorld plan v x → IsElsewhere (slot_of x o.node).last_inc (up_node plan v o.node) o had needed
 

@@ -30,7 +30,7 @@ pub record EnvelopeValue : Type 0 where
   pub packet : code.Packet
 
 -- all actors by sort, the links that are cut, every envelope, and how many items they carry
-pub record PartsValue : Type 0 where
+pub record WorldPartsValue : Type 0 where
   pub sources : List SourceValue
   pub nodes : List SlotValue
   pub clients : List ClientValue
@@ -81,7 +81,7 @@ pub record StandsForEnvelope (plan : Plan) (v : EnvelopeValue) (x : Envelope) : 
   pub to : v.to ≡ x.to
   pub packet : StandsForSent plan (role_of plan x.to) v.packet x.packet
 
-pub record StandsForWorld (plan : Plan) (v : PartsValue) (x : World) : Type 0 where
+pub record StandsForWorld (plan : Plan) (v : WorldPartsValue) (x : World) : Type 0 where
   pub plan_is : x.plan ≡ plan
   pub sources : StandForSources plan 0 v.sources x.sources
   pub nodes : StandForSlots plan (nodes_of plan) v.nodes x.nodes

@@ -43,7 +43,7 @@ pub(crate) fn is_clock(old: u64, now: u64) -> bool
 /// All actors by sort, the links that are cut, and every envelope in order of its number. It doesn't keep
 /// the plan: each event is handed it. After a fault nothing is known of it. Contracts see a `PartsValue`.
 #[derive(Drop)]
-pub struct Parts {
+pub struct WorldParts {
     sources: Vec<SourceNode>,
     /// By fragment, and then by replica.
     nodes: Vec<Slot>,
@@ -54,14 +54,14 @@ pub struct Parts {
     items: u64,
 }
 
-impl Model for Parts {
+impl Model for WorldParts {
     ghost use Rattle.std.specs.Coded.{codes};
     ghost use Rattle.dpc_model.specs.FormulaCode.{coded_formula};
     ghost use Rattle.std.specs.Prelude.{◌≤◌, length};
     ghost use Rattle.dpc_model.specs.Limits.{most_envelopes, most_items};
-    ghost use Rattle.world_parts.specs.Parts.{PartsValue};
+    ghost use Rattle.world_parts.specs.Parts.{WorldPartsValue};
 
-    ghost Value = { PartsValue };
+    ghost Value = { WorldPartsValue };
 
     ghost coded = { Prim.hlevel (codes, coded_formula) };
 
@@ -140,13 +140,13 @@ fn new_clients(alloc: Global, plan: &Plan) -> Result<Vec<Client>, NoMemory>
     Ok(clients)
 }
 
-impl Parts {
+impl WorldParts {
     /// The actors at the opening; nothing was sent.
-    pub fn new(alloc: Global, plan: &Plan) -> Result<Parts, NoMemory>
+    pub fn new(alloc: Global, plan: &Plan) -> Result<WorldParts, NoMemory>
         requires { CanRun plan.now }
         ensures { IfOk result (λ parts. StandsForWorld plan.now parts (new_world plan.now)) }
     {
-        Ok(Parts {
+        Ok(WorldParts {
             sources: new_sources(alloc, plan)?,
             nodes: new_nodes(alloc, plan)?,
             clients: new_clients(alloc, plan)?,

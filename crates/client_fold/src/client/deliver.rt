@@ -79,7 +79,7 @@ impl Client {
         self.upstream.end_marks(count);
         self.upstream.note_beat(r, beat);
         if self.upstream.chosen() == r {
-            self.inlet.heard(beat.link);
+            self.inlet.heard(beat.tally);
         }
     }
 

@@ -44,17 +44,17 @@ impl Inlet {
     }
 
     /// How far tentative output goes.
-    pub fn soft(&self) -> u64
-        ensures { result ≡ self.now.state.held.soft }
+    pub fn passed(&self) -> u64
+        ensures { result ≡ self.now.state.held.passed }
     {
-        self.soft
+        self.passed
     }
 
     /// Whether something tentative is held or known of.
     pub fn unsure(&self) -> bool
         ensures { result ≡ not (is_sure self.now.state.held) }
     {
-        !self.tentative.is_empty() || self.soft != 0
+        !self.tentative.is_empty() || self.passed != 0
     }
 
     /// The tentative tuples.

@@ -1,7 +1,7 @@
 //! The session of an inlet: how it is opened, and which batches belong to it.
 ghost use Rattle.std.specs.Prelude.{◌≡◌, ◌+◌, ◌^◌, ◌<◌, List, []};
 ghost use Rattle.dpc_model.specs.Reading.{stable_reader};
-ghost use Rattle.dpc_model.specs.Inlets.{InletState, new_inlet, restarted_inlet, sess_of, shows_loss, after_link, with_next_session, asked_by};
+ghost use Rattle.dpc_model.specs.Inlets.{InletState, new_inlet, restarted_inlet, sess_of, shows_loss, after_tally, with_next_session, asked_by};
 ghost use Rattle.dpc_model.specs.declared.tuples.Tuple.{Tuple};
 ghost use Rattle.inlet.specs.Forgotten.{Keeps};
 
@@ -21,7 +21,7 @@ impl Inlet {
             kept: VecDeque::new(alloc),
             bound: 0,
             tentative: Tentative::new(alloc),
-            soft: 0,
+            passed: 0,
             sess: Sess { inc, number: 1 },
             next: 0,
             answered: true,
@@ -39,7 +39,7 @@ impl Inlet {
             kept: VecDeque::new(alloc),
             bound,
             tentative: Tentative::new(alloc),
-            soft: 0,
+            passed: 0,
             sess: last,
             next: 0,
             answered: false,
@@ -49,12 +49,12 @@ impl Inlet {
 
     /// What the sender tells of the session, and whether it shows that a batch is missing. Then the inlet
     /// is broken. It takes no memory.
-    pub fn heard(&mut self, link: Option<(Sess, u64)>) -> bool
-        ensures after { self.new ≡ record self.old { state = after_link self.old.state link } }
-        ensures told { result ≡ shows_loss self.old.state link }
+    pub fn heard(&mut self, tally: Option<(Sess, u64)>) -> bool
+        ensures after { self.new ≡ record self.old { state = after_tally self.old.state tally } }
+        ensures told { result ≡ shows_loss self.old.state tally }
     {
         let lost = self.answered
-            && match link {
+            && match tally {
                 None => true,
                 Some((sess, sent)) => sess != self.sess || sent > self.next,
             };

@@ -64,22 +64,22 @@ impl Node {
             mails.push(mail(*peer, self.beat(None)))?;
         }
         for (reader, actor) in self.readers.iter().enumerate() {
-            mails.push(mail(*actor, self.beat(self.path.link(reader))))?;
+            mails.push(mail(*actor, self.beat(self.path.tally(reader))))?;
         }
         let mails = in_actor_order(mails)?;
         Ok(mails)
     }
 
     /// What the node tells of itself, with the session of the addressee.
-    fn beat(&self, link: Option<(Sess, u64)>) -> Message
-        ensures { result ≡ beat_with self.now link }
+    fn beat(&self, tally: Option<(Sess, u64)>) -> Message
+        ensures { result ≡ beat_with self.now tally }
     {
         Message::Beat(Beat {
             inc: self.links.inc(),
             state: self.state,
             recovering: self.recovering,
             over: self.links.over(),
-            link,
+            tally,
         })
     }
 }

@@ -1,7 +1,7 @@
 //! Work that was done apart and is put back.
 ghost use Rattle.std.specs.Prelude.{◌≡◌, ◌↔◌, ◌≤◌, false, true, length, Err, IsTrue, IfOk};
 ghost use Rattle.node_model.specs.Nodes.{Home, PlainNode, spec_of};
-ghost use Rattle.node_model.specs.Views.{inputs_of, outputs_of};
+ghost use Rattle.node_model.specs.NodeParts.{inputs_of, outputs_of};
 ghost use Rattle.pipeline.specs.Committing.{CanPut};
 ghost use Rattle.law_node.specs.Fitting.{IsFit};
 ghost use Rattle.node_core.specs.declared.faults.Point.{Point};

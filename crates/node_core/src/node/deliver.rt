@@ -156,7 +156,7 @@ impl Node {
         ensures after { Follows (λ home p. on_peer_beat beat (replica_number home sender) (on_upstream_beat beat (sender_at home.plan (streams_of home) sender) p)) self.old self.new }
     {
         if let Some(port) = self.links.on_beat(sender, beat) {
-            self.path.heard(port, beat.link);
+            self.path.heard(port, beat.tally);
         }
     }
 

@@ -1,10 +1,10 @@
 //! What comes to single ports, what goes to single readers, and what a node needs to know of both.
 ghost use Rattle.std.specs.Prelude.{◌≡◌, ◌*◌, ◌<◌, Bool, List, length, IfOk, OnErr};
 ghost use Rattle.dpc_lists.specs.Lists.{nth, changed};
-ghost use Rattle.dpc_model.specs.Inlets.{InletState, after_link};
+ghost use Rattle.dpc_model.specs.Inlets.{InletState, after_tally};
 ghost use Rattle.dpc_model.specs.NodeStates.{is_stable};
 ghost use Rattle.dpc_model.specs.Parts.{Inputs, Outputs, shown_of};
-ghost use Rattle.dpc_model.specs.Sessions.{no_session, after_ack, link_of, view_items};
+ghost use Rattle.dpc_model.specs.Sessions.{no_session, after_ack, tally_of, view_items};
 ghost use Rattle.dpc_model.specs.Streams.{count_below};
 ghost use Rattle.dpc_model.specs.declared.operators.OpSpec.{OpSpec};
 ghost use Rattle.soutput.specs.Laws.{outputs_at};
@@ -48,13 +48,13 @@ impl Pipeline {
 
     /// What the sender of a port's stream tells of the session. Where it shows that a batch is missing the
     /// port is broken. It takes no memory.
-    pub fn heard(&mut self, port: usize, link: Option<(Sess, u64)>)
+    pub fn heard(&mut self, port: usize, tally: Option<(Sess, u64)>)
         requires inside { port < length self.old.union.union.inlets }
         ensures fixed { IsSetAs self.old self.new }
         ensures stands { (ops : List OpSpec) → (x : Inputs) → (o : Outputs) → StandsForData ops self.old x o
-            → StandsForData ops self.new (with_inlet port (λ (i : InletState). after_link i link) x) o }
+            → StandsForData ops self.new (with_inlet port (λ (i : InletState). after_tally i tally) x) o }
     {
-        self.inputs.heard(port, link);
+        self.inputs.heard(port, tally);
     }
 
     /// The next session of a port is asked for. Where its number would pass its range, nothing changes.
@@ -166,10 +166,10 @@ impl Pipeline {
     }
 
     /// A reader's open session with the number of its batches; `None` exactly where it has none.
-    pub fn link(&self, reader: usize) -> Option<(Sess, u64)>
+    pub fn tally(&self, reader: usize) -> Option<(Sess, u64)>
         requires inside { reader < length self.now.output.subs }
-        ensures { result ≡ link_of (nth no_session self.now.output.subs reader) }
+        ensures { result ≡ tally_of (nth no_session self.now.output.subs reader) }
     {
-        self.output.link(reader)
+        self.output.tally(reader)
     }
 }

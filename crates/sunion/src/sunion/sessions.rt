@@ -1,7 +1,7 @@
 //! The sessions of the ports, and what is told of them.
 ghost use Rattle.std.specs.Prelude.{◌≡◌, ◌+◌, ◌*◌, ◌^◌, ◌<◌, length, OnOk};
 ghost use Rattle.dpc_lists.specs.Lists.{nth};
-ghost use Rattle.dpc_model.specs.Inlets.{with_next_session, after_link, shows_loss, asked_by, sess_of};
+ghost use Rattle.dpc_model.specs.Inlets.{with_next_session, after_tally, shows_loss, asked_by, sess_of};
 ghost use Rattle.dpc_model.specs.Parts.{Inputs};
 ghost use Rattle.sunion.specs.Unions.{StandsForInputs, no_inlet, no_value, with_inlet_state, restarted_union};
 
@@ -26,12 +26,12 @@ impl SUnion {
 
     /// What the sender of a port's stream tells of the session, and whether it shows that a batch is
     /// missing. Then the port is broken. It takes no memory.
-    pub fn heard(&mut self, port: usize, link: Option<(Sess, u64)>) -> bool
+    pub fn heard(&mut self, port: usize, tally: Option<(Sess, u64)>) -> bool
         requires inside { port < length self.old.union.inlets }
-        ensures after { self.new ≡ with_inlet_state port (λ i. after_link i link) self.old }
-        ensures told { result ≡ shows_loss (nth no_value self.old.union.inlets port).state link }
+        ensures after { self.new ≡ with_inlet_state port (λ i. after_tally i tally) self.old }
+        ensures told { result ≡ shows_loss (nth no_value self.old.union.inlets port).state tally }
     {
-        self.ports[port].heard(link)
+        self.ports[port].heard(tally)
     }
 
     /// The last session of a port gets a number. It takes no memory.

@@ -9,12 +9,12 @@ ghost use Rattle.world_parts.specs.Events.{IsSomeWorld, IsComing, Happened, Woul
 
 use crate::envelopes::as_mails;
 use crate::faults::EventFault;
-use crate::parts::{Parts, is_clock};
+use crate::parts::{WorldParts, is_clock};
 use dpc_model::plans::Plan;
 use node_core::packets::Packet;
 use std::alloc::Global;
 
-impl Parts {
+impl WorldParts {
     /// Envelope number k comes to the client of that number.
     pub(crate) fn deliver_to_client(
         &mut self,

@@ -6,12 +6,12 @@ ghost use Rattle.law_fit.specs.Fits.{CanRun};
 ghost use Rattle.world_parts.specs.Events.{IsSomeWorld, Happened, WouldPass};
 
 use crate::faults::EventFault;
-use crate::parts::Parts;
+use crate::parts::WorldParts;
 use dpc_model::actors::{Role, role_of};
 use dpc_model::plans::Plan;
 use std::alloc::Global;
 
-impl Parts {
+impl WorldParts {
     /// A phase opens, which changes nothing.
     pub fn open_phase(&self, plan: &Plan, number: u64)
         ensures { Happened plan.now self.now self.now (event.Phase number) }

@@ -9,7 +9,7 @@ ghost use Rattle.world_parts.specs.Events.{IsWorldOf, IsSomeWorld, Happened, Wou
 ghost use Rattle.world_parts.specs.Handing.{IsHandedOut, IsTimely, IsStaleAt};
 
 use crate::faults::CommitFault;
-use crate::parts::Parts;
+use crate::parts::WorldParts;
 use crate::slots::{down_point, needed_by};
 use dpc_lists::faults::NoMemory;
 use dpc_model::actors::{Role, role_of};
@@ -19,7 +19,7 @@ use mill_work::milling::Milled;
 use mill_work::order::Order;
 use std::alloc::Global;
 
-impl Parts {
+impl WorldParts {
     /// Work for the next ready buckets of an actor: all of them, or the most that may be milled at once.
     /// `None` exactly where none is ready.
     pub fn order(

@@ -7,7 +7,7 @@ ghost use Rattle.dpc_model.specs.declared.messages.Event.TheVariants as event;
 ghost use Rattle.law_fit.specs.Fits.{CanRun};
 ghost use Rattle.world_parts.specs.Events.{IsSomeWorld, Happened};
 
-use crate::parts::Parts;
+use crate::parts::WorldParts;
 use dpc_lists::faults::NoMemory;
 use dpc_model::actors::are_linked;
 use dpc_model::plans::Plan;
@@ -33,7 +33,7 @@ fn mend(cuts: &mut Vec<(u64, u64)>, a: u64, b: u64)
     cuts.retain(|pair| !same_pair(a, b, *pair));
 }
 
-impl Parts {
+impl WorldParts {
     /// Whether two actors have a link, and it is up.
     pub fn link_up(&self, plan: &Plan, a: u64, b: u64) -> bool
         ensures { (x : World) → StandsForWorld plan.now self.now x → result ≡ link_up x a b }

@@ -8,12 +8,12 @@ ghost use Rattle.law_fit.specs.Fits.{CanRun};
 ghost use Rattle.world_parts.specs.Events.{IsSomeWorld, IsComing, Happened, WouldPass};
 
 use crate::faults::EventFault;
-use crate::parts::Parts;
+use crate::parts::WorldParts;
 use dpc_model::actors::{Role, role_of};
 use dpc_model::plans::Plan;
 use std::alloc::Global;
 
-impl Parts {
+impl WorldParts {
     /// A node processes so many ready buckets.
     pub fn mill(
         &mut self,

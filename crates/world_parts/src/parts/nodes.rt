@@ -5,13 +5,13 @@ ghost use Rattle.world_model.specs.Worlds.{node_place};
 ghost use Rattle.law_fit.specs.Fits.{CanRun};
 ghost use Rattle.world_parts.specs.Events.{IsSomeWorld, Happened};
 
-use crate::parts::Parts;
+use crate::parts::WorldParts;
 use dpc_lists::faults::NoMemory;
 use dpc_model::actors::{Role, role_of};
 use dpc_model::plans::Plan;
 use std::alloc::Global;
 
-impl Parts {
+impl WorldParts {
     /// The place of a node among the nodes.
     pub(crate) fn node_place(&self, plan: &Plan, actor: u64) -> usize
         ensures { result ≡ node_place plan.now actor }

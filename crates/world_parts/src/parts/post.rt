@@ -5,7 +5,7 @@ ghost use Rattle.world_parts.specs.declared.faults.EventFault.TheVariants as fau
 
 use crate::envelopes::{items_in_all, push_mails};
 use crate::faults::EventFault;
-use crate::parts::Parts;
+use crate::parts::WorldParts;
 use node_core::packets::Mail;
 
 /// The most envelopes of a run.
@@ -14,7 +14,7 @@ const MOST_ENVELOPES: u64 = 8_000_000;
 /// The most items in the envelopes of a run.
 const MOST_ITEMS: u64 = 4_000_000;
 
-impl Parts {
+impl WorldParts {
     /// What an actor sends becomes envelopes, where a run may have so many.
     pub(crate) fn post(&mut self, sender: u64, mails: Vec<Mail>) -> Result<(), EventFault>
         ensures ok { OnOk result (self.new ≡ with_posted sender mails.items self.old) }

@@ -10,7 +10,7 @@ ghost use Rattle.world_parts.specs.Events.{IsSomeWorld, IsComing, Happened, Woul
 
 use crate::envelopes::as_mails;
 use crate::faults::EventFault;
-use crate::parts::{Parts, is_clock};
+use crate::parts::{WorldParts, is_clock};
 use dpc_model::actors::{Role, role_of};
 use dpc_model::plans::Plan;
 use node_core::packets::Packet;
@@ -27,7 +27,7 @@ fn source_at(plan: &Plan, actor: u64, time: u64) -> Option<usize>
     }
 }
 
-impl Parts {
+impl WorldParts {
     /// A source sends what it logs below a time.
     pub fn emit(
         &mut self,

@@ -9,14 +9,14 @@ ghost use Rattle.world_model.specs.Schedules.{may_come};
 ghost use Rattle.world_parts.specs.Parts.{StandsForWorld};
 ghost use Rattle.world_parts.specs.Telling.{StandsForRole};
 
-use crate::parts::Parts;
+use crate::parts::WorldParts;
 use client_fold::client::Client;
 use dpc_model::actors::{Role, role_of};
 use dpc_model::messages::NodeState;
 use dpc_model::plans::Plan;
 use node_core::node::Node;
 
-impl Parts {
+impl WorldParts {
     /// The sender and the addressee of envelope number k; `None` exactly where it was not sent.
     pub fn ends(&self, k: u64) -> Option<(u64, u64)>
         ensures { (plan : Plan) (x : World) → StandsForWorld plan self.now x → result ≡ option_map (λ (e : PlainEnvelope). (e.sender, e.to)) (slice_get x.envelopes k) }

@@ -17,5 +17,5 @@ returns c =
     let mills = ap (λ (es : List Event). es ++ flat_map (λ a. mill_events a (ready_at w a)) (range_with_len 0 c.in_ok-actors.actors)) c.new-events.ensures.items in
     phase-made w c.args.world.now.plan c.args.directives.now c.deref.result.now c.in_ok-actors.actors c.args.now (range_with_len c.args.first (c.args.sent - c.args.first))
     c.push_all_mills.new.events.items c.push_deliveries.new.events.items c.push_ticks.new.events.items (run-plan c.args.world.now.plan c.args.world.now.events)
-    (c.in_ok-actors.ensures ∙ ap (λ (plan : Plan). length (roles_of plan)) c.plan.ensures) (c.deref.ensures.value ∙ c.in_ok-marks.ensures) (c.in_ok-push_all_mills.ensures ∙ mills)
+    (c.in_ok-actors.ensures ∙ ap (λ (plan : Plan). length (roles_of plan)) c.plan.ensures) (c.deref.ensures.value ∙ c.in_ok-fates.ensures) (c.in_ok-push_all_mills.ensures ∙ mills)
     c.in_ok-push_deliveries.ensures c.in_ok-push_ticks.ensures

@@ -7,7 +7,7 @@ use Rattle.lockstep.proofs.events.push_deliveries.Goals as goal
 
 pub loop-k-preserved : goal.loop-k-preserved
 loop-k-preserved c = record {
-  pushed = flat-more (λ k. replicate (deliveries_of (world_of c.args.world.now) c.args.marks.now k) (Deliver k)) c.args.first (c.loop-k.k - c.args.first) c.loop-k.k _ c.args.events.now.items c.loop-k.events.items _ (omega arith) (omega arith)
+  pushed = flat-more (λ k. replicate (deliveries_of (world_of c.args.world.now) c.args.fates.now k) (Deliver k)) c.args.first (c.loop-k.k - c.args.first) c.loop-k.k _ c.args.events.now.items c.loop-k.events.items _ (omega arith) (omega arith)
       c.loop-k.invariant.pushed (c.in_ok-push_times.ensures ∙ ap (λ (n : ℕ). c.loop-k.events.items ++ replicate n (Deliver c.loop-k.k)) c.deliveries.ensures);
   none = λ h. absurd (omega (arith, h));
 }

@@ -10,6 +10,6 @@ use Rattle.lockstep.proofs.events.push_deliveries.Given as goal
 abbrev pub invariant-loop-k : goal.invariant-loop-k
 invariant-loop-k l = record {
   pushed : l.events.items ≡ l.initial.events.items
-      ++ flat_map (λ k. replicate (deliveries_of (world_of l.world) l.marks k) (Deliver k)) (range_with_len l.first (l.k - l.first));
+      ++ flat_map (λ k. replicate (deliveries_of (world_of l.world) l.fates k) (Deliver k)) (range_with_len l.first (l.k - l.first));
   none : l.sent ≤ l.first → l.k ≡ l.first;
 }

@@ -1,11 +1,11 @@
-use Rattle.world_model.specs.Schedules.{lock_of}
+use Rattle.world_model.specs.Schedules.{lockstep_journal}
 use Rattle.lockstep.proofs.Ending.{ArePhases, first_lock, of-script, plain-ends, phases-excess, settled-answers, settled-past, raised-past}
 use Rattle.lockstep.proofs.lock.run.Goals as goal
 use Rattle.lockstep.proofs.lock.run.Goals.{In_ok-phases}
 
 pub returns-in_err-phases-clause-long : goal.returns-in_err-phases-clause-long
 returns-in_err-phases-clause-long c =
-    raised-past c.from_residual-in_err-phases.result c.in_err-phases.field-0.0 c.args.script.plan (lock_of c.args.script) c.from_residual-in_err-phases.ensures
+    raised-past c.from_residual-in_err-phases.result c.in_err-phases.field-0.0 c.args.script.plan (lockstep_journal c.args.script) c.from_residual-in_err-phases.ensures
     (phases-excess c.args.script c.as_slice.result.now c.in_ok-new.field-0 c.new-lock.result c.in_err-phases.field-0.0 c.in_ok-new.ensures c.new-lock.ensures c.as_slice.ensures c.in_err-phases.ensures.long)
 
 -- behind the phases of the script

@@ -1,5 +1,5 @@
 use Rattle.std.proofs.Common.{◌≡◌, List, Some}
-use Rattle.dpc_model.specs.Parts.{Inputs, view_of, processed_view}
+use Rattle.dpc_model.specs.Parts.{Inputs, frontier_of, processed_and_closed}
 use Rattle.dpc_model.specs.PartStands.{at_cursor}
 use Rattle.dpc_model.specs.declared.operators.OpSpec.{OpSpec}
 use Rattle.sunion.specs.Unions.{StandsForInputs}
@@ -15,5 +15,5 @@ invariant-loop-i l = record {
   held : l.keeper.keeper.held ≡ Some (at_cursor l.fn.keeper.keeper);
   ports : (x : Inputs) → StandsForInputs l.fn.inputs x → StandsForInputs l.inputs (after_closing_all l.fn.inputs.width l._i x);
   ran : (ops : List OpSpec) → (x : Inputs) → StandsForWork ops l.fn.inputs l.fn.keeper x → CanClose l.fn.inputs.width x l.count
-      → HasRun ops l.fn.inputs.width l.keeper.keeper.state (processed_view l.fn.inputs.width x) (buckets_from l.fn.inputs.width x (view_of x) l._i) (view_of x) l.added.items;
+      → HasRun ops l.fn.inputs.width l.keeper.keeper.state (processed_and_closed l.fn.inputs.width x) (buckets_from l.fn.inputs.width x (frontier_of x) l._i) (frontier_of x) l.added.items;
 }

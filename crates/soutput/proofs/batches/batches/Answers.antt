@@ -1,5 +1,5 @@
 use Rattle.std.proofs.Common.{◌≡◌, ◌∙◌, ◌++◌, ◌+◌, List, sym, ap, take, arith, ℕ, slice_index_or}
-use Rattle.dpc_model.specs.Sessions.{no_session, link_of, batches_from}
+use Rattle.dpc_model.specs.Sessions.{no_session, tally_of, batches_from}
 use Rattle.dpc_model.specs.declared.tuples.Item.{Item}
 use Rattle.dpc_model.specs.declared.messages.Message.{Message}
 use Rattle.soutput.specs.Giving.{batch_to}
@@ -10,7 +10,7 @@ pub loop-reader-preserved : goal.loop-reader-preserved
 loop-reader-preserved c =
     let i = c.loop-reader.reader in
     let sessions = c.args.sessions.now in
-    let last = link_of (slice_index_or sessions i no_session) in
+    let last = tally_of (slice_index_or sessions i no_session) in
     let none : 0 + i ≡ i = omega arith in
     let more = rw none at (batches-taken 0 i c.args.items.items sessions no_session c.loop-reader-test.true) in
     c.in_ok-push_batch.ensures

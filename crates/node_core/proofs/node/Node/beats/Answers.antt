@@ -1,7 +1,7 @@
 use Rattle.std.proofs.Common.{rules, ◌≡◌, ◌<◌, ◌≤◌, ◌∙◌, ◌++◌, ℕ, List, map, zip, length, sym, ap, subst, arith, None}
 use Rattle.std.proofs.lemmas.List.{take_all}
 use Rattle.dpc_lists.specs.Lists.{nth}
-use Rattle.dpc_model.specs.Sessions.{no_session, link_of}
+use Rattle.dpc_model.specs.Sessions.{no_session, tally_of}
 use Rattle.node_links.specs.Linking.{peers_in}
 use Rattle.node_model.specs.Mails.{in_actor_order}
 use Rattle.node_model.specs.NodeSteps.{beats}
@@ -20,8 +20,8 @@ loop-reader-preserved c =
     let many : length v.path.output.subs ≡ length rs = readers-served v c.requires ∙ ap length (sym own) in
     let low : i < length rs = search rules in
     c.in_ok-push-2.ensures.items
-    ∙ reader-more v c.loop-peer.mails.items c.loop-reader.mails.items i _ rs c.mail-in-loop-reader.result c.beat-in-loop-reader.result c.link.result c.mail-in-loop-reader.ensures low (omega (arith, low, many))
-    (c.link.ensures ∙ ap (λ (w : NodeValue). link_of (nth no_session w.path.output.subs i)) c.self.view_is) c.beat-in-loop-reader.ensures c.loop-reader.invariant
+    ∙ reader-more v c.loop-peer.mails.items c.loop-reader.mails.items i _ rs c.mail-in-loop-reader.result c.beat-in-loop-reader.result c.tally.result c.mail-in-loop-reader.ensures low (omega (arith, low, many))
+    (c.tally.ensures ∙ ap (λ (w : NodeValue). tally_of (nth no_session w.path.output.subs i)) c.self.view_is) c.beat-in-loop-reader.ensures c.loop-reader.invariant
 
 pub returns : goal.returns
 returns c =

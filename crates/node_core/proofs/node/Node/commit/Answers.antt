@@ -4,7 +4,7 @@ use Rattle.fragment_mill.specs.Mills.{MillState}
 use Rattle.mill_work.specs.Milling.{OrderValue}
 use Rattle.pipeline.specs.Committing.{CanPut}
 use Rattle.node_model.specs.Nodes.{Home, PlainNode, spec_of}
-use Rattle.node_model.specs.Views.{inputs_of, outputs_of}
+use Rattle.node_model.specs.NodeParts.{inputs_of, outputs_of}
 use Rattle.law_node.specs.Fitting.{IsFit}
 use Rattle.node_core.specs.declared.faults.Point.{Point}
 use Rattle.node_core.specs.Milling.{CanMill, CanMillNode, MillSteps, Fits, IsBeside, needed_by, is_stale, WasStale}

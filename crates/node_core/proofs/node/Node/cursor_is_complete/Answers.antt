@@ -1,6 +1,6 @@
 use Rattle.std.proofs.Common.{◌≡◌, ◌-◌, length, sym, subst, arith}
 use Rattle.dpc_model.specs.Parts.{Inputs}
-use Rattle.node_model.specs.Views.{inputs_of}
+use Rattle.node_model.specs.NodeParts.{inputs_of}
 use Rattle.sunion.specs.Unions.{StandsForInputs, complete_upto_in}
 use Rattle.sunion.specs.Values.{SUnionValue}
 use Rattle.node_core.specs.Standing.{NodeValue, StandsForNode}

@@ -2,7 +2,7 @@ use Rattle.std.proofs.Common.{◌≡◌, ◌∙◌, ℕ, List, map, sym, ap, sub
 use Rattle.dpc_lists.specs.Lists.{nth}
 use Rattle.dpc_model.specs.declared.messages.Message.{Message}
 use Rattle.node_model.specs.Nodes.{spec_of}
-use Rattle.node_model.specs.Views.{inputs_of, outputs_of}
+use Rattle.node_model.specs.NodeParts.{inputs_of, outputs_of}
 use Rattle.node_core.specs.declared.packets.Mail.{Mail}
 use Rattle.node_core.specs.Standing.{NodeValue, StandsForNode, AreMails}
 use Rattle.node_core.specs.Stepping.{taken_back, plain_mail}

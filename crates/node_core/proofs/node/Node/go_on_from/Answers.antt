@@ -1,6 +1,6 @@
 use Rattle.std.proofs.Common.{◌≡◌, ◌∙◌, true, sym, ap, subst}
 use Rattle.node_model.specs.Nodes.{spec_of}
-use Rattle.node_model.specs.Views.{inputs_of, outputs_of}
+use Rattle.node_model.specs.NodeParts.{inputs_of, outputs_of}
 use Rattle.node_core.specs.Standing.{NodeValue}
 use Rattle.node_core.specs.Stepping.{CanAdopt}
 use Rattle.node_core.specs.contracts.node.Node.{the_view}

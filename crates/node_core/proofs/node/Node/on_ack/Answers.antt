@@ -1,7 +1,7 @@
 use Rattle.std.proofs.Common.{◌∙◌, ◌==◌, sym, subst, ap, List, ℕ}
 use Rattle.dpc_lists.specs.Lists.{place_of}
 use Rattle.node_model.specs.Nodes.{spec_of}
-use Rattle.node_model.specs.Views.{inputs_of, outputs_of}
+use Rattle.node_model.specs.NodeParts.{inputs_of, outputs_of}
 use Rattle.node_core.specs.Standing.{NodeValue, StandsForNode}
 use Rattle.node_core.proofs.Answering.{reader-is, reader-low, ack-nobody, acked}
 use Rattle.node_core.proofs.node.Node.on_ack.Goals as goal

@@ -2,7 +2,7 @@ use Rattle.std.proofs.Common.{◌∙◌, sym, subst}
 use Rattle.dpc_model.specs.Ports.{sender_at}
 use Rattle.node_model.specs.Nodes.{spec_of, streams_of}
 use Rattle.node_model.specs.NodeSteps.{on_batch}
-use Rattle.node_model.specs.Views.{inputs_of, outputs_of}
+use Rattle.node_model.specs.NodeParts.{inputs_of, outputs_of}
 use Rattle.node_core.specs.Standing.{NodeValue, StandsForNode}
 use Rattle.node_core.proofs.Delivering.{sender-is, sender-low, batch-left, batch-taken}
 use Rattle.node_core.proofs.node.Node.on_batch.Goals as goal

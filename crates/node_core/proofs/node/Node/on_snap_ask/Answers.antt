@@ -3,7 +3,7 @@ use Rattle.node_model.specs.Stands.{SnapValue}
 use Rattle.fragment_mill.specs.Mills.{MillState}
 use Rattle.pipeline.specs.Recovery.{StandsForSnapshot, snap_of}
 use Rattle.node_model.specs.Nodes.{spec_of}
-use Rattle.node_model.specs.Views.{inputs_of, outputs_of}
+use Rattle.node_model.specs.NodeParts.{inputs_of, outputs_of}
 use Rattle.node_core.specs.declared.packets.Mail.{Mail}
 use Rattle.node_core.specs.declared.packets.Packet.TheVariants as packet
 use Rattle.node_core.specs.Standing.{NodeValue, StandsForNode}

@@ -3,7 +3,7 @@ use Rattle.mill_work.specs.Milling.{OrderValue}
 use Rattle.fragment_mill.specs.Mills.{MillState}
 use Rattle.law_buckets.specs.Series.{buckets_from}
 use Rattle.node_model.specs.Nodes.{Home, PlainNode, spec_of}
-use Rattle.node_model.specs.Views.{inputs_of, outputs_of}
+use Rattle.node_model.specs.NodeParts.{inputs_of, outputs_of}
 use Rattle.node_core.specs.Milling.{CanMill, CanMillNode, IsOrderOf}
 use Rattle.node_core.specs.Standing.{NodeValue}
 use Rattle.node_core.specs.contracts.node.Node.{the_view}

@@ -2,7 +2,7 @@ use Rattle.std.proofs.Common.{◌≡◌, ◌∙◌, ℕ, List, map, sym, ap, sub
 use Rattle.dpc_lists.specs.Lists.{nth}
 use Rattle.dpc_model.specs.declared.messages.Message.{Message}
 use Rattle.node_model.specs.Nodes.{Home, PlainNode, spec_of}
-use Rattle.node_model.specs.Views.{inputs_of, outputs_of}
+use Rattle.node_model.specs.NodeParts.{inputs_of, outputs_of}
 use Rattle.pipeline.specs.Committing.{CanPut}
 use Rattle.node_core.specs.Milling.{CanMill, corrected}
 use Rattle.node_core.specs.Standing.{NodeValue}

@@ -1,5 +1,0 @@
-use Rattle.law_lockstep.proofs.Heard.{lock-steady}
-use Rattle.law_lockstep.proofs.a_calm_lock_is_steady.Goals as goal
-
-pub returns : goal.returns
-returns c = lock-steady

@@ -1,5 +1,0 @@
-use Rattle.law_schedules.proofs.Lockstep.{lock-world}
-use Rattle.law_schedules.proofs.the_lock_gives_its_world.Goals as goal
-
-pub returns : goal.returns
-returns c = lock-world

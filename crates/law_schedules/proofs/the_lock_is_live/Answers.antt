@@ -1,5 +1,0 @@
-use Rattle.law_schedules.proofs.Lockstep.{lock-live}
-use Rattle.law_schedules.proofs.the_lock_is_live.Goals as goal
-
-pub returns : goal.returns
-returns c = lock-live
