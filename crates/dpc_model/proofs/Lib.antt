@@ -15,3 +15,4 @@ pub mod Serial
 pub mod Sorting
 pub mod StableItems
 pub mod WindowCausality
+pub mod Crossing
