@@ -24,7 +24,7 @@ pub record Inputs : Type 0 where
   pub cursor : ℕ
   pub closed : List (List Tagged)
 
--- the first bucket that is neither processed nor closed
+-- the frontier: the first bucket that is neither processed nor closed
 abbrev pub frontier_of : Inputs → ℕ
 frontier_of x = x.cursor + length x.closed
 
@@ -56,7 +56,7 @@ pub record Stream : Type 0 where
   pub tentative : List Tuple
   pub passed : Option ℕ
 
--- what is made of inputs, where the plan passes soft marks on or doesn't
+-- what is made of inputs, where the plan is passing or isn't
 abbrev pub stream_by : Value → ℕ → Bool → Inputs → Stream
 stream_by value width passing x =
     let stable = value (processed width x) (x.cursor * width) in

@@ -46,6 +46,7 @@ abbrev pub rank_by : Option (NodeState × Bool) → Rank
 rank_by None = Stable
 rank_by (Some s) = if s.1 then Stabilizing else rank_said s.0
 
+-- absent: three ticks brought no beat, or it truncated what the reader asks for
 abbrev pub is_absent : Watch → Bool
 is_absent w = nat_le 3 w.ticks || is_some w.truncated
 

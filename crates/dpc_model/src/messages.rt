@@ -40,7 +40,7 @@ pub struct Subscribe {
     pub tentative: bool,
 }
 
-/// What a sender tells of itself: the session and the number of batches are those of the addressee.
+/// What a sender tells of itself, and of the addressee's open session: its name and how many batches were sent in it.
 #[derive(Clone, Copy, PartialEq, Eq)]
 pub struct Beat {
     pub inc: u64,

@@ -287,7 +287,7 @@ own-milled home r n =
 
 -- ---- a tick
 
--- a replica that this tick finds silent
+-- a replica that this tick finds absent
 abbrev pub FoundAbsent : ℕ → PlainNode → ℕ → Key → Type 0
 FoundAbsent now n q key = nth false (map is_absent (after_clock now n).peers) q ≡ true
 

@@ -17,9 +17,9 @@ use Rattle.world_model.specs.Worlds.{World, home_of, slot_of, is_clock, happens,
 use Rattle.world_model.specs.Safe.{EachStep}
 use Rattle.law_granting.specs.Asking.{reconciles}
 
--- ---- silence
+-- ---- absence
 
--- a tick at this clock finds a replica silent
+-- a tick at this clock finds a replica absent
 abbrev pub finds_replica : ℕ → PlainNode → Option ℕ → Bool
 finds_replica now n None = false
 finds_replica now n (Some q) = nth false (map is_absent (after_clock now n).peers) q
@@ -34,7 +34,7 @@ role_finds w b a now (IsSource s) = false
 role_finds w b a now (IsClient c) = false
 role_finds w b a now Nobody = false
 
--- the event is a tick of b that finds a silent
+-- the event is a tick of b that finds a absent
 abbrev pub finds_absent : ℕ → ℕ → World → Event → Bool
 finds_absent b a w (Tick x now) = x == b && role_finds w b a now (role_of w.plan b)
 finds_absent b a w (Phase p) = false
@@ -70,7 +70,7 @@ pub record HasOpenAsk (w : World) (a : ℕ) (key : Key) : Type 0 where
   pub inc : node.grants.inc ≡ key.0
   pub open_still : node.grants.over < key.1
 
--- b granted an ask of a. As long as that ask is not over and no tick of b found a silent since, b does not reconcile in
+-- b granted an ask of a. As long as that ask is not over and no tick of b found a absent since, b does not reconcile in
 -- the incarnation that sent the Grant
 abbrev pub ServesMeanwhile : Plan → Type 0
 ServesMeanwhile plan =

@@ -15,7 +15,7 @@ pub fn asks_are_in_order()
     ensures { (plan : Plan) (events : List Event) → IsCheckedPlan plan → AreAsksInOrder (run plan events) }
 {}
 
-/// While an ask that was granted is not over, the replica that granted it serves, unless it found the asker silent.
+/// While an ask that was granted is not over, the replica that granted it serves, unless it found the asker absent.
 pub fn granters_serve_meanwhile()
     ensures { (plan : Plan) → IsCheckedPlan plan → ServesMeanwhile plan }
 {}

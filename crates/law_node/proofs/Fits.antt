@@ -110,7 +110,7 @@ closing-ends w buckets end last many h =
 few-stably : (w last : ℕ) (x : Inputs) → stably_upto w last x ≤ count_upto last x
 few-stably w last x = let most = (if is_nil x.closed then complete_upto_in w x - x.cursor else 0) in grind (arith, common_steps)
 
--- behind all of them the view stands behind the last one
+-- behind all of them the frontier stands behind the last one
 view-behind : (w last : ℕ) (x : Inputs) → frontier_of x ≤ last →
     x.cursor + stably_upto w last x + length x.closed + (count_upto last x - stably_upto w last x) ≡ last + 1
 view-behind w last x frontier = let few = few-stably w last x in omega (arith, few, frontier)
@@ -181,7 +181,7 @@ none-at : (p waits reaches turn : Bool) → (false && waits || (p && false && re
 none-at true waits reaches turn e = sym e
 none-at false waits reaches turn e = sym e
 
--- it lies at or past the view, and within the run
+-- it lies at or past the frontier, and within the run
 pub due-lies : (v : DueInputs) (now buckets last : ℕ) → last_due v now buckets ≡ Some last → (v.frontier ≤ last) × (last < buckets)
 due-lies v now buckets last e =
     let found = due-inside (λ k. is_overdue v now k || is_reached v k) buckets last e in

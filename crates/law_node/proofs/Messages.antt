@@ -78,7 +78,7 @@ beat-inlets r b (suc i) (p ∷ ports) =
       | false ↦ λ h. ap (λ (is : List InletState). p.inlet ∷ is) h
     ]) rest
 
--- the inlet that reads the replica hears the link
+-- the inlet that reads the replica hears the tally
 pub beat-inputs : (b : Beat) (p r : ℕ) (n : PlainNode) →
     inputs_of (on_upstream_beat b (Some (p, r)) n) ≡ (if r == (nth no_port n.ports p).chosen then with_inlet p (λ (i : InletState). after_tally i b.tally) (inputs_of n) else inputs_of n)
 beat-inputs b p r n =

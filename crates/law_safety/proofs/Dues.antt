@@ -59,7 +59,7 @@ stamp-kept c k (s ∷ stamps) h =
 
 -- ---- buckets behind the last due one
 
--- the view's cursor has moved past these
+-- the frontier has moved past these
 not-due-before : (w : DueInputs) (now k : ℕ) → k < w.frontier → (is_overdue w now k || is_reached w k) ≡ false
 not-due-before w now k h = let out : nat_le w.frontier k ≡ false = grind (arith, common_steps) in
     rw out (passing-off w.passing (list_all (λ (r : Reader). nat_le ((k + 1) * w.width) (reach r)) w.ports) (w.any_closed || not (is_complete w.width w.ports k)))
@@ -68,7 +68,7 @@ not-due-before w now k h = let out : nat_le w.frontier k ≡ false = grind (arit
     passing-off true x y = refl
     passing-off false x y = refl
 
--- the tests of a bucket by their parts: v tells that it is at or past the view's cursor
+-- the tests of a bucket by their parts: v tells that it is at or past the frontier
 abbrev due_by : Bool → Bool → Bool → Bool → Bool → Bool → Bool
 due_by v waited passing reached any complete = (v && waited) || (passing && v && reached && (any || not complete))
 
@@ -87,7 +87,7 @@ none-due true false true true false true false e h = cc
 none-due true false true true false false true e h = refl
 none-due true false true true false false false e h = cc
 
--- a bucket that was not due and comes behind the view's cursor
+-- a bucket that was not due and comes behind the frontier
 later-none : (home : Home) (n m : PlainNode) (now k : ℕ) → held_by m ≡ held_by n → stamp_of m.stamps k ≡ stamp_of n.stamps k → node_frontier n ≤ k →
     (not (is_nil n.closed) ≡ true) ⊎ ((not (is_nil m.closed) ≡ false) ⊎ (is_complete home.plan.width (held_by n) k ≡ false)) →
     (is_overdue (due_inputs home n) now k || is_reached (due_inputs home n) k) ≡ false → (is_overdue (due_inputs home m) now k || is_reached (due_inputs home m) k) ≡ false
@@ -117,7 +117,7 @@ incomplete home n k place some h =
 
 -- ---- a node that has processed its buckets
 
--- the node's view, its stamps and what is closed, behind the last due bucket
+-- the node's frontier, its stamps and what is closed, behind the last due bucket
 pub record HasProcessed (home : Home) (n m : PlainNode) (last : ℕ) : Type 0 where
   pub held : held_by m ≡ held_by n
   pub frontier : node_frontier m ≡ last + 1
@@ -144,13 +144,13 @@ processed-none home n m now last place some low e h =
         let past : last < k = grind (arith, common_steps) in
         later-none home n m now k h.held (h.stamps k past) (omega (arith, low, past)) (cases k past h.closed) (l.behind k past below)
 
--- the last due bucket is at or past the view's cursor
+-- the last due bucket is at or past the frontier
 due-from : (v waited passing x y : Bool) → ((v && waited) || (passing && v && x && y)) ≡ true → v ≡ true
 due-from true waited passing x y e = refl
 due-from false waited true x y e = cc
 due-from false waited false x y e = cc
 
--- the last due bucket is one of the run, at or past the view's cursor
+-- the last due bucket is one of the run, at or past the frontier
 pub due-range : (home : Home) (n : PlainNode) (now last : ℕ) → due_at home n now ≡ Some last → (node_frontier n ≤ last) × (last < buckets_of home.plan)
 due-range home n now last e =
     let w = due_inputs home n in

@@ -63,7 +63,7 @@ give-good home a most done items n actor up g truth fits surely =
       mails = batches-mails home.plan a (Frag home.frag) done items n.subs (node-sender home a actor) truth fits surely (omega (arith, same));
     }
 
--- the bound and the soft mark of a node lie within the run
+-- the bound and the passed mark of a node lie within the run
 pub bound-within : (home : Home) (n : PlainNode) → IsPlace home → IsSafeNode home n → n.recovering ≡ false → IsBoundWithin home.plan (out_bound home n)
 bound-within home n place safe up =
     elim (n.cursor == 0) as (λ c. IsBoundWithin home.plan (cond c None (Some (n.cursor * home.plan.width, length (out_stable home n))))) [

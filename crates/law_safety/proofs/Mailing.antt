@@ -157,7 +157,7 @@ tentative-fit plan s [] h = refl
 tentative-fit plan s (t ∷ ts) h =
     let p = both (fits_stream plan s t) (list_all (fits_stream plan s) ts) h in both-of (fits_stream plan s t) (list_all (item_fits plan s) (tentative_items ts)) p.0 (tentative-fit plan s ts p.1)
 
--- the times that a boundary and a soft mark tell are at most end, and a soft mark is told only where the plan passes it on
+-- the times that a boundary and a passed mark tell are at most end, and a passed mark is told only where the plan is passing
 abbrev pub IsBoundWithin : Plan → Option (ℕ × ℕ) → Type 0
 IsBoundWithin plan None = Unit {0}
 IsBoundWithin plan (Some b) = b.0 ≤ plan.end

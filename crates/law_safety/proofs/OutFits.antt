@@ -129,7 +129,7 @@ inputs-columns c (d ∷ cs) (q ∷ ports) h = (all-part (has_columns d) (is_belo
     front [] ys k = refl
     front (x ∷ xs) ys k = let e = both (has_columns d x) (list_all (has_columns d) (xs ++ ys)) k in both-of (has_columns d x) (list_all (has_columns d) xs) e.0 (front xs ys e.1)
 
--- the closed buckets lie below the view's cursor, and have the columns
+-- the closed buckets lie below the frontier, and have the columns
 pub record Lies (b : ℕ) (cs : List ℕ) (xs : List Tagged) : Type 0 where
   pub below : list_all (is_below_tag b) xs ≡ true
   pub columns : list_all (fits_port cs) xs ≡ true

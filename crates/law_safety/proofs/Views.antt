@@ -123,7 +123,7 @@ tentative-leaves r (t ∷ ts) =
       | false ↦ λ e. leaves-skip r _ (Tentative t) (tentative_items ts) (rw e refl) (tentative-leaves r ts)
     ]) refl
 
--- a soft mark, from one that tentative output went to before
+-- a passed mark, from one that tentative output went to before
 pub passed-leaves : (r : Reader) (v : ℕ) → r.passed ≤ v → (r.passed ≡ 0) ⊎ (r.bound < r.passed) → Leaves r (Passed v ∷ []) (record r { passed = passed_of r.bound (Some v) })
 passed-leaves r v low mark =
     (elim (nat_lt r.bound v) as (λ b. nat_lt r.bound v ≡ b → Leaves r (Passed v ∷ []) (record r { passed = cond b v 0 })) [

@@ -42,7 +42,7 @@ roles-length plan =
     let of_clients : length clients ≡ length plan.clients = length-map (range_with_len 0 (length plan.clients)) IsClient ∙ length-range_with_len 0 (length plan.clients) in
     omega (arith, all, first, of_sources, of_nodes, of_clients)
 
--- ---- marks
+-- ---- fates
 
 kept-fate : (test : Directive → Bool) → ((d : Directive) → has_event d ≡ true → test d ≡ false) → (ds : List Directive) → list_any test (fates_of ds) ≡ list_any test ds
 kept-fate test none [] = refl

@@ -133,7 +133,7 @@ promised v links told same from none = record {
         and-false true = refl
         and-false false = refl
 
--- every other one is silent
+-- every other one is absent
 pub alone : (v : NodeValue) (told : Option Asked) (home : Home) (p : PlainNode) → StandsForNode home v p → told ≡ asking v.links.me v.links.known → told ≡ Some asked.Enter →
     (is_none p.grants.promise ≡ true) × (list_all is_absent (peer_watches home p) ≡ true)
 alone v told home p h from enter =

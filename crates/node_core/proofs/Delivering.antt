@@ -122,7 +122,7 @@ batch-taken home v p path a port r index s items answer h found read fits set ta
 
 -- ---- beats
 
--- the port that reads the sender hears the link
+-- the port that reads the sender hears the tally
 abbrev pub heard_in : Beat → Option ℕ → Inputs → Inputs
 heard_in b None x = x
 heard_in b (Some port) x = with_inlet port (λ (i : InletState). after_tally i b.tally) x

@@ -41,7 +41,7 @@ impl Links {
         self.grants.finish();
     }
 
-    /// One tick, of every replica and of every session. A promise to a silent replica ends.
+    /// One tick, of every replica and of every session. A promise to a absent replica ends.
     pub fn tick(&mut self)
         ensures { self.new ≡ record self.old { known = after_clock_tick self.old.known } }
     {
@@ -58,7 +58,7 @@ impl Links {
         tick_ports(self.ports.as_mut_slice());
     }
 
-    /// Whether no other replica can hand out a snapshot: each is silent, or recovers itself.
+    /// Whether no other replica can hand out a snapshot: each is absent, or recovers itself.
     pub fn nobody_can_help(&self) -> bool
         ensures { result ≡ nobody_can_help self.now.me self.now.known }
     {

@@ -24,7 +24,7 @@ use upstream::upstream::Upstream;
 /// What a node that wants to reconcile is to do.
 #[derive(Clone, Copy, PartialEq, Eq)]
 pub enum Asked {
-    /// Every other replica is silent.
+    /// Every other replica is absent.
     Enter,
     /// Ask the others, by the key of its running ask: incarnation and number.
     Ask(u64, u64),
@@ -172,7 +172,7 @@ impl Links {
         self.ports[port].end_marks(count);
     }
 
-    /// An actor tells of itself. The answer is the port that reads it now: its inlet is to hear the link.
+    /// An actor tells of itself. The answer is the port that reads it now: its inlet is to hear the tally.
     pub fn on_beat(&mut self, sender: u64, beat: Beat) -> Option<usize>
         ensures after { self.new ≡ record self.old { known = after_own_beat beat (place_of (λ a. sender == a) self.old.replicas) (after_upstream_beat beat (sender_among 0 self.old.senders sender) self.old.known) } }
         ensures heard { result ≡ chosen_by (sender_among 0 self.old.senders sender) self.old.known }

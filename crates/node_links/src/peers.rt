@@ -22,7 +22,7 @@ pub(crate) fn others(alloc: Global, actors: &[u64], one: u64) -> Result<Vec<u64>
     Ok(rest)
 }
 
-/// Whether each replica is silent, in order. The places past the last one mean nothing.
+/// Whether each replica is absent, in order. The places past the last one mean nothing.
 pub(crate) fn absences(watches: &Monitor) -> [bool; MOST_REPLICAS]
     ensures { take (length watches.now) result ≡ map is_absent watches.now }
 {
@@ -33,7 +33,7 @@ pub(crate) fn absences(watches: &Monitor) -> [bool; MOST_REPLICAS]
     absences
 }
 
-/// Whether every replica but this one is silent.
+/// Whether every replica but this one is absent.
 pub(crate) fn others_are_absent(watches: &Monitor, me: usize) -> bool
     ensures { result ≡ list_all is_absent (other_watches me watches.now) }
 {
@@ -45,7 +45,7 @@ pub(crate) fn others_are_absent(watches: &Monitor, me: usize) -> bool
     true
 }
 
-/// Whether every replica but this one is silent, or recovers.
+/// Whether every replica but this one is absent, or recovers.
 pub(crate) fn others_cannot_help(watches: &Monitor, me: usize) -> bool
     ensures { result ≡ list_all (λ w. is_absent w || says_recovering w) (other_watches me watches.now) }
 {

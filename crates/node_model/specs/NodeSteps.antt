@@ -236,13 +236,13 @@ mill_step home r n =
 
 -- ---- a tick
 
--- the clock moves, every replica's ticks are counted, and a promise to a silent peer ends
+-- the clock moves, every replica's ticks are counted, and a promise to a absent peer ends
 abbrev pub after_clock : ℕ → PlainNode → PlainNode
 after_clock now n =
     let peers = map after_tick n.peers in
     record n { clock = now; ports = map port_after_tick n.ports; peers = peers; grants = after_absence n.grants (map is_absent peers) }
 
--- no replica can hand out a snapshot: each is silent, or recovers itself
+-- no replica can hand out a snapshot: each is absent, or recovers itself
 abbrev pub may_start_afresh : Home → PlainNode → Bool
 may_start_afresh home n = list_all (λ w. is_absent w || says_recovering w) (peer_watches home n)
 
@@ -251,7 +251,7 @@ abbrev pub choice_step : Home → PlainNode → Stepped PlainNode
 choice_step home n =
     record { after = record n { ports = map port_after_choice n.ports }; sends = in_actor_order (mails (subscriptions home.plan n.ports (streams_of home))) }
 
--- the node asks to reconcile, or enters where every peer is silent
+-- the node asks to reconcile, or enters where every peer is absent
 abbrev pub ask_step : Home → PlainNode → Stepped PlainNode
 ask_step home n =
     if wants_to_reconcile home n && is_none n.grants.promise

@@ -118,7 +118,7 @@ restarted_node home i =
 abbrev pub inputs_done : Home → PlainNode → List (List Tuple)
 inputs_done home n = map (λ (p : Port). cut p.inlet.held.stable (n.cursor * home.plan.width)) n.ports
 
--- the first bucket that is neither processed nor closed
+-- the frontier: the first bucket that is neither processed nor closed
 abbrev pub node_frontier : PlainNode → ℕ
 node_frontier n = n.cursor + length n.closed
 

@@ -18,7 +18,7 @@ use Rattle.law_buckets.proofs.Closing.{buckets-close}
 use Rattle.soutput.specs.declared.fresh.Fresh.{Fresh}
 use Rattle.soutput.specs.Laws.{stream_with}
 
--- what so many buckets from the cursor on, and from the view's cursor on, add
+-- what so many buckets from the cursor on, and from the frontier on, add
 abbrev pub stably_added : List OpSpec → ℕ → Inputs → ℕ → List Tuple
 stably_added ops w x r = added_by (engine_value ops) w (processed w x) (buckets_from w x x.cursor r) x.cursor
 

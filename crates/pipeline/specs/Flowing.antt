@@ -22,7 +22,7 @@ pub record PipelineValue : Type 0 where
   pub union : SUnionValue
   pub keeper : KeptValue MillState
   pub output : OutputValue
-  -- whether the plan passes soft marks on
+  -- whether the plan is passing, so that passed marks are sent and heard
   pub passing : Bool
 
 -- what is set when the inputs are made stays
@@ -31,7 +31,7 @@ pub record HasSameSetting (old new : SUnionValue) : Type 0 where
   pub buckets : new.buckets ≡ old.buckets
   pub delay : new.delay ≡ old.delay
 
--- so does whether soft marks are passed on
+-- so does whether the plan is passing
 pub record IsSetAs (old new : PipelineValue) : Type 0 where
   pub inputs : HasSameSetting old.union new.union
   pub marks : new.passing ≡ old.passing

@@ -28,7 +28,7 @@ fn hold(alloc: Global, keeper: &mut Keeper<FragMill>) -> Result<(), NoMemory>
     Ok(())
 }
 
-/// Closes so many buckets as they stand, and processes them from the state at the view's cursor on. It
+/// Closes so many buckets as they stand, and processes them from the state at the frontier on. It
 /// gives what they add.
 fn close_some(
     alloc: Global,

@@ -110,7 +110,7 @@ impl Pipeline {
         Ok(sends)
     }
 
-    /// Processes every bucket from the view's cursor to a last one: stably while it is complete and nothing
+    /// Processes every bucket from the frontier to a last one: stably while it is complete and nothing
     /// is closed, else it is closed as it stands. One batch gives what is new.
     pub fn process_upto(&mut self, alloc: Global, last: u64) -> Result<Sends, NoMemory>
         requires { (ops : List OpSpec) × (x : Inputs) × (o : Outputs) × CanProcess ops self.old x o last }

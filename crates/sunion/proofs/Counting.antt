@@ -102,14 +102,14 @@ reaching : (width k : ℕ) → 0 < width → (ports : List InletValue) → (f : 
 reaching width k some [] f = refl
 reaching width k some (p ∷ ports) f = rw (below-div width k (f p.state.held) some, reaching width k some ports f) refl
 
--- whether a bucket is passed, by the two counts
+-- whether a bucket is reached, by the two counts
 pub reached-by : (width buckets frontier : ℕ) (any_closed : Bool) (ports : List InletValue) (k : ℕ) → 0 < width → k < buckets →
     is_reached (passing_inputs width ports frontier any_closed) k
     ≡ (nat_le frontier k && nat_lt k (least_over (reached_at width) buckets ports) && (any_closed || not (nat_lt k (least_over (complete_at width) buckets ports))))
 reached-by width buckets frontier any_closed ports k some low =
     rw (reaching width k some ports reach, reaching width k some ports (λ (r : Reader). r.bound), all-below (reached_at width) buckets k ports low, all-below (complete_at width) buckets k ports low) refl
 
--- the first bucket that can be the last passed one
+-- the first bucket that can be the last reached one
 abbrev pub passing_from : ℕ → ℕ → ℕ → Bool → List InletValue → ℕ
 passing_from width buckets frontier any_closed ports = if any_closed then frontier else max frontier (least_over (complete_at width) buckets ports)
 

@@ -1,4 +1,4 @@
--- What is kept of the inputs tells of all of them which buckets are complete, passed and overdue, and what the next ones hold.
+-- What is kept of the inputs tells of all of them which buckets are complete, reached and overdue, and what the next ones hold.
 use Rattle.std.proofs.Common.{◌≡◌, ℕ, zero, suc, ◌+◌, ◌-◌, ◌*◌, ◌/◌, ◌<◌, ◌≤◌, Bool, true, false, nat_lt, nat_le, ◌&&◌, ◌||◌, not, min, max, mul-le-mul_right, List, [], ◌∷◌, ◌++◌, map, length, refl, sym, ap, ◌∙◌, arith, Option, Some, None, slice_index_or}
 use Rattle.std.proofs.lemmas.Grind.{common_steps}
 use Rattle.std.proofs.lemmas.Bool.{lt-ltb}
@@ -76,7 +76,7 @@ complete-first v x p h some e = by-parts v.union.inlets refl some e
     by-parts [] k some e = absurd (omega (arith, some))
     by-parts (q ∷ qs) k some e = complete-is v x p qs h (k ∙ ap (λ (i : InletValue). i ∷ qs) (sym e))
 
--- ---- overdue and passed buckets
+-- ---- overdue and reached buckets
 
 last-same : (p q : ℕ → Bool) (n : ℕ) → ((k : ℕ) → p k ≡ q k) → last_below p n ≡ last_below q n
 last-same p q zero e = refl

@@ -31,7 +31,7 @@ abbrev pub KeptInOrder : List InletValue → Type 0
 KeptInOrder [] = Unit {0}
 KeptInOrder (port ∷ ports) = InOrder port.state.held.stable × KeptInOrder ports
 
--- the buckets from the view's cursor on, as these ports show them, where soft marks count
+-- the buckets from the frontier on, as these ports show them, where passed marks count
 abbrev pub passing_inputs : ℕ → List InletValue → ℕ → Bool → DueInputs
 passing_inputs width ports frontier any_closed =
     record { width = width; delay = 0; passing = true; ports = map (λ (i : InletValue). i.state.held) ports; stamps = []; frontier = frontier; any_closed = any_closed }

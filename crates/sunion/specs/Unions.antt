@@ -70,7 +70,7 @@ complete_upto_in width x = first_incomplete width (held_in x)
 abbrev pub bucket_in : ℕ → Inputs → ℕ → List Tagged
 bucket_in width x k = bucket_held width (held_in x) k
 
--- what tells which buckets are due, where soft marks count or don't
+-- what tells which buckets are due, where passed marks count or don't
 abbrev pub due_inputs_of : SUnionValue → Bool → Inputs → DueInputs
 due_inputs_of v passing x =
     record { width = v.width; delay = v.delay; passing = passing; ports = held_in x; stamps = x.stamps; frontier = frontier_of x; any_closed = not (is_nil x.closed) }

@@ -1,4 +1,4 @@
-//! How many buckets are complete, or passed, at every port.
+//! How many buckets are complete, or reached, at every port.
 ghost use Rattle.std.specs.Prelude.{◌≡◌, ◌<◌};
 ghost use Rattle.dpc_model.specs.Due.{is_reached};
 ghost use Rattle.dpc_lists.specs.Lists.{last_below};
@@ -30,7 +30,7 @@ fn count_passed(ports: &[Inlet], width: u64, most: u64) -> u64
     least
 }
 
-/// The last bucket from `view` on and below `buckets` that every port is known to go past, and that isn't
+/// The last bucket from `frontier` on and below `buckets` that every port is known to go past, and that isn't
 /// complete or has one closed before it.
 pub fn last_reached(
     ports: &[Inlet],

@@ -51,7 +51,7 @@ packet_way plan from to (SnapFor i try s) = are_peers from to
 abbrev pub fits_stream : Plan → StreamRef → Tuple → Bool
 fits_stream plan s t = nat_lt t.stime plan.end && length t.vals == stream_columns plan s
 
--- tuples fit, times lie within the run, and a soft mark is told only where the plan passes it on
+-- tuples fit, times lie within the run, and a passed mark is told only where the plan is passing
 abbrev pub item_fits : Plan → StreamRef → Item → Bool
 item_fits plan s (Stable k t) = fits_stream plan s t
 item_fits plan s (Tentative t) = fits_stream plan s t
@@ -77,11 +77,11 @@ is_fitting plan e =
 
 -- ---- readers
 
--- a soft mark is 0; where the plan passes it on, it may also lie above the bound
+-- a passed mark is 0; where the plan is passing, it may also lie above the bound
 abbrev pub is_passed_mark : Plan → ℕ → ℕ → Bool
 is_passed_mark plan bound passed = passed == 0 || (plan.passing && nat_lt bound passed)
 
--- tentative tuples lie at or past the bound, and so does the soft mark; the tuples need not be in order of time
+-- tentative tuples lie at or past the bound, and so does the passed mark; the tuples need not be in order of time
 abbrev pub is_tentative_past : Plan → Reader → Bool
 is_tentative_past plan r = list_all (λ (t : Tuple). nat_le r.bound t.stime) r.tentative && is_passed_mark plan r.bound r.passed
 

@@ -39,7 +39,7 @@ impl Node {
         Ok(mails)
     }
 
-    /// The clock moves, every replica's ticks are counted, and a promise to a silent one ends.
+    /// The clock moves, every replica's ticks are counted, and a promise to a absent one ends.
     fn count_tick(&mut self, now: u64)
         ensures spent { self.new.spent ≡ self.old.spent }
         ensures after { Follows (λ home p. after_clock now p) self.old self.new }
@@ -111,7 +111,7 @@ impl Node {
         self.path.inputs().ready() > 0
     }
 
-    /// The node asks to reconcile, or enters where every other replica is silent.
+    /// The node asks to reconcile, or enters where every other replica is absent.
     fn ask(&mut self, alloc: Global) -> Result<Vec<Mail>, NoMemory>
         requires { IsSound self.old }
         ensures spent { self.new.spent ≡ self.old.spent }
