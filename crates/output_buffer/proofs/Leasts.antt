@@ -1,6 +1,6 @@
 -- The least of what readers acknowledged, reader by reader.
 use Rattle.std.proofs.Common.{◌≡◌, ℕ, zero, suc, ◌+◌, ◌<◌, min, List, [], ◌∷◌, ◌++◌, map, take, length, refl, arith, Some, slice_get, slice_index_or}
-use Rattle.dpc_model.specs.Lists.{least, nth}
+use Rattle.dpc_lists.specs.Lists.{least, nth}
 use Rattle.dpc_model.specs.Sessions.{Acked}
 
 min-assoc : (a b c : ℕ) → min a (min b c) ≡ min (min a b) c

@@ -1,7 +1,7 @@
 -- A buffer goes on to stand for the whole stable output.
 use Rattle.std.proofs.Common.{◌≡◌, ℕ, ◌-◌, ◌≤◌, List, ◌++◌, drop, length, sym, ap, ◌∙◌, arith, max, min, length-append}
 use Rattle.std.proofs.lemmas.List.{length-drop, drop-drop, drop-append-le}
-use Rattle.dpc_model.specs.Lists.{least, changed}
+use Rattle.dpc_lists.specs.Lists.{least, changed}
 use Rattle.dpc_model.specs.Sessions.{Acked, base_after, after_ack, stable_items}
 use Rattle.dpc_model.specs.Parts.{Outputs}
 use Rattle.dpc_model.specs.declared.tuples.Tuple.{Tuple}

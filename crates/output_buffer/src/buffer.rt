@@ -1,12 +1,12 @@
 //! The buffer of a sender's stable output.
 ghost use Rattle.std.specs.Prelude.{◌≡◌, ◌+◌, ◌-◌, ◌^◌, ◌<◌, ◌≤◌, ◌++◌, ℕ, List, [], length, drop, map, IfOk, OnOk, OnErr};
-ghost use Rattle.dpc_model.specs.Lists.{changed, least};
+ghost use Rattle.dpc_lists.specs.Lists.{changed, least};
 ghost use Rattle.dpc_model.specs.Sessions.{Acked, after_ack, stable_items};
 ghost use Rattle.output_buffer.specs.Buffers.{new_buffer, count_of, cut_to_base};
 
-use dpc_model::exact::Exact;
-use dpc_model::faults::NoMemory;
-use dpc_model::lists::Listed;
+use dpc_lists::exact::Exact;
+use dpc_lists::faults::NoMemory;
+use dpc_lists::lists::Listed;
 use dpc_model::tuples::{Item, Items, Tuple, Tuples};
 use std::alloc::{AllocError, AllocFailed, Global};
 use std::collections::VecDeque;

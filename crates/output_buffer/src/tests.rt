@@ -1,7 +1,7 @@
 //! What no clause says: that calls succeed where there is memory. Values are counted by a person.
 use crate::buffer::{FromFault, OutputBuffer};
-use dpc_model::exact::Exact;
-use dpc_model::lists::Listed;
+use dpc_lists::exact::Exact;
+use dpc_lists::lists::Listed;
 use dpc_model::tuples::{Item, Items, Tuple, Tuples, Vals};
 use std::alloc::{AllocError, Global};
 use std::test::Fail;

@@ -1,20 +1,20 @@
 //! What the readers of an output ask and acknowledge, and what an output tells of itself.
 ghost use Rattle.std.specs.Prelude.{◌≡◌, ◌+◌, ◌^◌, ◌<◌, ◌≤◌, Bool, List, length, map, IfOk, OnOk, OnErr, IsTrue, None, Some, false, ◌==◌, if◌then◌else◌};
-ghost use Rattle.dpc_model.specs.Lists.{nth, changed};
+ghost use Rattle.dpc_lists.specs.Lists.{nth, changed};
 ghost use Rattle.dpc_model.specs.Parts.{shown_of};
 ghost use Rattle.dpc_model.specs.declared.tuples.Tuple.{Tuple};
 ghost use Rattle.dpc_model.specs.NodeStates.{is_stable};
-ghost use Rattle.dpc_model.specs.Sessions.{no_session, opening_session, with_session_shut, first_batch, view_items, after_ack, link_of};
+ghost use Rattle.dpc_model.specs.Sessions.{no_session, opening_session, with_session_shut, first_batch, view_items, after_ack, tally_of};
 ghost use Rattle.soutput.specs.Giving.{restarted_output, with_base_after, stream_behind, HasRoom, IsAnswered};
 
 use crate::batches::{can_count, open_all, shut_all};
 use crate::items::{is_done, push_boundary, push_if, push_passed, push_tentative};
 use crate::output::SOutput;
-use dpc_model::faults::NoMemory;
-use dpc_model::lists::Listed;
+use dpc_lists::faults::NoMemory;
+use dpc_lists::lists::Listed;
+use dpc_lists::shared::Shared;
 use dpc_model::messages::{Message, NodeState, Sess, Subscribe};
 use dpc_model::sessions::Sub;
-use dpc_model::shared::Shared;
 use dpc_model::tuples::{Item, Items, Tuple, Tuples};
 use output_buffer::buffer::OutputBuffer;
 use std::alloc::Global;
@@ -87,11 +87,11 @@ impl SOutput {
 
     /// A reader's open session with the number of its batches; `None` exactly where it has none. It takes
     /// no memory.
-    pub fn link(&self, reader: usize) -> Option<(Sess, u64)>
+    pub fn tally(&self, reader: usize) -> Option<(Sess, u64)>
         requires { reader < length self.now.subs }
-        ensures { result ≡ link_of (nth no_session self.now.subs reader) }
+        ensures { result ≡ tally_of (nth no_session self.now.subs reader) }
     {
-        self.sessions[reader].link()
+        self.sessions[reader].tally()
     }
 
     /// A reader's newest session, open or not; `None` exactly where none is kept. It takes no memory.

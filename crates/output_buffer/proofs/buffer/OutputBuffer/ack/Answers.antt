@@ -1,8 +1,8 @@
 use Rattle.std.proofs.Common.{◌∙◌, ◌<◌, ap, sym, subst, List, length}
-use Rattle.dpc_model.specs.Lists.{changed}
+use Rattle.dpc_lists.specs.Lists.{changed}
 use Rattle.dpc_model.specs.Sessions.{Acked, after_ack}
 use Rattle.output_buffer.specs.Buffers.{BufferState, cut_to_base}
-use Rattle.dpc_model.proofs.Elements.{set-changed}
+use Rattle.dpc_lists.proofs.Elements.{set-changed}
 use Rattle.output_buffer.proofs.buffer.OutputBuffer.ack.Goals as goal
 
 pub returns : goal.returns

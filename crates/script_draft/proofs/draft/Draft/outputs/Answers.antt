@@ -1,7 +1,7 @@
 use Rattle.std.proofs.Common.{◌≡◌, ◌∷◌, ◌++◌, [], true, false, sym, ap, ◌∙◌, subst, arith}
 use Rattle.std.specs.Prelude.{unwrap_or, None}
 use Rattle.std.proofs.lemmas.Bool.{eqb-true, eqb-false}
-use Rattle.dpc_model.specs.Lists.{last_or, is_nil}
+use Rattle.dpc_lists.specs.Lists.{last_or, is_nil}
 use Rattle.script_draft.specs.Columns.{outputs_behind, source_columns}
 use Rattle.script_draft.proofs.Columns.{outputs-whole, outputs-none, nil-none, nil-some}
 use Rattle.script_draft.proofs.draft.Draft.outputs.Goals as goal

@@ -1,5 +1,5 @@
 use Rattle.std.proofs.Common.{◌∙◌, length, ap, sym}
-use Rattle.dpc_model.proofs.Elements.{length-changed}
+use Rattle.dpc_lists.proofs.Elements.{length-changed}
 use Rattle.dpc_model.specs.Sessions.{after_ack}
 use Rattle.output_buffer.specs.Buffers.{BufferState}
 use Rattle.soutput.proofs.output.SOutput.ack.Goals as goal

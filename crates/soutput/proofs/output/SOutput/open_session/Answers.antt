@@ -1,6 +1,6 @@
 use Rattle.std.proofs.Common.{rules, ℕ, ◌≡◌, refl, ◌<◌, ◌≤◌, ◌∙◌, List, length, sym, subst, ap, true, false, Some, slice_set}
-use Rattle.dpc_model.proofs.Elements.{set-changed}
-use Rattle.dpc_model.specs.Lists.{nth, changed}
+use Rattle.dpc_lists.proofs.Elements.{set-changed}
+use Rattle.dpc_lists.specs.Lists.{nth, changed}
 use Rattle.dpc_model.specs.PartStands.{OutputValue}
 use Rattle.dpc_model.specs.Parts.{shown_of}
 use Rattle.dpc_model.specs.declared.tuples.Tuple.{Tuple}

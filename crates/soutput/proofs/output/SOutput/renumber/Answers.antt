@@ -1,6 +1,6 @@
 use Rattle.std.proofs.Common.{◌<◌, ◌∙◌, List, length, ap, sym, subst, Some, false}
-use Rattle.dpc_model.proofs.Elements.{set-changed}
-use Rattle.dpc_model.specs.Lists.{changed}
+use Rattle.dpc_lists.proofs.Elements.{set-changed}
+use Rattle.dpc_lists.specs.Lists.{changed}
 use Rattle.dpc_model.specs.PartStands.{OutputValue}
 use Rattle.dpc_model.specs.declared.sessions.Sub.{Sub}
 use Rattle.soutput.specs.contracts.output.SOutput.{the_view}
