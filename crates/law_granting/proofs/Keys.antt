@@ -183,7 +183,7 @@ module _ (Hears Asks Ends : ℕ → Key → Type 0) where
           let now : promise_to g r k ≡ (r, greater_key key k) = rw e refl in
           ap {B = Option (ℕ × Key)} Some (now ∙ ap (λ (x : ℕ). (x, greater_key key k)) (sym place))
 
-  -- a promise to a absent replica ends
+  -- a promise to an absent replica ends
   pub step-silent : (g : Grants) (silent : List Bool) → ((q : ℕ) (key : Key) → nth false silent q ≡ true → Ends q key) → IsAskStep Hears Asks Ends g (after_absence g silent)
   step-silent g silent ends =
       record {

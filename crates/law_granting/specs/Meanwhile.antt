@@ -34,7 +34,7 @@ role_finds w b a now (IsSource s) = false
 role_finds w b a now (IsClient c) = false
 role_finds w b a now Nobody = false
 
--- the event is a tick of b that finds a absent
+-- the event is a tick of b that finds an absent
 abbrev pub finds_absent : ℕ → ℕ → World → Event → Bool
 finds_absent b a w (Tick x now) = x == b && role_finds w b a now (role_of w.plan b)
 finds_absent b a w (Phase p) = false
@@ -70,7 +70,7 @@ pub record HasOpenAsk (w : World) (a : ℕ) (key : Key) : Type 0 where
   pub inc : node.grants.inc ≡ key.0
   pub open_still : node.grants.over < key.1
 
--- b granted an ask of a. As long as that ask is not over and no tick of b found a absent since, b does not reconcile in
+-- b granted an ask of a. As long as that ask is not over and no tick of b found an absent since, b does not reconcile in
 -- the incarnation that sent the Grant
 abbrev pub ServesMeanwhile : Plan → Type 0
 ServesMeanwhile plan =

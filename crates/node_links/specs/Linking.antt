@@ -82,7 +82,7 @@ chosen_by (Some (p, r)) x = if r == (nth no_upstream x.upstreams p).chosen then 
 abbrev pub with_recovery : Neighbours → Neighbours
 with_recovery x = record x { upstreams = map with_no_tick x.upstreams; grants = with_ask_over x.grants; tries = x.tries + 1 }
 
--- one tick is counted, of every replica and of every session; a promise to a absent replica ends
+-- one tick is counted, of every replica and of every session; a promise to an absent replica ends
 abbrev pub after_clock_tick : Neighbours → Neighbours
 after_clock_tick x =
     let peers = map after_tick x.peers in record x { upstreams = map with_tick x.upstreams; peers = peers; grants = after_absence x.grants (map is_absent peers) }

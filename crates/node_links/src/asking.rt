@@ -41,7 +41,7 @@ impl Links {
         self.grants.finish();
     }
 
-    /// One tick, of every replica and of every session. A promise to a absent replica ends.
+    /// One tick, of every replica and of every session. A promise to an absent replica ends.
     pub fn tick(&mut self)
         ensures { self.new ≡ record self.old { known = after_clock_tick self.old.known } }
     {

@@ -236,7 +236,7 @@ mill_step home r n =
 
 -- ---- a tick
 
--- the clock moves, every replica's ticks are counted, and a promise to a absent peer ends
+-- the clock moves, every replica's ticks are counted, and a promise to an absent peer ends
 abbrev pub after_clock : ℕ → PlainNode → PlainNode
 after_clock now n =
     let peers = map after_tick n.peers in

@@ -19,7 +19,7 @@ pub fn count_complete(ports: &[Inlet], width: u64, most: u64) -> u64
 }
 
 /// How many buckets every port is known to go past, counted up to `most`.
-fn count_passed(ports: &[Inlet], width: u64, most: u64) -> u64
+fn count_reached(ports: &[Inlet], width: u64, most: u64) -> u64
     requires { 0 < width }
     ensures { result ≡ least_over (reached_at width) most ports.now }
 {
@@ -42,7 +42,7 @@ pub fn last_reached(
     requires { 0 < width }
     ensures { result ≡ last_below (is_reached (passing_inputs width ports.now frontier any_closed)) buckets }
 {
-    let end = count_passed(ports, width, buckets);
+    let end = count_reached(ports, width, buckets);
     let start = if any_closed {
         frontier
     } else {

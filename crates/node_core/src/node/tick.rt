@@ -39,7 +39,7 @@ impl Node {
         Ok(mails)
     }
 
-    /// The clock moves, every replica's ticks are counted, and a promise to a absent one ends.
+    /// The clock moves, every replica's ticks are counted, and a promise to an absent one ends.
     fn count_tick(&mut self, now: u64)
         ensures spent { self.new.spent ≡ self.old.spent }
         ensures after { Follows (λ home p. after_clock now p) self.old self.new }

@@ -8,14 +8,14 @@ pub returns-then-start-end : goal.returns-then-start-end
 returns-then-start-end c =
     let a = c.args in
     let start : c.if-any_closed.start ≡ passing_from a.width a.buckets a.frontier a.any_closed a.ports.now = search rules in
-    let end : c.count_passed-end.result ≡ least_over (reached_at a.width) a.buckets a.ports.now = c.count_passed-end.ensures in
-    let low : c.if-any_closed.start < c.count_passed-end.result = c.if-start-end.true in
+    let end : c.count_reached-end.result ≡ least_over (reached_at a.width) a.buckets a.ports.now = c.count_reached-end.ensures in
+    let low : c.if-any_closed.start < c.count_reached-end.result = c.if-start-end.true in
     ap (λ (n : ℕ). Some (n - 1)) end ∙ sym (reached-last a.width a.buckets a.frontier a.any_closed a.ports.now c.requires (omega (arith, start, end, low)))
 
 pub returns-else-start-end : goal.returns-else-start-end
 returns-else-start-end c =
     let a = c.args in
     let start : c.if-any_closed.start ≡ passing_from a.width a.buckets a.frontier a.any_closed a.ports.now = search rules in
-    let end : c.count_passed-end.result ≡ least_over (reached_at a.width) a.buckets a.ports.now = c.count_passed-end.ensures in
-    let past : c.count_passed-end.result ≤ c.if-any_closed.start = c.if-start-end.false in
+    let end : c.count_reached-end.result ≡ least_over (reached_at a.width) a.buckets a.ports.now = c.count_reached-end.ensures in
+    let past : c.count_reached-end.result ≤ c.if-any_closed.start = c.if-start-end.false in
     sym (reached-none a.width a.buckets a.frontier a.any_closed a.ports.now c.requires (omega (arith, start, end, past)))

@@ -1,7 +1,7 @@
 use Rattle.std.proofs.Common.{rules, ◌∙◌, ◌≡◌, min, ap, sym, ℕ}
 use Rattle.sunion.specs.Ports.{reached_at}
 use Rattle.sunion.proofs.Counting.{least_over-more}
-use Rattle.sunion.proofs.spans.count_passed.Goals as goal
+use Rattle.sunion.proofs.spans.count_reached.Goals as goal
 
 pub loop-port-preserved : goal.loop-port-preserved
 loop-port-preserved c =
