@@ -3,3 +3,4 @@ pub mod Gathering
 pub mod Stepping
 pub mod Running
 pub mod Starts
+pub mod Determined

@@ -18,7 +18,7 @@ use Rattle.dpc_model.proofs.IdealCausality.{cut-fragment_value}
 use Rattle.dpc_model.proofs.FragmentValues.{outputs-more}
 use Rattle.dpc_model.proofs.Order.{fragment-InOrder}
 use Rattle.dpc_model.proofs.Kept.{last-mapped}
-use Rattle.fragment_mill.specs.Mills.{kind_of, width_of, next_of, OperatorAfter, MillState, spec_of, specs_of, inputs_of, MillAfter}
+use Rattle.fragment_mill.specs.Mills.{kind_of, width_of, next_of, spent_of, OperatorAfter, MillState, spec_of, specs_of, inputs_of, MillAfter}
 use Rattle.fragment_mill.specs.Milling.{added_of, IsFit, IsMill}
 use Rattle.fragment_mill.specs.declared.mill.Stage.{Stage}
 use Rattle.fragment_mill.proofs.Operators.{Accepts-from, next-after}
@@ -92,6 +92,7 @@ outputs_of-more ss i d xs b h =
 -- after i stages: what they added, and what they took, whatever the mill had taken before
 pub record Running (m : MillState) (inputs : List Tagged) (k i : ℕ) (news : List Stage) (outs : List (List Tuple)) : Type 0 where
   pub renewed : Renewed m.width i m.stages news
+  pub idle : (j : ℕ) (d : Stage) → j < i → spent_of (get_or news j d).operator ≡ false
   pub gave : (before : List Tagged) → MillAfter m before k →
       outs ≡ map (λ (ts : List Tuple). from_time (k * m.width) ts) (outputs_of (specs_of m.stages) i (before ++ inputs) ((k + 1) * m.width))
   pub took : (before : List Tagged) → MillAfter m before k → (j : ℕ) (d : Stage) → j < i →
@@ -100,6 +101,7 @@ pub record Running (m : MillState) (inputs : List Tagged) (k i : ℕ) (news : Li
 pub Running-none : (m : MillState) (inputs : List Tagged) (k : ℕ) → All (IsFit m.width) m.stages → Running m inputs k 0 m.stages []
 Running-none m inputs k fits = record {
   renewed = Renewed-none m.width m.stages fits;
+  idle = λ j d l. absurd (omega (arith, l));
   gave = λ before h. refl;
   took = λ before h j d l. absurd (omega (arith, l));
 }
@@ -144,11 +146,12 @@ module _ (m : MillState) (inputs : List Tagged) (k i : ℕ) (s : Stage) (news : 
   pub Running-more : (t : Stage) (more : List (List Tuple)) →
       ((before : List Tagged) → OperatorAfter s.operator before k → more ≡ push outs (added_of s.operator before (inputs_of inputs outs s.reads) k)) →
       ((before : List Tagged) → OperatorAfter s.operator before k → OperatorAfter t.operator (before ++ inputs_of inputs outs s.reads) (k + 1)) →
-      spec_of t ≡ spec_of s → ((w : ℕ) → IsFit w s → IsFit w t) → Running m inputs k (i + 1) (set news i t) more
-  Running-more t more answer after spec fits =
+      spent_of t.operator ≡ false → spec_of t ≡ spec_of s → ((w : ℕ) → IsFit w s → IsFit w t) → Running m inputs k (i + 1) (set news i t) more
+  Running-more t more answer after rested spec fits =
       let end = (k + 1) * m.width in
       record {
         renewed = Running-renewed t spec fits;
+        idle = below-more (λ (u : Stage). spent_of u.operator ≡ false) i t news (omega (arith, l, specs-length m.stages news r.renewed.specs)) r.idle rested;
         gave = λ before h.
             let given = r.gave before h in
             let stood = inputs_of before (outputs_of ops i before (k * m.width)) s.reads in
@@ -209,8 +212,12 @@ module _ (m : MillState) (inputs : List Tagged) (k i : ℕ) (news : List Stage) 
   pub Running-done : (w : ℕ) → w ≡ m.width → m.spent ≡ false → k ≡ m.next → IsMill (milled w)
   Running-done w e idle next =
       let t = took-before m k mill idle next in
-      record { fits = rw e r.renewed.fits; took = λ _. (t.0 ++ inputs, Running-after w e t.0 t.1) }
+      record {
+        fits = rw e r.renewed.fits;
+        idle = λ _ j d low. r.idle j d (omega (arith, low, l, specs-length m.stages news r.renewed.specs));
+        took = λ _. (t.0 ++ inputs, Running-after w e t.0 t.1);
+      }
 
 -- a mill whose stages fit, where memory ran out
 pub IsMill-spent : (w : ℕ) (n : MillState) → n.width ≡ w → n.spent ≡ true → All (IsFit w) n.stages → IsMill n
-IsMill-spent w n e s fits = record { fits = rw e fits; took = λ h. absurd (cc) }
+IsMill-spent w n e s fits = record { fits = rw e fits; idle = λ h. absurd (cc); took = λ h. absurd (cc) }

@@ -12,10 +12,10 @@ use Rattle.dpc_model.specs.declared.plans.FragSpec.{FragSpec}
 use Rattle.dpc_model.proofs.IdealCausality.{cut-outputs_after}
 use Rattle.dpc_model.proofs.Cuts.{none-below, none_below-zero}
 use Rattle.dpc_model.proofs.Order.{tagged_time}
-use Rattle.fragment_mill.specs.Mills.{OperatorAfter, MillState, specs_of, new_stage, new_mill, inputs_of, MillAfter}
+use Rattle.fragment_mill.specs.Mills.{spent_of, OperatorAfter, MillState, specs_of, new_stage, new_mill, inputs_of, MillAfter}
 use Rattle.fragment_mill.specs.Milling.{IsFit, IsMill}
 use Rattle.fragment_mill.specs.declared.mill.Stage.{Stage}
-use Rattle.fragment_mill.proofs.Operators.{kind-new, IsFit-new, after-new}
+use Rattle.fragment_mill.proofs.Operators.{kind-new, IsFit-new, idle-new, after-new}
 use Rattle.fragment_mill.proofs.Running.{sound-take}
 use Rattle.fragment_mill.proofs.Stepping.{inputs-kept}
 
@@ -38,8 +38,8 @@ MillAfter-none m fits after e = record {
 }
 
 -- a mill of these stages before bucket 0
-pub IsMill-none : (w : ℕ) (ss : List Stage) → All (IsFit w) ss → All (λ s. OperatorAfter s.operator [] 0) ss → IsMill (record { width = w; stages = ss; next = 0; spent = false })
-IsMill-none w ss fits after = record { fits = fits; took = λ e. ([], MillAfter-none _ fits after refl) }
+pub IsMill-none : (w : ℕ) (ss : List Stage) → All (IsFit w) ss → All (λ s. spent_of s.operator ≡ false) ss → All (λ s. OperatorAfter s.operator [] 0) ss → IsMill (record { width = w; stages = ss; next = 0; spent = false })
+IsMill-none w ss fits idle after = record { fits = fits; idle = λ e. idle; took = λ e. ([], MillAfter-none _ fits after refl) }
 
 -- ---- a new mill
 
@@ -47,12 +47,19 @@ new-fits : (w : ℕ) (ops : List OpSpec) → AreSoundOps ops → AllByRecursion 
 new-fits w [] s = tt
 new-fits w (op ∷ ops) s = (IsFit-new w op s.0, new-fits w ops s.1)
 
+new-idle : (w : ℕ) (ops : List OpSpec) → AllByRecursion (λ (s : Stage). spent_of s.operator ≡ false) (map (new_stage w) ops)
+new-idle w [] = tt
+new-idle w (op ∷ ops) = (idle-new w (length op.reads) op.kind, new-idle w ops)
+
 new-after : (w : ℕ) (ops : List OpSpec) → AllByRecursion (λ (s : Stage). OperatorAfter s.operator [] 0) (map (new_stage w) ops)
 new-after w [] = tt
 new-after w (op ∷ ops) = (after-new w (length op.reads) op.kind, new-after w ops)
 
 pub new-all-fit : (w : ℕ) (ops : List OpSpec) → AreSoundOps ops → All (IsFit w) (map (new_stage w) ops)
 new-all-fit w ops s = All-from_recursion (IsFit w) (map (new_stage w) ops) (new-fits w ops s)
+
+pub new-all-idle : (w : ℕ) (ops : List OpSpec) → All (λ (s : Stage). spent_of s.operator ≡ false) (map (new_stage w) ops)
+new-all-idle w ops = All-from_recursion (λ (s : Stage). spent_of s.operator ≡ false) (map (new_stage w) ops) (new-idle w ops)
 
 pub new-all-after : (w : ℕ) (ops : List OpSpec) → All (λ (s : Stage). OperatorAfter s.operator [] 0) (map (new_stage w) ops)
 new-all-after w ops = All-from_recursion (λ (s : Stage). OperatorAfter s.operator [] 0) (map (new_stage w) ops) (new-after w ops)

@@ -1,2 +1,3 @@
 pub mod Mills
 pub mod Milling
+pub mod Sameness

@@ -1,6 +1,7 @@
 //! The operators of a fragment as one engine.
 #![tactic(auto)]
 
+pub mod laws;
 pub mod mill;
 pub mod operator;
 mod stage;

@@ -4,7 +4,7 @@ ghost use Rattle.dpc_lists.specs.Lists.{last_or};
 ghost use Rattle.dpc_model.specs.Engines.{nameless};
 ghost use Rattle.dpc_model.specs.Fragments.{AreSoundFrags, AreSoundOps};
 ghost use Rattle.dpc_model.specs.declared.plans.FragSpec.{FragSpec};
-ghost use Rattle.fragment_mill.specs.Mills.{OperatorAfter, MillAfter, specs_of, new_mill, new_stage};
+ghost use Rattle.fragment_mill.specs.Mills.{OperatorAfter, MillAfter, spent_of, specs_of, new_mill, new_stage};
 ghost use Rattle.fragment_mill.specs.Milling.{IsFit};
 
 use crate::operator::Operator;
@@ -94,6 +94,7 @@ fn reset_all(stages: &mut [Stage])
     ensures specs { specs_of stages.new ≡ specs_of stages.old }
     ensures fits { (width : ℕ) → All (IsFit width) stages.old → All (IsFit width) stages.new }
     ensures after { All (λ s. OperatorAfter s.operator [] 0) stages.new }
+    ensures idle { All (λ s. spent_of s.operator ≡ false) stages.new }
 {
     for stage in stages.iter_mut() {
         stage.reset();

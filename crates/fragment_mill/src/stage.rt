@@ -1,10 +1,10 @@
 //! A stage of a mill: an operator with what it reads.
-ghost use Rattle.std.specs.Prelude.{◌≡◌, ◌+◌, ◌^◌, ◌<◌, ◌++◌, ◌↔◌, ℕ, List, [], map, IfOk, OnOk, IsTrue};
+ghost use Rattle.std.specs.Prelude.{◌≡◌, ◌+◌, ◌^◌, ◌<◌, ◌++◌, ◌↔◌, ℕ, false, List, [], map, IfOk, OnOk, IsTrue};
 ghost use Rattle.dpc_lists.specs.Lists.{push};
 ghost use Rattle.dpc_model.specs.Engines.{Accepts};
 ghost use Rattle.dpc_model.specs.Fragments.{serial, tag, read_wire, at_port, IsSoundKind};
 ghost use Rattle.dpc_model.specs.declared.tuples.Tagged.{Tagged};
-ghost use Rattle.fragment_mill.specs.Mills.{OperatorAfter, next_of, width_of, inputs_of, spec_of, new_stage};
+ghost use Rattle.fragment_mill.specs.Mills.{OperatorAfter, next_of, width_of, spent_of, inputs_of, spec_of, new_stage};
 ghost use Rattle.fragment_mill.specs.Milling.{IsFit, added_of};
 
 use crate::mill::Stage;
@@ -116,6 +116,7 @@ impl Stage {
             → outputs.new.items ≡ push outputs.old.items (added_of self.old.operator before (inputs_of inputs.now outputs.old.items self.old.reads) k)) }
         ensures after { OnOk result ((before : List Tagged) → OperatorAfter self.old.operator before k
             → OperatorAfter self.new.operator (before ++ inputs_of inputs.now outputs.old.items self.old.reads) (k + 1)) }
+        ensures idle { OnOk result (spent_of self.new.operator ≡ false) }
         ensures spec { spec_of self.new ≡ spec_of self.old }
         ensures fits { (width : ℕ) → IsFit width self.old → IsFit width self.new }
     {
@@ -129,6 +130,7 @@ impl Stage {
     /// Its operator's state before bucket 0.
     pub(crate) fn reset(&mut self)
         ensures after { OperatorAfter self.new.operator [] 0 }
+        ensures idle { spent_of self.new.operator ≡ false }
         ensures spec { spec_of self.new ≡ spec_of self.old }
         ensures fits { (width : ℕ) → IsFit width self.old → IsFit width self.new }
     {

@@ -8,8 +8,8 @@ use dpc_model::messages::NodeState;
 use dpc_model::plans::MOST_REPLICAS;
 use std::marker::Model;
 
-/// One replica's asks and promises. While it recovers the others of its fragment serve: it asks each of
-/// them, and a replica that granted doesn't begin to recover before the ask is over. No call takes memory.
+/// One replica's asks and promises. While it reconciles the others of its fragment serve: it asks each of
+/// them, and a replica that granted doesn't begin to reconcile before the ask is over. No call takes memory.
 /// Contracts see a `Grants`.
 #[derive(Drop)]
 pub struct GrantCore {
@@ -138,7 +138,7 @@ impl GrantCore {
         granted
     }
 
-    /// Whether a grant of this ask lets it recover: it is the own ask that runs, and nobody has its promise.
+    /// Whether a grant of this ask lets it reconcile: it is the own ask that runs, and nobody has its promise.
     pub fn on_grant(&self, inc: u64, ask: u64) -> bool
         ensures { result ≡ may_enter_by self.now (inc, ask) }
     {
@@ -158,12 +158,12 @@ impl GrantCore {
         self.heard[r] = later((inc, over), self.heard[r]);
     }
 
-    /// A tick, with whether each replica is silent. A promise to a silent one ends.
-    pub fn on_tick(&mut self, silent: &[bool])
-        ensures { self.new ≡ after_absence self.old silent.now }
+    /// A tick, with whether each replica is absent. A promise to an absent one ends.
+    pub fn on_tick(&mut self, absent: &[bool])
+        ensures { self.new ≡ after_absence self.old absent.now }
     {
         if let Some(promise) = &self.promise {
-            if silent.get(promise.to).copied().unwrap_or(false) {
+            if absent.get(promise.to).copied().unwrap_or(false) {
                 self.promise = None;
             }
         }

@@ -1,4 +1,4 @@
-//! Asking the other replicas of a fragment to recover, and granting.
+//! Asking the other replicas of a fragment to reconcile, and granting.
 #![tactic(auto)]
 
 pub mod grants;

@@ -1,7 +1,7 @@
-use Rattle.std.proofs.Common.{◌<◌, [], length, ◌∙◌, arith}
+use Rattle.std.proofs.Common.{◌≡◌, ◌<◌, false, [], length, ◌∙◌, arith}
 use Rattle.std.proofs.lemmas.List.Elements.{All-set}
 use Rattle.std.proofs.Math.Seq.{map-set_same}
-use Rattle.fragment_mill.specs.Mills.{OperatorAfter, spec_of}
+use Rattle.fragment_mill.specs.Mills.{spent_of, OperatorAfter, spec_of}
 use Rattle.fragment_mill.specs.Milling.{IsFit}
 use Rattle.fragment_mill.proofs.Running.{below-more}
 use Rattle.fragment_mill.proofs.mill.reset_all.Goals as goal
@@ -19,4 +19,5 @@ loop-stage-preserved c =
           let fits = h.fits w f in
           All-set (IsFit w) ss i _ (c.reset.ensures.fits w (fits i s low)) fits;
       after = below-more (λ s. OperatorAfter s.operator [] 0) i _ ss low h.after c.reset.ensures.after;
+      idle = below-more (λ s. spent_of s.operator ≡ false) i _ ss low h.idle c.reset.ensures.idle;
     }

@@ -54,7 +54,7 @@ loop-i-preserved c =
       end = h.end;
       running =
           Running-more _ _ c.args.k c.loop-i.i c.index_mut.result.now _ _ mill idle c.requires.next c.requires.accepts h.running inside c.index_mut.ensures.value
-          c.bucket.new.self c.bucket.new.outputs.items c.in-Ok.ensures.added c.in-Ok.ensures.after c.bucket.ensures.spec c.bucket.ensures.fits;
+          c.bucket.new.self c.bucket.new.outputs.items c.in-Ok.ensures.added c.in-Ok.ensures.after c.in-Ok.ensures.idle c.bucket.ensures.spec c.bucket.ensures.fits;
     }
 
 pub invariant_of-self-2 : goal.invariant_of-self-2
