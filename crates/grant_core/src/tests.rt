@@ -24,7 +24,7 @@ fn the_lesser_number_goes_first(rt: HostRuntime) {
 }
 
 #[test]
-fn a_promise_to_a_silent_replica_ends(rt: HostRuntime) {
+fn a_promise_to_an_absent_replica_ends(rt: HostRuntime) {
     let mut zero = GrantCore::new(0, 1, 2);
     assert!(rt; zero.on_ask(1, 1, 1, NodeState::Stable));
     zero.on_tick(&[true, false]);

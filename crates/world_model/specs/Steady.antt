@@ -1,4 +1,4 @@
--- Runs in which nobody is taken for silent, and settling.
+-- Runs in which nobody is taken for absent, and settling.
 use Rattle.std.specs.Prelude.{◌≡◌, ◌≢◌, ⊤, ℕ, ◌+◌, ◌<◌, false, IsTrue, List, [], ◌∷◌, length, IfSome, IsSome, All, ◌++◌}
 use Rattle.dpc_model.specs.Actors.{role_of}
 use Rattle.dpc_model.specs.declared.actors.Role.{Role}
