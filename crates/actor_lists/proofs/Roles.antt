@@ -7,6 +7,7 @@ use Rattle.dpc_model.specs.Actors.{nodes_from}
 use Rattle.dpc_model.specs.declared.actors.Role.{Role}
 use Rattle.dpc_model.specs.declared.actors.Role.TheVariants.{Node as IsNode}
 use Rattle.dpc_model.specs.declared.plans.FragSpec.{FragSpec}
+use Rattle.dpc_model.proofs.Roles.{numbers_where, node_at}
 
 -- one number more
 pub more : (f : ℕ → Role) (n : ℕ) (old now new : List Role) → now ≡ old ++ map f (range_with_len 0 n) → new ≡ now ++ f n ∷ [] → new ≡ old ++ map f (range_with_len 0 (n + 1))
@@ -26,10 +27,7 @@ nodes-more f (suc i) (x ∷ frags) d low =
     (nodes-more (f + 1) i frags d (omega (arith, low)) ∙ ap (λ n. nodes_from (f + 1) (take i frags) ++ map (λ r. (n, r)) (range_with_len 0 (slice_index_or frags i d).replicas)) number)
     ∙ sym (append_assoc (map (λ r. (f, r)) (range_with_len 0 x.replicas)) (nodes_from (f + 1) (take i frags)) _))
 
-abbrev as_node : ℕ × ℕ → Role
-as_node n = IsNode n.0 n.1
-
-same-role : (f : ℕ) (ns : List ℕ) → map as_node (map (λ r. (f, r)) ns) ≡ map (IsNode f) ns
+same-role : (f : ℕ) (ns : List ℕ) → map node_at (map (λ r. (f, r)) ns) ≡ map (IsNode f) ns
 same-role f [] = refl
 same-role f (n ∷ ns) = ap (λ (rs : List Role). IsNode f n ∷ rs) (same-role f ns)
 
@@ -44,18 +42,14 @@ roles-more i frags d old now new low before pushed =
     let nodes : nodes_from 0 (take (i + 1) frags) ≡ front ++ back =
     nodes-more 0 i frags d low ∙ ap (λ n. front ++ map (λ r. (n, r)) (range_with_len 0 (slice_index_or frags i d).replicas)) number in
     pushed ∙ ap (λ (xs : List Role). xs ++ map (IsNode i) (range_with_len 0 (slice_index_or frags i d).replicas)) before
-    ∙ append_assoc old (map as_node front) (map (IsNode i) (range_with_len 0 (slice_index_or frags i d).replicas))
-    ∙ ap (λ (xs : List Role). old ++ (map as_node front ++ xs)) (sym (same-role i (range_with_len 0 (slice_index_or frags i d).replicas)))
-    ∙ ap (λ (xs : List Role). old ++ xs) (sym (map-append as_node front back))
-    ∙ ap (λ (ns : List (ℕ × ℕ)). old ++ map as_node ns) (sym nodes)
-
--- the actors that pass a test, among the first ones
-abbrev pub passing : (Role → Bool) → ℕ → List Role → List ℕ
-passing test i roles = map (λ (x : ℕ × Role). x.0) (filter (λ (x : ℕ × Role). test x.1) (enumerate_from i roles))
+    ∙ append_assoc old (map node_at front) (map (IsNode i) (range_with_len 0 (slice_index_or frags i d).replicas))
+    ∙ ap (λ (xs : List Role). old ++ (map node_at front ++ xs)) (sym (same-role i (range_with_len 0 (slice_index_or frags i d).replicas)))
+    ∙ ap (λ (xs : List Role). old ++ xs) (sym (map-append node_at front back))
+    ∙ ap (λ (ns : List (ℕ × ℕ)). old ++ map node_at ns) (sym nodes)
 
 -- one actor more
 pub passing-more : (test : Role → Bool) (k i : ℕ) (roles : List Role) (d : Role) → i < length roles →
-    passing test k (take (i + 1) roles) ≡ passing test k (take i roles) ++ cond (test (slice_index_or roles i d)) ((k + i) ∷ []) []
+    numbers_where test k (take (i + 1) roles) ≡ numbers_where test k (take i roles) ++ cond (test (slice_index_or roles i d)) ((k + i) ∷ []) []
 passing-more test k i [] d low = absurd (omega (arith, low))
 passing-more test k zero (x ∷ roles) d low =
     let none : k + 0 ≡ k = omega arith in
@@ -63,7 +57,7 @@ passing-more test k zero (x ∷ roles) d low =
 passing-more test k (suc i) (x ∷ roles) d low =
     let next : suc i + 1 ≡ suc (i + 1) = omega arith in
     let number : k + 1 + i ≡ k + suc i = omega arith in
-    let rest = passing-more test (k + 1) i roles d (omega (arith, low)) ∙ ap (λ n. passing test (k + 1) (take i roles) ++ cond (test (slice_index_or roles i d)) (n ∷ []) []) number in
+    let rest = passing-more test (k + 1) i roles d (omega (arith, low)) ∙ ap (λ n. numbers_where test (k + 1) (take i roles) ++ cond (test (slice_index_or roles i d)) (n ∷ []) []) number in
     rw next (elim (test x) as (λ b. map (λ (x : ℕ × Role). x.0) (cond b ((k, x) ∷ filter (λ (x : ℕ × Role). test x.1) (enumerate_from (k + 1) (take (i + 1) roles))) (filter (λ (x : ℕ × Role). test x.1) (enumerate_from (k + 1) (take (i + 1) roles))))
     ≡ map (λ (x : ℕ × Role). x.0) (cond b ((k, x) ∷ filter (λ (x : ℕ × Role). test x.1) (enumerate_from (k + 1) (take i roles))) (filter (λ (x : ℕ × Role). test x.1) (enumerate_from (k + 1) (take i roles)))) ++ cond (test (slice_index_or roles i d)) ((k + suc i) ∷ []) []) [
       | true ↦ ap (λ (ns : List ℕ). k ∷ ns) rest
@@ -71,15 +65,15 @@ passing-more test k (suc i) (x ∷ roles) d low =
     ])
 
 -- the next actor passes
-pub passes : (test : Role → Bool) (i : ℕ) (roles : List Role) (d : Role) (now new : List ℕ) → i < length roles → now ≡ passing test 0 (take i roles) →
-    test (slice_index_or roles i d) ≡ true → new ≡ now ++ i ∷ [] → new ≡ passing test 0 (take (i + 1) roles)
+pub passes : (test : Role → Bool) (i : ℕ) (roles : List Role) (d : Role) (now new : List ℕ) → i < length roles → now ≡ numbers_where test 0 (take i roles) →
+    test (slice_index_or roles i d) ≡ true → new ≡ now ++ i ∷ [] → new ≡ numbers_where test 0 (take (i + 1) roles)
 passes test i roles d now new low before passed pushed =
     let number : 0 + i ≡ i = omega arith in
     pushed ∙ ap (λ (ns : List ℕ). ns ++ i ∷ []) before
-    ∙ sym (passing-more test 0 i roles d low ∙ ap (λ (b : Bool). passing test 0 (take i roles) ++ cond b ((0 + i) ∷ []) []) passed ∙ ap (λ n. passing test 0 (take i roles) ++ n ∷ []) number)
+    ∙ sym (passing-more test 0 i roles d low ∙ ap (λ (b : Bool). numbers_where test 0 (take i roles) ++ cond b ((0 + i) ∷ []) []) passed ∙ ap (λ n. numbers_where test 0 (take i roles) ++ n ∷ []) number)
 
 -- .. or it doesn't
-pub fails : (test : Role → Bool) (i : ℕ) (roles : List Role) (d : Role) (now new : List ℕ) → i < length roles → now ≡ passing test 0 (take i roles) →
-    test (slice_index_or roles i d) ≡ false → new ≡ now → new ≡ passing test 0 (take (i + 1) roles)
+pub fails : (test : Role → Bool) (i : ℕ) (roles : List Role) (d : Role) (now new : List ℕ) → i < length roles → now ≡ numbers_where test 0 (take i roles) →
+    test (slice_index_or roles i d) ≡ false → new ≡ now → new ≡ numbers_where test 0 (take (i + 1) roles)
 fails test i roles d now new low before no-pass same =
-    same ∙ before ∙ sym (passing-more test 0 i roles d low ∙ ap (λ (b : Bool). passing test 0 (take i roles) ++ cond b ((0 + i) ∷ []) []) no-pass ∙ append-nil (passing test 0 (take i roles)))
+    same ∙ before ∙ sym (passing-more test 0 i roles d low ∙ ap (λ (b : Bool). numbers_where test 0 (take i roles) ++ cond b ((0 + i) ∷ []) []) no-pass ∙ append-nil (numbers_where test 0 (take i roles)))

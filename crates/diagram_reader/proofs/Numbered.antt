@@ -1,10 +1,10 @@
 -- The numbers of a line against which no reason of 2 to 5 stands.
 use Rattle.std.specs.Prelude.{if◌then◌else◌, unwrap_or, is_none}
-use Rattle.std.proofs.lemmas.Grind.{common_steps}
-use Rattle.std.proofs.Common.{◌≡◌, ◌||◌, ℕ, ℤ, zero, suc, ◌-◌, ◌^◌, ◌<◌, ◌≤◌, Bool, true, false, cond, ◌&&◌, List, take, Option, None, Some, not, refl, sym, arith, slice_get, nat_lt}
+use Rattle.std.proofs.Common.{◌≡◌, ◌||◌, ℕ, ℤ, zero, suc, ◌-◌, ◌^◌, ◌<◌, ◌≤◌, Bool, true, false, ◌&&◌, List, take, Option, None, Some, not, refl, sym, arith, slice_get, nat_lt}
 use Rattle.dpc_lists.specs.Lists.{is_nil, list_all}
 use Rattle.script_rules.specs.Reasons.{is_its_part, declares, first_of_tests, tests_said, last_time, source_at}
 use Rattle.dpc_model.specs.Words.{Word}
+use Rattle.dpc_lists.proofs.Truths.{both, not-false, not-less}
 use Rattle.script_rules.specs.Statements.{word, number_at, LogLine}
 use Rattle.script_rules.specs.Drafts.{Draft, is_wide, greatest_end, width_of, end_of, source_named}
 use Rattle.script_rules.specs.Places.{must, places_of}
@@ -18,6 +18,7 @@ use Rattle.script_words.proofs.Faults.{is_closed, good_word, ranged, multiple}
 use Rattle.script_words.proofs.Ranges.{u64_is, u64_past}
 use Rattle.script_draft.specs.Caches.{StandsFor}
 use Rattle.script_rules.specs.Spelling.{is_numeral}
+use Rattle.script_rules.proofs.Passing.{greatest_end-fits}
 
 -- the number at a place is one of u64, and in its range
 abbrev IsThere : ℕ → ℕ → List Word → ℕ → Type 0
@@ -26,9 +27,6 @@ IsThere low high ws i = (u64_of (word ws i) ≡ Some (number_at ws i)) × (low �
 ranged_at : (d : Draft) (k : Keyword) (ws : List Word) (i low high : ℕ) → high < 2 ^ 64 → list_all (λ (q : Place). is_closed q.sort) (take i (places_of d k)) ≡ true →
     slice_get (places_of d k) i ≡ Some (must (Range low high)) → IsFaultless d k ws → IsThere low high ws i
 ranged_at d k ws i low high fits closed is h = ranged low high (word ws i) fits (good_word d k ws i (Range low high) closed is h)
-
-pub greatest_end-fits : (d : Draft) → greatest_end d < 2 ^ 64
-greatest_end-fits d = elim (is_wide d) as (λ b. cond b (2 ^ 62 - 1) (2 ^ 40 - 1) < 2 ^ 64) [ true ↦ omega arith | false ↦ omega arith ]
 
 pub header_number : (d : Draft) (place : ℕ) (ws : List Word) → place < 5 → IsFaultless d (key.Header place) ws → u64_of (word ws 0) ≡ Some (number_at ws 0)
 header_number d zero ws l h = (ranged_at d (key.Header 0) ws 0 1 3 (omega arith) refl refl h).0
@@ -57,10 +55,6 @@ tick_clock d ws h = ranged_at d key.Tick ws 0 0 (10 ^ 12) (omega arith) refl ref
 -- where a source stands, no fragment does
 pub source_first : (d : Draft) → is_its_part d key.Source ≡ true → is_nil d.frags ≡ true
 source_first d h = (both (declares d) (is_nil d.frags) (both (declares d && is_nil d.frags) (is_nil d.clients) h).0).1
-  where
-    both : (a b : Bool) → (a && b) ≡ true → (a ≡ true) × (b ≡ true)
-    both true b e = (refl, e)
-    both false b e = absurd cc
 
 -- the end is a number of u64
 pub emit_time : (d : Draft) (ws : List Word) → end_of d < 2 ^ 64 → IsFaultless d key.Emit ws → u64_of (word ws 1) ≡ Some (number_at ws 1)
@@ -71,16 +65,12 @@ release_time d ws fits h = (ranged_at d key.Release ws 1 1 (end_of d) fits refl 
 
 -- ---- log lines
 
-not_false : (b : Bool) → not b ≡ false → b ≡ true
-not_false true e = refl
-not_false false e = absurd cc
-
 -- the time as it was read, for the number that it is
 pub time_stands : (d : Draft) (ws : List Word) → IsFaultless d key.Log ws → StandsFor (u64_of (word ws 1)) (number_at ws 1)
 time_stands d ws h = stands (u64_of (word ws 1)) refl
   where
     numeral : is_numeral (word ws 1) ≡ true
-    numeral = not_false (is_numeral (word ws 1)) (good_word d key.Log ws 1 Natural refl refl h).number
+    numeral = not-false (is_numeral (word ws 1)) (good_word d key.Log ws 1 Natural refl refl h).number
 
     stands : (o : Option ℕ) → u64_of (word ws 1) ≡ o → StandsFor o (number_at ws 1)
     stands None e = u64_past (word ws 1) numeral e
@@ -98,12 +88,9 @@ accepted_time d source t vals (Some n) fits stands e = sym stands
 accepted_time d source t vals None fits stands e =
     let late : nat_lt t (last_time (source_at d source).log) || not (nat_lt t (end_of d)) ≡ false =
     second-false (is_none (source_named d source)) (nat_lt t (last_time (source_at d source).log) || not (nat_lt t (end_of d))) _ e in
-    let past : nat_lt t (end_of d) ≡ false = ltb-false-of t (end_of d) (omega (arith, fits, stands)) in
+    let past : nat_lt t (end_of d) ≡ false = not-less t (end_of d) (omega (arith, fits, stands)) in
     absurd (none (nat_lt t (last_time (source_at d source).log)) (rw past at late))
   where
     none : (a : Bool) → (a || true) ≡ false → ⊥
     none true e = cc
     none false e = cc
-
-    ltb-false-of : (a b : ℕ) → b ≤ a → nat_lt a b ≡ false
-    ltb-false-of a b l = grind (arith, common_steps)

@@ -15,7 +15,7 @@ use Rattle.script_rules.specs.Statements.{word, number_at, pairs, OperatorLine}
 use Rattle.script_rules.specs.Symbols.{formula_of, formulas}
 use Rattle.script_rules.specs.declared.keywords.Keyword.TheVariants as key
 use Rattle.script_rules.specs.declared.places.Sort.TheVariants.{Name, Count, Range}
-use Rattle.script_rules.proofs.Passing.{is_fine}
+use Rattle.script_rules.proofs.Passing.{is_fine, greatest_end-fits}
 use Rattle.script_words.specs.Faultless.{IsFaultless}
 use Rattle.script_words.specs.Numbers.{u64_of}
 use Rattle.script_words.specs.Operands.{are_u64, pairs_of}
@@ -23,7 +23,6 @@ use Rattle.script_words.specs.Options.{given}
 use Rattle.script_words.specs.Readable.{AreReadable, longest, columns_in}
 use Rattle.script_words.proofs.Faults.{IsGood, good_word, filter_readable, filter_one, map_readable, map_count, ranged, join_numerals, join_past}
 use Rattle.script_words.proofs.Lengths.{one_too_long, one_reads_below, too_long_is, reads_below_is, max_le}
-use Rattle.diagram_reader.proofs.Numbered.{greatest_end-fits}
 use Rattle.script_draft.specs.Shapes.{HasShape, Reads}
 use Rattle.script_draft.specs.declared.shape.Shape.TheVariants as shape
 

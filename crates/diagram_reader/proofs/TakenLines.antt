@@ -1,9 +1,9 @@
 -- What is said of a line, from what is said of its words.
 use Rattle.std.specs.Prelude.{⊤}
 use Rattle.std.proofs.Common.{◌≡◌, ℕ, suc, ◌+◌, ◌^◌, ◌<◌, ◌≤◌, true, false, cond, nat_lt, length, ◌==◌, List, [], ◌∷◌, ◌++◌, drop, None, Some, Result, Ok, Err, refl, subst, arith, bytes_eq}
-use Rattle.std.proofs.lemmas.Grind.{common_steps}
 use Rattle.dpc_lists.specs.Lists.{nth}
 use Rattle.dpc_model.specs.Words.{Word}
+use Rattle.dpc_lists.proofs.Truths.{lt-test, not-less}
 use Rattle.script_rules.specs.Lines.{is_skipped, words_of, lines_of, in_front}
 use Rattle.script_rules.specs.Keywords.{looked_up, keywords, late_keywords, keyword_of}
 use Rattle.script_rules.specs.declared.keywords.Keyword.{Keyword}
@@ -73,10 +73,7 @@ known_keyword version w k e =
 
 pub begun_reading : (text : List ℕ) → length text < 2 ^ 26 + 1 → reading text ≡ concluded (read_from 1 nothing_yet (lines_of text))
 unfolding reading
-begun_reading text l = let short : nat_lt (2 ^ 26) (length text) ≡ false = not-lt (2 ^ 26) (length text) (omega (arith, l)) in rw short refl
-  where
-    not-lt : (a b : ℕ) → b ≤ a → nat_lt a b ≡ false
-    not-lt a b h = grind (arith, common_steps)
+begun_reading text l = let short : nat_lt (2 ^ 26) (length text) ≡ false = not-less (2 ^ 26) (length text) (omega (arith, l)) in rw short refl
 
 -- a text has no more lines than bytes
 pub few_lines : (text : List ℕ) → length (lines_of text) ≤ length text
@@ -94,7 +91,4 @@ few_lines (b ∷ bs) =
 
 pub long_reading : (text : List ℕ) → 2 ^ 26 < length text → reading text ≡ Err (record { line = 0; reason = 14 })
 unfolding reading
-long_reading text l = let long : nat_lt (2 ^ 26) (length text) ≡ true = lt (2 ^ 26) (length text) l in rw long refl
-  where
-    lt : (a b : ℕ) → a < b → nat_lt a b ≡ true
-    lt a b h = grind (arith, common_steps)
+long_reading text l = let long : nat_lt (2 ^ 26) (length text) ≡ true = lt-test (2 ^ 26) (length text) l in rw long refl

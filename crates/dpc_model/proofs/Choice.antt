@@ -1,9 +1,11 @@
 -- The choice of a replica keeps the current one where it has the best rank, and else takes the first one that has.
-use Rattle.std.proofs.Common.{◌≡◌, ℕ, zero, suc, ◌<◌, true, false, cond, ◌==◌, List, [], ◌∷◌, map, min, Option, Some, None, unwrap_or, refl, subst, arith}
+use Rattle.std.proofs.Common.{◌≡◌, ℕ, zero, suc, ◌<◌, true, false, cond, ◌==◌, List, [], ◌∷◌, map, min, Option, Some, None, unwrap_or, refl, subst, arith, length}
 use Rattle.std.proofs.lemmas.Grind.{common_steps}
+use Rattle.std.proofs.lemmas.List.{length-map}
 use Rattle.dpc_lists.specs.Lists.{nth, least, place_of}
 use Rattle.dpc_model.specs.Replicas.{rank_order, has_best_rank, choose}
 use Rattle.dpc_model.specs.declared.messages.Rank.{Rank}
+use Rattle.dpc_lists.proofs.Places.{place-within, next_place}
 
 -- a number stands at a place of a list, and at none before it
 record StandsFirst (n d : ℕ) (ns : List ℕ) (i : ℕ) : Type 0 where
@@ -13,9 +15,6 @@ record StandsFirst (n d : ℕ) (ns : List ℕ) (i : ℕ) : Type 0 where
 abbrev place : ℕ → List ℕ → Option ℕ
 place n ns = place_of (λ o. o == n) ns
 
-abbrev shifted : Option ℕ → Option ℕ
-shifted o = elim o [ None ↦ None | Some i ↦ Some (suc i) ]
-
 -- the places before one are the first one and those behind it
 before-suc : (n d m k : ℕ) (ns : List ℕ) → (m == n) ≡ false → ((j : ℕ) → j < k → (nth d ns j == n) ≡ false) → (j : ℕ) → j < suc k → (nth d (m ∷ ns) j == n) ≡ false
 before-suc n d m k ns e f zero h = e
@@ -24,12 +23,12 @@ before-suc n d m k ns e f (suc j) h = f j (omega (arith, h))
 place-first : (n d : ℕ) (ns : List ℕ) (i : ℕ) → place n ns ≡ Some i → StandsFirst n d ns i
 place-first n d [] i e = absurd (cc)
 place-first n d (m ∷ ns) i e =
-    (elim (m == n) as (λ b. (m == n) ≡ b → cond b (Some 0) (shifted (place n ns)) ≡ Some i → StandsFirst n d (m ∷ ns) i) [
+    (elim (m == n) as (λ b. (m == n) ≡ b → cond b (Some 0) (next_place (place n ns)) ≡ Some i → StandsFirst n d (m ∷ ns) i) [
       | true ↦ λ k h.
           let z : 0 ≡ i = cc in
           subst (λ (j : ℕ). StandsFirst n d (m ∷ ns) j) z (record { here = k; before = λ j low. absurd (omega (arith, low)) })
       | false ↦ λ k h.
-          (elim (place n ns) as (λ o. place n ns ≡ o → shifted o ≡ Some i → StandsFirst n d (m ∷ ns) i) [
+          (elim (place n ns) as (λ o. place n ns ≡ o → next_place o ≡ Some i → StandsFirst n d (m ∷ ns) i) [
             | None ↦ λ p q. absurd (cc)
             | Some q ↦ λ p r.
                 let z : suc q ≡ i = cc in
@@ -46,10 +45,10 @@ IsAbsent n (m ∷ ns) = ((m == n) ≡ false) × IsAbsent n ns
 place-none : (n : ℕ) (ns : List ℕ) → place n ns ≡ None → IsAbsent n ns
 place-none n [] e = tt
 place-none n (m ∷ ns) e =
-    (elim (m == n) as (λ b. (m == n) ≡ b → cond b (Some 0) (shifted (place n ns)) ≡ None → IsAbsent n (m ∷ ns)) [
+    (elim (m == n) as (λ b. (m == n) ≡ b → cond b (Some 0) (next_place (place n ns)) ≡ None → IsAbsent n (m ∷ ns)) [
       | true ↦ λ k h. absurd (cc)
       | false ↦ λ k h.
-          (elim (place n ns) as (λ o. place n ns ≡ o → shifted o ≡ None → IsAbsent n (m ∷ ns)) [
+          (elim (place n ns) as (λ o. place n ns ≡ o → next_place o ≡ None → IsAbsent n (m ∷ ns)) [
             | None ↦ λ p q. (k, place-none n ns p)
             | Some q ↦ λ p r. absurd (cc)
           ]) refl h
@@ -88,3 +87,18 @@ choose-best current ranks =
 
 pub choose-first : (current other : ℕ) (ranks : List Rank) → has_best_rank ranks current ≡ false → other < choose current ranks → has_best_rank ranks other ≡ false
 choose-first current other ranks e h = (least-found 3 current (map rank_order ranks) e).before other (rw e at h)
+
+or-within : (current n : ℕ) (o : Option ℕ) → ((i : ℕ) → o ≡ Some i → i < n) → current < n → unwrap_or o current < n
+or-within current n None h low = low
+or-within current n (Some i) h low = h i refl
+
+pub choose-within : (current : ℕ) (ranks : List Rank) → current < length ranks → choose current ranks < length ranks
+choose-within current ranks low =
+    let orders = map rank_order ranks in
+    let best = least 3 orders in
+    let same = length-map ranks rank_order in
+    let other = or-within current (length orders) (place_of (λ o. o == best) orders) (place-within (λ o. o == best) orders) (omega (arith, low, same)) in
+    elim (nth 3 orders current == best) as (λ b. cond b current (unwrap_or (place_of (λ o. o == best) orders) current) < length ranks) [
+      | true ↦ low
+      | false ↦ omega (arith, other, same)
+    ]

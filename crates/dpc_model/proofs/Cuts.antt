@@ -1,10 +1,12 @@
 -- An ordered list below a number, and from it on.
-use Rattle.std.proofs.Common.{◌≡◌, ℕ, zero, suc, ◌+◌, ◌≤◌, ◌<◌, get_or, true, false, cond, nat_lt, nat_le, List, [], ◌∷◌, ◌++◌, length, take, drop, refl, sym, ◌∙◌, ap, arith}
+use Rattle.std.proofs.Common.{◌≡◌, ℕ, zero, suc, ◌+◌, ◌≤◌, ◌<◌, get_or, true, false, cond, nat_lt, nat_le, List, [], ◌∷◌, ◌++◌, length, take, drop, refl, sym, ◌∙◌, ap, arith, ◌-◌}
 use Rattle.std.proofs.lemmas.Grind.{common_steps}
 use Rattle.std.proofs.Math.Seq.{take-append_seam, drop-append_seam}
 use Rattle.std.proofs.lemmas.Bool.{lt-ltb, le-ltb}
-use Rattle.std.specs.List.{filter, AllByRecursion}
-use Rattle.dpc_model.specs.Streams.{NoneBelow, IsOrdered}
+use Rattle.std.specs.List.{filter, AllByRecursion, All}
+use Rattle.std.proofs.lemmas.List.Elements.{All-head, All-tail}
+use Rattle.dpc_model.specs.Streams.{NoneBelow, IsOrdered, cut, count_below}
+use Rattle.dpc_model.specs.declared.tuples.Tuple.{Tuple}
 use Rattle.dpc_model.proofs.Causality.{NoneBelow-append}
 
 module _ {X : Type 0} (key : X → ℕ) where
@@ -77,3 +79,15 @@ module _ {X : Type 0} (key : X → ℕ) where
   ordered-append b [] ys o p h l = p
   ordered-append b (x ∷ xs) ys o p h l =
       (NoneBelow-append key (key x) xs ys o.0 (none_below-all (key x) b ys (omega (arith, h.0)) l), ordered-append b xs ys o.1 p h.1 l)
+
+-- tuples below b are all of what lies below it
+pub cut-below : (b : ℕ) (ts : List Tuple) → All (λ (t : Tuple). t.stime < b) ts → cut ts b ≡ ts
+cut-below b [] low = refl
+cut-below b (t ∷ ts) low =
+    let first = All-head (λ (u : Tuple). u.stime < b) t ts low in
+    let rest = cut-below b ts (All-tail (λ (u : Tuple). u.stime < b) t ts low) in
+    grind (arith, common_steps, first, rest)
+
+pub none-counted : (ts : List Tuple) → count_below ts 0 ≡ 0
+none-counted [] = refl
+none-counted (t ∷ ts) = let out : nat_lt t.stime 0 ≡ false = grind (arith, common_steps) in rw out (none-counted ts)

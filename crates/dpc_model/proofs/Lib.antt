@@ -16,3 +16,6 @@ pub mod Sorting
 pub mod StableItems
 pub mod WindowCausality
 pub mod Crossing
+pub mod Alike
+pub mod Subs
+pub mod Roles

@@ -1,16 +1,19 @@
 -- The element of a number in lists behind one another, and what an actor's number says.
-use Rattle.std.proofs.Common.{◌≡◌, ℕ, zero, suc, ◌+◌, ◌-◌, ◌<◌, ◌≤◌, List, [], ◌∷◌, ◌++◌, map, length, drop, append_assoc, refl, ap, ◌∙◌, arith, Option, unwrap_or, Some, slice_get, slice_index_or}
+use Rattle.std.proofs.Common.{◌≡◌, ℕ, zero, suc, ◌+◌, ◌-◌, ◌<◌, ◌≤◌, List, [], ◌∷◌, ◌++◌, map, length, drop, append_assoc, refl, ap, ◌∙◌, arith, Option, unwrap_or, Some, slice_get, slice_index_or, true, false, nat_lt, ◌⊎◌, inl, inr, ◌*◌, ◌/◌, ◌%◌, max, min}
 use Rattle.std.proofs.lemmas.List.{length-append, length-map}
 use Rattle.std.proofs.lemmas.List.FromFn.{length-map-range_with_len}
 use Rattle.std.proofs.lemmas.Option.{slice_get_past}
 use Rattle.dpc_lists.proofs.Elements.{get-first, get-map}
 use Rattle.std.proofs.Math.Seq.{drop-cons}
-use Rattle.dpc_lists.specs.Lists.{range_with_len}
+use Rattle.std.proofs.lemmas.Grind.{common_steps}
+use Rattle.std.proofs.Math.Nat.{mod-eq-sub-div-mul, div-mul-le_self}
+use Rattle.dpc_lists.specs.Lists.{range_with_len, least, IsRising}
 use Rattle.dpc_model.specs.Actors.{nodes_from, nodes_of, role_of, roles_of}
 use Rattle.dpc_model.specs.declared.actors.Role.{Role}
 use Rattle.dpc_model.specs.declared.actors.Role.TheVariants.{Source as IsSource, Node as IsNode, Client as IsClient, Nobody}
 use Rattle.dpc_model.specs.declared.plans.FragSpec.{FragSpec}
 use Rattle.dpc_model.specs.declared.plans.Plan.{Plan}
+use Rattle.dpc_lists.proofs.Truths.{lt-of, not-lt}
 
 pub get-front : {X : Type 0} (xs ys : List X) (i : ℕ) → i < length xs → slice_get (xs ++ ys) i ≡ slice_get xs i
 get-front [] ys i l = absurd (omega (arith, l))
@@ -125,3 +128,26 @@ pub nobody-role : (plan : Plan) (a past : ℕ) → length plan.sources ≤ a →
 nobody-role plan a past l e h =
     let many = many-clients plan in
     ap (λ (role : Option Role). unwrap_or role Nobody) (past-nodes plan a past l e ∙ slice_get_past (clients_in plan) past (omega (arith, many, h)))
+
+pub le-or : (u v : ℕ) → (u ≤ v) ⊎ (v < u)
+le-or u v = (elim (nat_lt v u) as (λ b. nat_lt v u ≡ b → (u ≤ v) ⊎ (v < u)) [ true ↦ λ e. inr (lt-of v u e) | false ↦ λ e. inl (not-lt v u e) ]) refl
+
+pub zero-or : (n : ℕ) → (n ≡ 0) ⊎ (1 ≤ n)
+zero-or zero = inl refl
+zero-or (suc n) = inr (omega arith)
+
+pub times-le : (a b c : ℕ) → a ≤ b → a * c ≤ b * c
+times-le a b c h = grind (arith, common_steps, h)
+
+pub none-times : (w : ℕ) → 0 * w ≡ 0
+none-times w = omega arith
+
+pub buckets-whole : (w end : ℕ) → end % w ≡ 0 → end / w * w ≡ end
+buckets-whole w end e = omega (arith, e, mod-eq-sub-div-mul end w, div-mul-le_self end w)
+
+pub base-within : (old least count : ℕ) → old ≤ count → max old (min least count) ≤ count
+base-within old least count h = omega (arith, h)
+
+pub rising-lower : (j k : ℕ) (ns : List ℕ) → j ≤ k → IsRising k ns → IsRising j ns
+rising-lower j k [] low h = tt
+rising-lower j k (n ∷ ns) low h = let first = h.0 in (omega (arith, low, first), h.1)

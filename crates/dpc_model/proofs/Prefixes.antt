@@ -1,10 +1,11 @@
 -- What a beginning of a stream that is all up to a bound says of the stream.
-use Rattle.std.proofs.Common.{◌≡◌, ℕ, zero, suc, ◌≤◌, Bool, true, false, cond, List, [], ◌∷◌, ◌++◌, length, refl, ◌∙◌, arith, slice_get, Some}
+use Rattle.std.proofs.Common.{◌≡◌, ℕ, zero, suc, ◌≤◌, Bool, true, false, cond, List, [], ◌∷◌, ◌++◌, length, refl, ◌∙◌, arith, slice_get, Some, take, sym, ap}
 use Rattle.std.proofs.lemmas.Grind.{common_steps}
 use Rattle.std.proofs.lemmas.List.{append-nil}
 use Rattle.std.proofs.lemmas.List.Elements.{filter-append}
 use Rattle.dpc_lists.specs.Lists.{IsPrefixOf}
 use Rattle.std.specs.List.{filter}
+use Rattle.std.proofs.Math.Seq.{take-append_seam}
 use Rattle.dpc_model.specs.Streams.{NoneBelow, time_of, InOrder, cut, is_below}
 use Rattle.dpc_model.specs.declared.tuples.Tuple.{Tuple}
 use Rattle.dpc_model.proofs.IdealCausality.{cut-cut}
@@ -55,3 +56,6 @@ length-filter_le q (x ∷ xs) = elim (q x) as (λ c. length (cond c (x ∷ filte
 
 pub length-cut_le : (b b' : ℕ) (ts : List Tuple) → b ≤ b' → length (cut ts b) ≤ length (cut ts b')
 length-cut_le b b' ts h = rw (← cut-cut ts b b' h) (length-filter_le (is_below b) (cut ts b'))
+
+pub prefix-taken : (xs ys : List Tuple) → IsPrefixOf xs ys → xs ≡ take (length xs) ys
+prefix-taken xs ys p = sym (ap (λ (z : List Tuple). take (length xs) z) p.1 ∙ take-append_seam xs p.0)

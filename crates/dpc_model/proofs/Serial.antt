@@ -1,5 +1,5 @@
 -- Inputs in serial order: what stands at each port, and that each may stand before the next.
-use Rattle.std.proofs.Common.{◌≡◌, ℕ, zero, suc, ◌+◌, ◌<◌, ◌≤◌, Bool, true, false, cond, nat_lt, ◌==◌, List, [], ◌∷◌, ◌++◌, map, length, get_or, refl, ◌∙◌, ap, arith, append-nil, add-one, add-zero}
+use Rattle.std.proofs.Common.{◌≡◌, ℕ, zero, suc, ◌+◌, ◌<◌, ◌≤◌, Bool, true, false, cond, nat_lt, ◌==◌, List, [], ◌∷◌, ◌++◌, map, length, get_or, refl, ◌∙◌, ap, arith, append-nil, add-one, add-zero, sym, append_assoc}
 use Rattle.std.proofs.lemmas.Grind.{common_steps}
 use Rattle.std.proofs.lemmas.List.Elements.{filter-append}
 use Rattle.std.specs.List.{filter, AllAdjacentBelow, AllByRecursion}
@@ -180,3 +180,10 @@ adjacent-ordered xs h =
 
 pub serial-ordered : (xs : List Tagged) → is_serial xs ≡ true → IsOrdered tagged_time xs
 serial-ordered xs h = adjacent-ordered xs (serial-adjacent xs h)
+
+pub tagged_from-push : (p : ℕ) (ins : List (List Tuple)) (ts : List Tuple) → tagged_from p (ins ++ ts ∷ []) ≡ tagged_from p ins ++ map (tag (p + length ins)) ts
+tagged_from-push p [] ts = rw (add-zero p) (append-nil (map (tag p) ts))
+tagged_from-push p (us ∷ ins) ts =
+    let one : (p + 1) + length ins ≡ p + suc (length ins) = omega arith in
+    let rest : tagged_from (p + 1) (ins ++ ts ∷ []) ≡ tagged_from (p + 1) ins ++ map (tag (p + suc (length ins))) ts = rw (← one) (tagged_from-push (p + 1) ins ts) in
+    rw rest (sym (append_assoc (map (tag p) us) (tagged_from (p + 1) ins) (map (tag (p + suc (length ins))) ts)))

@@ -36,7 +36,7 @@ window_after size step b j pos h =
           omega (arith, far)
     ]) refl h
 
-window_count-le : (size step b b' : ℕ) → 0 < step → b ≤ b' → window_count size step b ≤ window_count size step b'
+pub window_count-le : (size step b b' : ℕ) → 0 < step → b ≤ b' → window_count size step b ≤ window_count size step b'
 window_count-le size step b b' pos h =
     (elim (nat_lt (window_count size step b') (window_count size step b)) as (λ c. nat_lt (window_count size step b') (window_count size step b) ≡ c → window_count size step b ≤ window_count size step b') [
       | true ↦ λ e.

@@ -12,7 +12,7 @@ pub struct Sub {
 
 impl Sub {
     ghost use Rattle.std.specs.Prelude.{◌≡◌, ◌+◌, ◌^◌, ◌<◌};
-    ghost use Rattle.dpc_model.specs.Sessions.{no_session, tally_of, with_batch, is_newer_than_kept};
+    ghost use Rattle.dpc_model.specs.Sessions.{no_session, opening_session, tally_of, with_batch, is_newer_than_kept};
     ghost use Rattle.std.specs.Prelude.{true, false, Some};
 
     /// No session yet.
@@ -22,6 +22,17 @@ impl Sub {
         Sub {
             kept: None,
             is_open: false,
+            batches: 0,
+        }
+    }
+
+    /// A session at the opening, to which nothing was sent yet.
+    pub fn opening() -> Sub
+        ensures { result ≡ opening_session }
+    {
+        Sub {
+            kept: Some(Sess { inc: 1, number: 1 }),
+            is_open: true,
             batches: 0,
         }
     }

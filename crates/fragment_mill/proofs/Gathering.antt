@@ -1,5 +1,5 @@
 -- What the wires read, one after another and then sorted.
-use Rattle.std.proofs.Common.{◌≡◌, ℕ, zero, suc, ◌+◌, ◌<◌, ◌≤◌, List, [], ◌∷◌, ◌++◌, map, take, length, get_or, refl, sym, arith, append_assoc, add-zero}
+use Rattle.std.proofs.Common.{◌≡◌, ℕ, zero, suc, ◌+◌, ◌<◌, ◌≤◌, List, [], ◌∷◌, ◌++◌, map, take, length, get_or, refl, sym, arith}
 use Rattle.std.proofs.lemmas.List.{map-append, append-nil, take_more, length-map, length-take-le}
 use Rattle.std.proofs.lemmas.List.Sorted.{IsNonDecreasingBy-from_sort_by_key}
 use Rattle.std.proofs.lemmas.Fn.{always_returns_same}
@@ -15,6 +15,7 @@ use Rattle.dpc_model.specs.declared.tuples.Tagged.{Tagged}
 use Rattle.dpc_model.specs.declared.operators.Wire.{Wire}
 use Rattle.dpc_model.specs.declared.operators.Wire.TheVariants.{Op}
 use Rattle.dpc_model.proofs.Sorting.{sorted-is}
+use Rattle.dpc_model.proofs.Serial.{tagged_from-push}
 
 nth-past : (outs : List (List Tuple)) (i : ℕ) → length outs ≤ i → nth [] outs i ≡ []
 nth-past [] i h = refl
@@ -24,13 +25,6 @@ nth-past (ts ∷ outs) (suc i) h = nth-past outs i (omega (arith, h))
 -- a wire that reads an operator that gave nothing yet
 pub reads-past : (p i : ℕ) (xs gathered : List Tagged) (outs : List (List Tuple)) (w : Wire) → w ≡ Op i → length outs ≤ i → gathered ≡ gathered ++ map (tag p) (read_wire xs outs w)
 reads-past p i xs gathered outs w e h = rw (e, nth-past outs i h) (sym (append-nil gathered))
-
-tagged_from-push : (p : ℕ) (ins : List (List Tuple)) (ts : List Tuple) → tagged_from p (ins ++ ts ∷ []) ≡ tagged_from p ins ++ map (tag (p + length ins)) ts
-tagged_from-push p [] ts = rw (add-zero p) (append-nil (map (tag p) ts))
-tagged_from-push p (us ∷ ins) ts =
-    let one : (p + 1) + length ins ≡ p + suc (length ins) = omega arith in
-    let rest : tagged_from (p + 1) (ins ++ ts ∷ []) ≡ tagged_from (p + 1) ins ++ map (tag (p + suc (length ins))) ts = rw (← one) (tagged_from-push (p + 1) ins ts) in
-    rw rest (sym (append_assoc (map (tag p) us) (tagged_from (p + 1) ins) (map (tag (p + suc (length ins))) ts)))
 
 -- one wire or stream more
 pub gathered-more : {X : Type 0} (f : X → List Tuple) (ws : List X) (i : ℕ) (d : X) → i < length ws →

@@ -12,6 +12,7 @@ use Rattle.dpc_model.specs.declared.plans.FragSpec.{FragSpec}
 use Rattle.dpc_model.proofs.IdealCausality.{cut-outputs_after}
 use Rattle.dpc_model.proofs.Cuts.{none-below, none_below-zero}
 use Rattle.dpc_model.proofs.Order.{tagged_time}
+use Rattle.dpc_model.proofs.FragmentValues.{frag-is}
 use Rattle.fragment_mill.specs.Mills.{spent_of, OperatorAfter, MillState, specs_of, new_stage, new_mill, inputs_of, MillAfter}
 use Rattle.fragment_mill.specs.Milling.{IsFit, IsMill}
 use Rattle.fragment_mill.specs.declared.mill.Stage.{Stage}
@@ -85,11 +86,6 @@ frag-sound frags i f s h e = rw e (go frags i s h)
     go [] i s h = absurd (omega (arith, h))
     go (g ∷ frags) zero s h = s.0
     go (g ∷ frags) (suc i) s h = go frags i s.1 (omega (arith, h))
-
-frag-is : (frags : List FragSpec) (i : ℕ) (d f : FragSpec) → slice_get frags i ≡ Some f → get_or frags i d ≡ f
-frag-is [] i d f e = absurd (cc)
-frag-is (g ∷ frags) zero d f e = cc
-frag-is (g ∷ frags) (suc i) d f e = frag-is frags i d f e
 
 -- a mill of the operators of a fragment is that of the fragment
 pub made-of : (w i : ℕ) (frags : List FragSpec) (f g : FragSpec) (m : MillState) → m ≡ new_mill w g.ops → g ≡ get_or frags i g → slice_get frags i ≡ Some f → m ≡ new_mill w f.ops

@@ -1,6 +1,6 @@
 -- A mill over the inputs of a fragment, bucket by bucket.
-use Rattle.std.proofs.Common.{◌≡◌, ℕ, ◌+◌, ◌*◌, ◌/◌, ◌%◌, ◌^◌, ◌<◌, ◌≤◌, List, [], ◌∷◌, ◌++◌, map, sym, ◌∙◌, ap, arith, nat_le}
-use Rattle.std.proofs.Math.Nat.{le-div_iff_mul-le, mod-eq-sub-div-mul, div-mul-le_self}
+use Rattle.std.proofs.Common.{◌≡◌, ℕ, ◌+◌, ◌*◌, ◌/◌, ◌^◌, ◌<◌, ◌≤◌, List, [], ◌∷◌, ◌++◌, map, sym, ◌∙◌, ap, arith, nat_le}
+use Rattle.std.proofs.Math.Nat.{le-div_iff_mul-le}
 use Rattle.std.proofs.lemmas.Grind.{common_steps}
 use Rattle.dpc_model.specs.Streams.{IsOrdered, is_below, cut, cut_each, time_of}
 use Rattle.dpc_model.specs.Engines.{IsBucket, FitsBucket, from_time, engine_value, added_output, nameless}
@@ -148,6 +148,3 @@ Milled-all w ops ports k end m rest output h e whole =
 
 pub bucket-end : (w end k : ℕ) → 0 < w → k < end / w → (k + 1) * w ≤ end
 bucket-end w end k h l = (le-div_iff_mul-le {k = w} {x = k + 1} {y = end} h).0 (omega (arith, l))
-
-pub buckets-whole : (w end : ℕ) → end % w ≡ 0 → end / w * w ≡ end
-buckets-whole w end e = omega (arith, e, mod-eq-sub-div-mul end w, div-mul-le_self end w)

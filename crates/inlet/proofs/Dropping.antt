@@ -8,7 +8,7 @@ use Rattle.dpc_model.specs.Engines.{from_time}
 use Rattle.dpc_model.specs.Inlets.{InletState}
 use Rattle.dpc_model.specs.PartStands.{InletValue, StandsForInlet}
 use Rattle.dpc_model.specs.declared.tuples.Tuple.{Tuple}
-use Rattle.dpc_model.proofs.Cuts.{none-below, all-from}
+use Rattle.dpc_model.proofs.Cuts.{none-below, all-from, cut-below}
 use Rattle.inlet.specs.Forgotten.{from_first}
 use Rattle.inlet.proofs.Standing.{splits, lacks-some}
 
@@ -29,14 +29,6 @@ from_first-past b (t ∷ ts) o =
     all-past : (n : ℕ) (us : List Tuple) → b ≤ n → NoneBelow time_of n us → NoneBelow time_of b us
     all-past n [] low s = tt
     all-past n (u ∷ us) low s = (let later = s.0 in omega (arith, low, later), all-past n us low s.1)
-
--- tuples below b are all of what lies below it
-cut-below : (b : ℕ) (ts : List Tuple) → All (λ (t : Tuple). t.stime < b) ts → cut ts b ≡ ts
-cut-below b [] low = refl
-cut-below b (t ∷ ts) low =
-    let first = All-head (λ (u : Tuple). u.stime < b) t ts low in
-    let rest = cut-below b ts (All-tail (λ (u : Tuple). u.stime < b) t ts low) in
-    grind (arith, common_steps, first, rest)
 
 -- what is kept of a stream in order of time is in order of time
 pub kept-InOrder : (b : ℕ) (v : InletValue) (x : InletState) → InOrder x.held.stable → StandsForInlet b v x → InOrder v.state.held.stable

@@ -1,5 +1,5 @@
 -- A batch at an inlet that forgot its first stable tuples, and at the plain one.
-use Rattle.std.proofs.Common.{Vec, Global, ◌≡◌, ℕ, Bool, true, false, not, ◌||◌, nat_lt, if◌then◌else◌, List, [], ◌∷◌, ◌++◌, map, length, Option, Some, None, refl, sym, ap, subst, ◌∙◌, arith, append_assoc, append-nil, length-append}
+use Rattle.std.proofs.Common.{Vec, Global, ◌≡◌, ℕ, true, false, not, ◌||◌, nat_lt, if◌then◌else◌, List, [], ◌∷◌, ◌++◌, map, length, Option, Some, None, refl, sym, ap, subst, ◌∙◌, arith, append_assoc, append-nil, length-append}
 use Rattle.std.specs.Borrow.{Bor}
 use Rattle.dpc_lists.specs.Lists.{is_nil}
 use Rattle.dpc_model.specs.Reading.{Reader, Folded, fold_items}
@@ -11,6 +11,7 @@ use Rattle.dpc_model.specs.declared.batches.Taken.TheVariants as taken_as
 use Rattle.dpc_model.specs.declared.messages.Sess.{Sess}
 use Rattle.inlet.specs.Forgotten.{Keeps, IsTaken}
 use Rattle.std.proofs.lemmas.List.{length-map}
+use Rattle.dpc_lists.proofs.Truths.{not-of}
 use Rattle.inlet.proofs.Whole.{whole-taken}
 use Rattle.inlet.specs.Drafts.{Began, drafted, folded_of, IsFold, IsEmpty, committed}
 use Rattle.inlet.specs.Batches.{left_by, IsRead}
@@ -51,11 +52,7 @@ drafted-empty gone v d h =
     all-held (t ∷ ts) = append-nil (t ∷ ts)
 
 began-empty : (gone : List Tuple) (v : InletValue) (d : BatchDraft) → v.count ≡ length (gone ++ v.state.held.stable) → IsEmpty v d → Began (whole gone v).held d
-began-empty gone v d count h = record { first = h.first ∙ count; held = λ e. some (is_nil v.state.held.tentative) (sym h.held ∙ e) }
-  where
-    some : (c : Bool) → not c ≡ true → c ≡ false
-    some true e = cc
-    some false e = refl
+began-empty gone v d count h = record { first = h.first ∙ count; held = λ e. not-of (is_nil v.state.held.tentative) (sym h.held ∙ e) }
 
 folds-held : (gone : List Tuple) (v : InletValue) (items : List Item) (empty d : BatchDraft) (taken : Option (List Item)) → v.count ≡ length (gone ++ v.state.held.stable) → IsEmpty v empty →
     IsFold items empty d taken → fold_items (whole gone v).held items ≡ folded_of (whole gone v).held d taken

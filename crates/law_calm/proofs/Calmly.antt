@@ -16,9 +16,11 @@ use Rattle.dpc_model.specs.declared.plans.StreamRef.TheVariants.{Source, Frag}
 use Rattle.node_model.specs.Mails.{Packet, Plain}
 use Rattle.node_model.specs.Nodes.{PlainNode, streams_of}
 use Rattle.world_model.specs.Worlds.{World, Envelope, home_of, happens}
-use Rattle.law_safety.proofs.Tests.{eq-test}
+use Rattle.dpc_lists.proofs.Truths.{eq-test}
+use Rattle.dpc_model.proofs.Alike.{same_stream-eq, same_stream-self}
+use Rattle.dpc_lists.proofs.Somes.{some-same}
 use Rattle.law_safety.proofs.Distinct.{readers-distinct}
-use Rattle.law_safety.proofs.Senders.{same_stream-eq, sender_sends}
+use Rattle.law_safety.proofs.Senders.{sender_sends}
 use Rattle.law_safety.proofs.Pointwise.{sender-of, port-at}
 use Rattle.law_safety.proofs.Numbering.{home-inputs, any-at}
 use Rattle.law_safety.proofs.Growing.{event-grows}
@@ -50,19 +52,12 @@ OnlyAt ss p s = (j : ℕ) → slice_get ss j ≡ Some s → j ≡ p
 abbrev AlsoAt : List StreamRef → ℕ → StreamRef → Type 0
 AlsoAt ss p s = (j : ℕ) × (slice_get ss j ≡ Some s) × (j ≡ p → ⊥)
 
-some-stream : (y z : StreamRef) → ◌≡◌ {A = Option StreamRef} (Some y) (Some z) → y ≡ z
-some-stream y z d = cc
-
 is-stream : (u s : StreamRef) → (u ≡ s) ⊎ (u ≡ s → ⊥)
 is-stream u s =
     (elim (same_stream u s) as (λ c. same_stream u s ≡ c → (u ≡ s) ⊎ (u ≡ s → ⊥)) [
       | true ↦ λ e. inl (same_stream-eq u s e)
-      | false ↦ λ e. inr (λ same. let clash : false ≡ true = sym e ∙ ap (λ (z : StreamRef). same_stream z s) same ∙ itself s in cc)
+      | false ↦ λ e. inr (λ same. let clash : false ≡ true = sym e ∙ ap (λ (z : StreamRef). same_stream z s) same ∙ same_stream-self s in cc)
     ]) refl
-  where
-    itself : (z : StreamRef) → same_stream z z ≡ true
-    itself (Source v) = eq-test v v refl
-    itself (Frag v) = eq-test v v refl
 
 -- a stream stands nowhere, or somewhere
 found-or : (ss : List StreamRef) (s : StreamRef) → ((j : ℕ) → slice_get ss j ≡ Some s → ⊥) ⊎ ((j : ℕ) × (slice_get ss j ≡ Some s))
@@ -77,7 +72,7 @@ found-or (u ∷ ss) s =
     ]
   where
     none-here : (u : StreamRef) (ss : List StreamRef) (s : StreamRef) → (u ≡ s → ⊥) → ((j : ℕ) → slice_get ss j ≡ Some s → ⊥) → (j : ℕ) → slice_get (u ∷ ss) j ≡ Some s → ⊥
-    none-here u ss s other none zero e = other (some-stream u s e)
+    none-here u ss s other none zero e = other (some-same u s e)
     none-here u ss s other none (suc j) e = none j e
 
 only-or : (ss : List StreamRef) (p : ℕ) (s : StreamRef) → OnlyAt ss p s ⊎ AlsoAt ss p s
@@ -101,7 +96,7 @@ only-or (u ∷ ss) (suc p) s =
     ]
   where
     behind : (u ≡ s → ⊥) → OnlyAt ss p s → (j : ℕ) → slice_get (u ∷ ss) j ≡ Some s → j ≡ suc p
-    behind other only zero e = absurd (other (some-stream u s e))
+    behind other only zero e = absurd (other (some-same u s e))
     behind other only (suc j) e = ap suc (only j e)
 
 -- who reads a fragment at a port is among its readers

@@ -5,6 +5,7 @@ use Rattle.dpc_lists.specs.Lists.{changed}
 use Rattle.dpc_model.specs.Actors.{role_of, nodes_of}
 use Rattle.dpc_model.specs.declared.actors.Role.TheVariants.{Source as IsSource, Node as IsNode, Client as IsClient}
 use Rattle.dpc_model.specs.declared.messages.Event.{Event}
+use Rattle.dpc_lists.proofs.Somes.{some-same}
 use Rattle.node_model.specs.Mails.{Mail, Stepped}
 use Rattle.node_model.specs.Nodes.{Home, PlainNode, restarted_node}
 use Rattle.node_model.specs.NodeSteps.{packet_step, mill_step, tick_step}
@@ -58,13 +59,10 @@ slot-calm w most a f r fine calm role =
     let here : slot_of w a ≡ found.0 = ap (λ (o : Option Slot). unwrap_or o (record { last_inc = 0; node = None })) found.1 in
     subst IsCalmSlot (sym here) (calm (node_place w.plan a) found.0 found.1)
 
-some-node : (y z : PlainNode) → ◌≡◌ {A = Option PlainNode} (Some y) (Some z) → y ≡ z
-some-node y z e = cc
-
 pub up-calm : (w : World) (most a f r : ℕ) (n : PlainNode) → IsFine w most → AreCalmSlots w.nodes → role_of w.plan a ≡ IsNode f r → (slot_of w a).node ≡ Some n → n.recovering ≡ false
 up-calm w most a f r n fine calm role up =
     let c = slot-calm w most a f r fine calm role in
-    subst (λ (z : PlainNode). z.recovering ≡ false) (some-node c.node n (sym c.up ∙ up)) c.whole
+    subst (λ (z : PlainNode). z.recovering ≡ false) (some-same c.node n (sym c.up ∙ up)) c.whole
 
 -- ---- the slots after an event
 

@@ -23,9 +23,11 @@ use Rattle.node_model.specs.Nodes.{Home, PlainNode, streams_of}
 use Rattle.node_model.specs.NodeSteps.{done_at}
 use Rattle.world_model.specs.Worlds.{World, Envelope, home_of, slot_of}
 use Rattle.world_model.specs.SessionLaw.{Channel}
-use Rattle.law_safety.proofs.Tests.{both, eq-of, eq-test}
+use Rattle.dpc_lists.proofs.Truths.{eq-of, eq-test}
+use Rattle.dpc_lists.proofs.Places.{place-nth}
+use Rattle.dpc_model.proofs.Alike.{same_sess-eq}
+use Rattle.dpc_lists.proofs.Somes.{some-same}
 use Rattle.law_safety.proofs.Distinct.{readers-distinct}
-use Rattle.law_safety.proofs.Delivered.{place-nth}
 use Rattle.law_safety.proofs.Pointwise.{sender-of}
 use Rattle.law_safety.proofs.Numbering.{home-inputs}
 use Rattle.law_safety.proofs.Growing.{Grows}
@@ -47,9 +49,6 @@ never-next u v h = grind (arith, common_steps)
 
 not-itself : (u : Sess) → u ≡ record u { number = u.number + 1 } → ⊥
 not-itself u e = let n = ap (λ (z : Sess). z.number) e in omega (arith, n)
-
-pub same-fields : (v u : Sess) → same_sess v u ≡ true → v ≡ u
-same-fields v u e = let p = both (v.inc == u.inc) (v.number == u.number) e in let one = eq-of v.inc u.inc p.0 in let two = eq-of v.number u.number p.1 in rw (one, two) refl
 
 -- ---- what is kept
 
@@ -80,15 +79,6 @@ pub record IsKept (plan : Plan) (x p f : ℕ) (w : World) : Type 0 where
 
 -- ---- small facts
 
-some-port : (y z : Port) → ◌≡◌ {A = Option Port} (Some y) (Some z) → y ≡ z
-some-port y z d = cc
-
-some-node : (y z : PlainNode) → ◌≡◌ {A = Option PlainNode} (Some y) (Some z) → y ≡ z
-some-node y z d = cc
-
-some-stream : (y z : StreamRef) → ◌≡◌ {A = Option StreamRef} (Some y) (Some z) → y ≡ z
-some-stream y z d = cc
-
 -- a port acknowledges no more than it holds
 pub done-few : (home : Home) (z : PlainNode) (q : Port) → done_at home z q ≤ length q.inlet.held.stable
 done-few home z q =
@@ -101,12 +91,9 @@ done-few home z q =
 pub none-indexed : (l : Channel) (es : List Envelope) (k : ℕ) (e : Envelope) (i : ℕ) → indexes l es ≡ [] → slice_get es k ≡ Some e → index_of l e ≡ Some i → ⊥
 none-indexed l [] k e i none there at = cc
 none-indexed l (y ∷ es) zero e i none there at =
-    let it : y ≡ e = some-envelope y e there in
+    let it : y ≡ e = some-same y e there in
     let first : index_of l y ≡ Some i = ap (λ (z : Envelope). index_of l z) it ∙ at in
     let clash : i ∷ indexes l es ≡ [] = subst (λ (o : Option ℕ). elim o as (λ _. List ℕ) [ None ↦ indexes l es | Some j ↦ j ∷ indexes l es ] ≡ []) first none in cc
-  where
-    some-envelope : (y z : Envelope) → ◌≡◌ {A = Option Envelope} (Some y) (Some z) → y ≡ z
-    some-envelope y z d = cc
 none-indexed l (y ∷ es) (suc k) e i none there at =
     elim (index_of l y) as (λ o. elim o as (λ _. List ℕ) [ None ↦ indexes l es | Some j ↦ j ∷ indexes l es ] ≡ [] → ⊥) [
       | None ↦ λ f. none-indexed l es k e i f there at
@@ -146,7 +133,7 @@ module _ (w next : World) (most : ℕ) (fine : IsFine w most) (calm : AreCalmSlo
       by-new count e to (inr new) =
           let a = new.acks in
           let place = stream-is e.to a.place a.stream a.reads a.sends to in
-          let is : a.port ≡ r = some-port a.port r (sym a.there ∙ ap (λ (z : ℕ). slice_get new.after.ports z) place ∙ sym (ap (λ (o : Option PlainNode). node_port p o) new.now) ∙ there) in
+          let is : a.port ≡ r = some-same a.port r (sym a.there ∙ ap (λ (z : ℕ). slice_get new.after.ports z) place ∙ sym (ap (λ (o : Option PlainNode). node_port p o) new.now) ∙ there) in
           let few = done-few Here new.after a.port in
           let it = a.count_is in
           inr (subst (λ (z : Port). count ≤ length z.inlet.held.stable) is (omega (arith, few, it)))
@@ -163,7 +150,7 @@ module _ (w next : World) (most : ℕ) (fine : IsFine w most) (calm : AreCalmSlo
       let t = c.took in
       let from = sender-of w.plan (streams_of Here) c.envelope.sender p q.chosen t.sender in
       let reads : slice_get (streams_of Here) p ≡ Some (Frag f) = sym (ap (λ (ss : List StreamRef). slice_get ss p) (home-inputs Here b)) ∙ ap (λ (z : Role). slice_get (inputs_of w.plan z) p) (sym role) ∙ port.there in
-      let stream : from.stream ≡ Frag f = some-stream from.stream (Frag f) (sym from.at ∙ reads) in
+      let stream : from.stream ≡ Frag f = some-same from.stream (Frag f) (sym from.at ∙ reads) in
       let sender : nth 0 (senders_of w.plan (Frag f)) q.chosen ≡ c.envelope.sender = ap (λ (s : StreamRef). nth 0 (senders_of w.plan s) q.chosen) (sym stream) ∙ place-nth c.envelope.sender (senders_of w.plan from.stream) q.chosen from.place in
       let mine : (c.envelope.sender == nth 0 (senders_of w.plan (Frag f)) q.chosen) ≡ true = eq-test c.envelope.sender (nth 0 (senders_of w.plan (Frag f)) q.chosen) (sym sender) in
       let to : (c.envelope.to == x) ≡ true = eq-test c.envelope.to x c.to in
@@ -201,11 +188,11 @@ module _ (w next : World) (most : ℕ) (fine : IsFine w most) (calm : AreCalmSlo
           let clash : true ≡ false = sym now ∙ other in cc
       by-cases q was moved (inr new) =
           let place = asks-place w most x p (Frag f) fine port x g b new.node new.after.ports e.to asks role new.up refl to new.asks in
-          let its : new.asks.port ≡ q = some-port new.asks.port q (sym new.asks.there ∙ ap (λ (z : ℕ). slice_get new.node.ports z) place ∙ sym (ap (λ (o : Option PlainNode). node_port p o) new.up) ∙ was) in
+          let its : new.asks.port ≡ q = some-same new.asks.port q (sym new.asks.there ∙ ap (λ (z : ℕ). slice_get new.node.ports z) place ∙ sym (ap (λ (o : Option PlainNode). node_port p o) new.up) ∙ was) in
           let session : asks.sess ≡ r.inlet.sess = new.asks.session r (ap (λ (z : ℕ). slice_get new.after.ports z) place ∙ sym (ap (λ (o : Option PlainNode). node_port p o) new.now) ∙ there) in
           let says : asks ≡ asked_by (with_next_session q.inlet) = new.asks.asks ∙ ap (λ (z : Port). asked_by (with_next_session z.inlet)) its in
           let reads : slice_get (streams_of Here) p ≡ Some (Frag f) = sym (ap (λ (ss : List StreamRef). slice_get ss p) (home-inputs Here b)) ∙ ap (λ (z : Role). slice_get (inputs_of w.plan z) p) (sym role) ∙ port.there in
-          let stream : new.asks.stream ≡ Frag f = some-stream new.asks.stream (Frag f) (sym new.asks.reads ∙ ap (λ (z : ℕ). slice_get (streams_of Here) z) place ∙ reads) in
+          let stream : new.asks.stream ≡ Frag f = some-same new.asks.stream (Frag f) (sym new.asks.reads ∙ ap (λ (z : ℕ). slice_get (streams_of Here) z) place ∙ reads) in
           opened q new its session says stream moved
         where
           opened : (q : Port) (n : AsksNow w next most fine calm harmless x g b role e.to asks) → n.asks.port ≡ q → asks.sess ≡ r.inlet.sess → asks ≡ asked_by (with_next_session q.inlet) → n.asks.stream ≡ Frag f → Stays w Here x p q r ⊎ Opens q r →
@@ -245,7 +232,7 @@ module _ (w next : World) (most : ℕ) (fine : IsFine w most) (calm : AreCalmSlo
               let below = n.below in
               omega (arith, low, base_low, below)
           by-waits (inr answered) =
-              let sess_is : n.asked.sess ≡ q.inlet.sess = same-fields n.asked.sess q.inlet.sess (subst (λ (z : Sess). same_sess n.asked.sess z ≡ true) s.sess (subst (λ (z : Sess). same_sess z r.inlet.sess ≡ true) (sym n.session) same)) in
+              let sess_is : n.asked.sess ≡ q.inlet.sess = same_sess-eq n.asked.sess q.inlet.sess (subst (λ (z : Sess). same_sess n.asked.sess z ≡ true) s.sess (subst (λ (z : Sess). same_sess z r.inlet.sess ≡ true) (sym n.session) same)) in
               fresh a c q.inlet.sess n.node is n.up (subst (λ (z : Sess). is_newer_than_kept z (nth no_session n.node.subs reader.place).kept ≡ true) sess_is n.newer) (subst (λ (z : ℕ). WasAnswered w z x q.inlet.sess) n.to answered)
 
       by-cases : (c : ℕ) (is : role_of w.plan e.sender ≡ IsNode f c) (q : Port) → port_at w x p ≡ Some q → Stays w Here x p q r ⊎ Opens q r → (slice_get w.envelopes k ≡ Some e) ⊎ RefusesNow w next most fine calm harmless e.sender f c is x reader.place u → same_sess u r.inlet.sess ≡ false

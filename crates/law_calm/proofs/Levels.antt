@@ -1,9 +1,8 @@
 -- The bases of a fragment's replicas, and what a reader acknowledged to them, stay at most a level that does not fall.
-use Rattle.std.proofs.Common.{◌≡◌, ℕ, ◌≤◌, Bool, true, false, cond, ◌&&◌, ◌==◌, List, refl, sym, ap, subst, ◌∙◌, arith, Option, Some, slice_get, ◌⊎◌, inl, inr}
+use Rattle.std.proofs.Common.{◌≡◌, ℕ, ◌≤◌, Bool, true, false, cond, ◌&&◌, ◌==◌, refl, sym, ap, subst, ◌∙◌, arith, Some, slice_get, ◌⊎◌, inl, inr}
 use Rattle.dpc_model.specs.Actors.{role_of, sends_stream}
 use Rattle.dpc_model.specs.declared.actors.Role.{Role}
 use Rattle.dpc_model.specs.declared.actors.Role.TheVariants.{Node as IsNode}
-use Rattle.dpc_model.specs.Sessions.{Acked}
 use Rattle.dpc_model.specs.declared.messages.Message.TheVariants as message
 use Rattle.dpc_model.specs.declared.plans.Plan.{Plan}
 use Rattle.dpc_model.specs.declared.plans.StreamRef.TheVariants.{Frag}
@@ -11,19 +10,18 @@ use Rattle.node_model.specs.Mails.{Packet, Plain, SnapFor, Stepped, Snap}
 use Rattle.node_model.specs.Nodes.{Home, PlainNode}
 use Rattle.node_model.specs.NodeSteps.{after_adoption, with_marks_ended, packet_step, mill_step, tick_step}
 use Rattle.world_model.specs.Worlds.{World, Envelope, Slot, home_of, slot_of}
-use Rattle.law_safety.proofs.Tests.{eq-test}
+use Rattle.dpc_lists.proofs.Truths.{eq-test}
+use Rattle.dpc_lists.proofs.Somes.{some-same}
 use Rattle.law_safety.proofs.Happening.{IsFine}
 use Rattle.law_granting.proofs.Prefix.{IsReader}
 use Rattle.law_readers.proofs.Counting.{IsLow, TellsLow, delivered-low, milled-low, ticked-low}
+use Rattle.law_readers.proofs.Kept.{low-more}
 use Rattle.law_calm.proofs.Doing.{AreCalmSlots, up-calm, HasStepped, NodeDoes}
 
 -- the replicas of fragment f, and each acknowledgement of the reader x to one of them
 pub record IsLevel (plan : Plan) (x f b : ℕ) (w : World) : Type 0 where
   pub nodes : (a r : ℕ) (n : PlainNode) → role_of plan a ≡ IsNode f r → (slot_of w a).node ≡ Some n → IsLow (home_of plan (f, r)) x b n.acks n.base
   pub told : (k i count : ℕ) (e : Envelope) → slice_get w.envelopes k ≡ Some e → e.sender ≡ x → sends_stream (Frag f) (role_of plan e.to) ≡ true → e.packet ≡ Plain (message.Ack i count) → count ≤ b
-
-pub low-more : (home : Home) (x b d : ℕ) (acks : List Acked) (base : ℕ) → b ≤ d → IsLow home x b acks base → IsLow home x d acks base
-low-more home x b d acks base more h = let low = h.base in record { base = omega (arith, low, more); many = h.many; acks = λ k e. let own = h.acks k e in omega (arith, own, more) }
 
 -- a snapshot is not taken where the node does not recover
 snap-low : (home : Home) (x b a i try : ℕ) (s : Snap) (n : PlainNode) → n.recovering ≡ false → IsLow home x b n.acks n.base → IsLow home x b (packet_step home a (SnapFor i try s) n).after.acks (packet_step home a (SnapFor i try s) n).after.base
@@ -54,11 +52,8 @@ module _ (w next : World) (most : ℕ) (fine : IsFine w most) (calm : AreCalmSlo
 
     stepped-low : (n z : PlainNode) (t : Stepped PlainNode) → HasStepped w next a n t → (slot_of next a).node ≡ Some z → IsLow Here x b t.after.acks t.after.base → IsLow Here x d z.acks z.base
     stepped-low n z t s now low =
-        let it : t.after ≡ z = some-node t.after z (sym s.now ∙ now) in
+        let it : t.after ≡ z = some-same t.after z (sym s.now ∙ now) in
         low-more Here x b d z.acks z.base more (subst (λ (y : PlainNode). IsLow Here x b y.acks y.base) it low)
-      where
-        some-node : (y v : PlainNode) → ◌≡◌ {A = Option PlainNode} (Some y) (Some v) → y ≡ v
-        some-node y v e = cc
 
     does-low : NodeDoes w Here a next → (z : PlainNode) → (slot_of next a).node ≡ Some z → IsLow Here x d z.acks z.base
     does-low (NodeDoes.Rests slot sends) z now = low-more Here x b d z.acks z.base more (h.nodes a r z role (sym (ap (λ (s : Slot). s.node) slot) ∙ now))

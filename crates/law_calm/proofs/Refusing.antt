@@ -10,11 +10,11 @@ use Rattle.dpc_model.specs.declared.messages.Message.TheVariants as message
 use Rattle.node_model.specs.Mails.{Packet, Plain, SnapFor, Mail, mail, Stepped}
 use Rattle.node_model.specs.Nodes.{Home, PlainNode, streams_of, own_readers, shown}
 use Rattle.node_model.specs.NodeSteps.{idle_step, reader_place, on_subscribe, with_marks_ended, packet_step, mill_step, tick_step}
-use Rattle.dpc_lists.proofs.Places.{place-within}
-use Rattle.law_safety.proofs.Tests.{lt-of}
+use Rattle.dpc_lists.proofs.Places.{place-within, place-nth}
+use Rattle.dpc_lists.proofs.Truths.{lt-of}
 use Rattle.law_safety.proofs.Histories.{AreDistinct}
-use Rattle.law_safety.proofs.Delivered.{place-nth}
-use Rattle.law_granting.proofs.Each.{Each, each-weaker, each-subscription}
+use Rattle.dpc_lists.proofs.Each.{Each, each-weaker}
+use Rattle.law_granting.proofs.Each.{each-subscription}
 use Rattle.law_readers.proofs.Passing.{is_told, Obliges, Takes, packet-passed, mill-passed, tick-passed}
 
 -- a truncation is of a session that was asked for so

@@ -1,6 +1,6 @@
 -- The opening is calm, and so is every run without crashes.
-use Rattle.std.proofs.Common.{◌≡◌, ℕ, ◌+◌, true, false, List, [], ◌∷◌, ◌++◌, length, refl, sym, ap, subst, ◌∙◌, arith, Option, Some, slice_get}
-use Rattle.std.proofs.lemmas.List.{length-map, append-nil, append_assoc}
+use Rattle.std.proofs.Common.{◌≡◌, ℕ, ◌+◌, true, false, List, [], ◌∷◌, ◌++◌, length, refl, sym, ap, subst, ◌∙◌, Some, slice_get}
+use Rattle.std.proofs.lemmas.List.{append-nil, append_assoc}
 use Rattle.dpc_lists.specs.Lists.{list_all}
 use Rattle.dpc_model.specs.Inlets.{new_inlet}
 use Rattle.dpc_model.specs.Actors.{role_of, nodes_of}
@@ -8,23 +8,25 @@ use Rattle.dpc_model.specs.Ports.{Port, port_at as opening_port}
 use Rattle.dpc_model.specs.declared.actors.Role.TheVariants.{Node as IsNode}
 use Rattle.dpc_model.specs.declared.messages.Event.{Event}
 use Rattle.dpc_model.specs.declared.plans.Plan.{Plan}
-use Rattle.node_model.specs.Nodes.{Home, PlainNode, streams_of, own_readers, new_node}
+use Rattle.node_model.specs.Nodes.{Home, PlainNode, streams_of, new_node}
 use Rattle.world_model.specs.Worlds.{World, Envelope, Slot, home_of, happens, run, new_world}
 use Rattle.world_model.specs.Steady.{NoneRecovers}
 use Rattle.law_safety.specs.Plans.{IsCheckedPlan}
-use Rattle.law_safety.proofs.Tests.{both}
-use Rattle.law_safety.proofs.Runs.{run-push}
+use Rattle.dpc_lists.proofs.Truths.{both}
+use Rattle.dpc_lists.proofs.Somes.{some-same}
+use Rattle.world_model.proofs.Running.{run-push, new_world-none}
 use Rattle.law_safety.proofs.Law.{run-good}
+use Rattle.law_safety.proofs.Growing.{run-plan}
 use Rattle.law_granting.specs.Taken.{node_port}
 use Rattle.law_granting.proofs.Moves.{get-mapped}
 use Rattle.law_granting.proofs.Prefix.{new-order}
 use Rattle.law_granting.proofs.Running.{new-slot, new_world-asking}
-use Rattle.law_readers.proofs.Counting.{IsLow, none-acked}
-use Rattle.law_readers.proofs.Known.{none-newer, new-empty}
-use Rattle.law_readers.proofs.Running.{run-of}
+use Rattle.law_readers.proofs.Counting.{IsLow}
+use Rattle.law_readers.proofs.Known.{none-newer}
 use Rattle.law_readers.proofs.Surely.{sources-sure}
 use Rattle.law_readers.specs.Newest.{IsPortOf, KnowsNoNewer}
 use Rattle.law_readers.specs.Sure.{SourcesSendSurely}
+use Rattle.law_readers.proofs.Kept.{new-node-low}
 use Rattle.law_calm.specs.Crashes.{crashes_none}
 use Rattle.law_calm.proofs.Doing.{AreCalmSlots, IsCalmSlot, calm-recovers}
 use Rattle.law_calm.proofs.Steps.{port_at}
@@ -43,12 +45,8 @@ new-slots plan i slot e =
     let k = get-mapped (λ (n : ℕ × ℕ). record { last_inc = 1; node = Some (new_node (home_of plan n)) }) (nodes_of plan) i slot e in
     subst IsCalmSlot k.2 (record { first = refl; node = new_node (home_of plan k.0); up = refl; whole = new-whole (home_of plan k.0) })
 
-new-low : (home : Home) (x b : ℕ) → IsLow home x b (new_node home).acks (new_node home).base
-unfolding new_node
-new-low home x b = record { base = omega arith; many = length-map (own_readers home) (λ (_ : ℕ). (0, 0)); acks = λ k e. let none = none-acked (own_readers home) k in omega (arith, none) }
-
 none-sent : (plan : Plan) (k : ℕ) (e : Envelope) → slice_get (new_world plan).envelopes k ≡ Some e → ⊥
-none-sent plan k e there = none-there k (new_world plan).envelopes (new-empty plan) there
+none-sent plan k e there = none-there k (new_world plan).envelopes (new_world-none plan) there
   where
     none-there : (k : ℕ) (es : List Envelope) → es ≡ [] → slice_get es k ≡ Some e → ⊥
     none-there k [] same d = cc
@@ -59,13 +57,10 @@ new-level plan x f b =
     record {
       nodes = λ a r n role up.
           let slot = new-slot plan a f r role in
-          let it = some-node (new_node (home_of plan (f, r))) n (sym (ap (λ (z : Slot). z.node) slot) ∙ up) in
-          subst (λ (z : PlainNode). IsLow (home_of plan (f, r)) x b z.acks z.base) it (new-low (home_of plan (f, r)) x b);
+          let it = some-same (new_node (home_of plan (f, r))) n (sym (ap (λ (z : Slot). z.node) slot) ∙ up) in
+          subst (λ (z : PlainNode). IsLow (home_of plan (f, r)) x b z.acks z.base) it (new-node-low (home_of plan (f, r)) x b);
       told = λ k i count e there mine to packet. absurd (none-sent plan k e there);
     }
-  where
-    some-node : (y z : PlainNode) → ◌≡◌ {A = Option PlainNode} (Some y) (Some z) → y ≡ z
-    some-node y z d = cc
 
 new-bound : (home : Home) (j : ℕ) (q : Port) → slice_get (new_node home).ports j ≡ Some q → q.inlet.held.bound ≡ 0
 unfolding new_node
@@ -98,7 +93,7 @@ module _ (plan : Plan) (checked : IsCheckedPlan plan) where
   calm-step before e none h =
       let w = run plan before in
       let g = run-good plan before checked in
-      let same = run-of plan before in
+      let same = run-plan plan before in
       subst (λ (z : Plan). IsCalmWorld z (happens w e)) same
       (calm-event w (1 + length before) g.fine (λ x p s port. subst (λ (z : Plan). KnowsNoNewer z w x p s) (sym same) (none-newer plan before checked x p s (subst (λ (z : Plan). IsPortOf z x p s) same port)))
       (subst (λ (z : Plan). SourcesSendSurely z w.envelopes) (sym same) (sources-sure plan before)) (subst (λ (z : Plan). IsCalmWorld z w) (sym same) h) e none)

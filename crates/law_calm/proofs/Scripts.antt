@@ -1,5 +1,5 @@
 -- A live run of a script that crashes nobody has no crash.
-use Rattle.std.proofs.Common.{◌≡◌, ℕ, zero, suc, ◌-◌, Bool, true, false, List, [], ◌∷◌, ◌++◌, drop, flat_map, refl, ap, subst, ◌∙◌, Some, None}
+use Rattle.std.proofs.Common.{◌≡◌, ℕ, zero, suc, ◌-◌, Bool, true, false, List, [], ◌∷◌, ◌++◌, flat_map, refl, ap, subst, ◌∙◌, Some, None}
 use Rattle.std.proofs.lemmas.List.{append_assoc}
 use Rattle.dpc_lists.specs.Lists.{nth, list_all}
 use Rattle.dpc_model.specs.declared.messages.Event.{Event}
@@ -12,8 +12,8 @@ use Rattle.world_model.specs.Worlds.{World, run, new_world}
 use Rattle.world_model.specs.Schedules.{phase_of, event_of, has_event, Progress, first_progress, next_progress, same_event, may_follow, follows_from, is_live_so_far, is_live}
 use Rattle.world_model.specs.Steady.{NoneRecovers, phase_at}
 use Rattle.law_safety.specs.Plans.{IsCheckedPlan}
-use Rattle.law_safety.proofs.Tests.{both, both-of, all-part}
-use Rattle.law_safety.proofs.Runs.{run-push}
+use Rattle.dpc_lists.proofs.Truths.{both, both-of, all-part, all-drop}
+use Rattle.world_model.proofs.Running.{run-push}
 use Rattle.law_schedules.proofs.Journals.{live-far}
 use Rattle.law_lockstep.specs.Calm.{CalmFrom, IsCalm}
 use Rattle.law_calm.specs.Crashes.{crashes_none, is_no_crash, has_no_crash}
@@ -26,11 +26,6 @@ all-parts q [] ys h = (refl, h)
 all-parts q (x ∷ xs) ys h =
     let p = both (q x) (list_all q (xs ++ ys)) h in
     let r = all-parts q xs ys p.1 in (both-of (q x) (list_all q xs) p.0 r.0, r.1)
-
-all-drop : {X : Type 0} (q : X → Bool) (n : ℕ) (xs : List X) → list_all q xs ≡ true → list_all q (drop n xs) ≡ true
-all-drop q zero xs h = h
-all-drop q (suc n) [] h = h
-all-drop q (suc n) (x ∷ xs) h = all-drop q n xs (both (q x) (list_all q xs) h).1
 
 -- the directives of a phase, or of none
 phase-crashes : (d : PhaseSpec) (phases : List PhaseSpec) (i : ℕ) → list_all is_no_crash d.directives ≡ true → list_all is_no_crash (flat_map (λ (p : PhaseSpec). p.directives) phases) ≡ true → list_all is_no_crash (nth d phases i).directives ≡ true

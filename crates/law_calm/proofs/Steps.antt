@@ -15,13 +15,14 @@ use Rattle.node_model.specs.NodeSteps.{packet_step, mill_step, tick_step}
 use Rattle.world_model.specs.Worlds.{World, Envelope, home_of, slot_of, from}
 use Rattle.law_safety.proofs.Histories.{AreDistinct}
 use Rattle.law_safety.proofs.Happening.{IsFine}
+use Rattle.dpc_lists.proofs.Each.{Each}
+use Rattle.node_model.proofs.Mailed.{mill-ports}
 use Rattle.law_granting.specs.Taken.{node_port}
-use Rattle.law_granting.proofs.Each.{Each}
 use Rattle.law_granting.proofs.Slots.{got-sent}
 use Rattle.law_readers.proofs.Going.{TicksTo, chosen-ticks}
 use Rattle.law_readers.proofs.Sessions.{AsksAs, AsksOf, delivered-reader, milled-reader, ticked-reader}
 use Rattle.law_calm.proofs.Taking.{TakesBatch, packet-took}
-use Rattle.law_calm.proofs.Ticking.{milled-ports, ticked-ports, IsAckOf, AcksOf, Acks, packet-acks, ticked-acks, milled-acks}
+use Rattle.law_calm.proofs.Ticking.{ticked-ports, IsAckOf, AcksOf, Acks, packet-acks, ticked-acks, milled-acks}
 use Rattle.law_calm.proofs.Refusing.{RefusesBy, IsRefused, RefusesTo, packet-refuses, milled-refuses, ticked-refuses}
 use Rattle.law_calm.proofs.Doing.{AreCalmSlots, up-calm, NoneHarms, HasStepped, NodeDoes}
 
@@ -111,7 +112,7 @@ module _ (w next : World) (most : ℕ) (fine : IsFine w most) (calm : AreCalmSlo
       (t.0, stepped-was w next Here x n (tick_step Here now n) p t.0 s t.1, subst (λ (z : Port). Stays w Here x p t.0 z ⊎ Opens t.0 z) (sym t.2) (ticks-went w next Here x p t.0))
   port-went (NodeDoes.Mills m n s) p r e =
       let at = stepped-port w next Here x n (mill_step Here m n) p r s e in
-      (r, stepped-was w next Here x n (mill_step Here m n) p r s (sym (ap (λ (ps : List Port). slice_get ps p) (milled-ports Here m n)) ∙ at), inl (rests-went w next Here x p r r refl))
+      (r, stepped-was w next Here x n (mill_step Here m n) p r s (sym (ap (λ (ps : List Port). slice_get ps p) (mill-ports Here m n)) ∙ at), inl (rests-went w next Here x p r r refl))
 
   -- ---- what it sends
 

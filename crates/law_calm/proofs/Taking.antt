@@ -1,5 +1,5 @@
 -- What a packet makes of a port, where its node goes on: what it holds stays, or a batch of its session was taken from the replica that it reads.
-use Rattle.std.proofs.Common.{◌≡◌, ℕ, ◌≤◌, Bool, true, false, cond, not, ◌&&◌, ◌||◌, ◌==◌, nat_lt, List, map, length, refl, sym, ap, subst, ◌∙◌, Option, Some, None, slice_get, unwrap_or, ◌⊎◌, inl, inr}
+use Rattle.std.proofs.Common.{◌≡◌, ℕ, ◌≤◌, Bool, true, false, cond, not, ◌&&◌, ◌||◌, ◌==◌, nat_lt, List, map, length, refl, sym, ap, subst, ◌∙◌, Option, Some, None, slice_get, ◌⊎◌, inl, inr}
 use Rattle.dpc_lists.specs.Lists.{nth, changed}
 use Rattle.dpc_model.specs.Reading.{fold_items}
 use Rattle.dpc_model.specs.Inlets.{InletState, same_sess, AfterBatch, after_missing_batch, after_next_batch, take_batch, after_tally}
@@ -13,7 +13,8 @@ use Rattle.dpc_model.specs.declared.messages.Message.TheVariants as message
 use Rattle.node_model.specs.Mails.{Packet, Plain, SnapFor}
 use Rattle.node_model.specs.Nodes.{Home, PlainNode, streams_of}
 use Rattle.node_model.specs.NodeSteps.{replica_number, reader_place, with_port, after_loss, after_adoption, after_taking, on_batch, on_subscribe, on_truncation, on_upstream_beat, on_peer_beat, on_ack, on_snap_ask, on_message, with_marks_ended, packet_step}
-use Rattle.law_safety.proofs.Tests.{eq-of}
+use Rattle.dpc_lists.proofs.Truths.{eq-of}
+use Rattle.dpc_model.proofs.Subs.{nth-there, took-session}
 use Rattle.law_granting.proofs.Moves.{get-mapped, get-was, stamped-ports, ack-ports, subscribe-ports, ask-ports, grant-ports, unless-ports}
 use Rattle.law_readers.proofs.Counting.{took-longer}
 use Rattle.law_calm.proofs.Whole.{IsHarmless, marked-session}
@@ -37,21 +38,6 @@ abbrev pub PortsTook : Home → ℕ → Packet → List Port → List Port → T
 PortsTook home a packet ps rs = (p : ℕ) (r : Port) → slice_get rs p ≡ Some r → (q : Port) × (slice_get ps p ≡ Some q) × Took home a packet p q r
 
 -- ---- a batch
-
-took-session : (inlet : InletState) (u : Sess) (index : ℕ) (items : List Item) → (take_batch inlet u index items).after.sess ≡ inlet.sess
-unfolding take_batch
-took-session inlet u index items =
-    elim (not (same_sess u inlet.sess) || nat_lt index inlet.next) as (λ b. (cond {A = AfterBatch} b (record { after = inlet; answer = Old }) (cond (inlet.broken || nat_lt inlet.next index) (after_missing_batch inlet) (after_next_batch inlet (fold_items inlet.held items)))).after.sess ≡ inlet.sess) [
-      | true ↦ refl
-      | false ↦ elim (inlet.broken || nat_lt inlet.next index) as (λ b. (cond {A = AfterBatch} b (after_missing_batch inlet) (after_next_batch inlet (fold_items inlet.held items))).after.sess ≡ inlet.sess) [
-        | true ↦ refl
-        | false ↦ by-folded (fold_items inlet.held items)
-      ]
-    ]
-  where
-    by-folded : (o : Option _) → (after_next_batch inlet o).after.sess ≡ inlet.sess
-    by-folded None = refl
-    by-folded (Some f) = refl
 
 took-held : (inlet : InletState) (u : Sess) (index : ℕ) (items : List Item) → ((take_batch inlet u index items).after.held ≡ inlet.held) ⊎ (same_sess u inlet.sess ≡ true)
 unfolding take_batch
@@ -84,9 +70,6 @@ module _ (home : Home) (a : ℕ) (packet : Packet) where
         ],
       )
 
-  nth-is : (ps : List Port) (i : ℕ) (q : Port) → slice_get ps i ≡ Some q → nth no_port ps i ≡ q
-  nth-is ps i q e = ap (λ (o : Option Port). unwrap_or o no_port) e
-
   batch-took : (u : Sess) (index : ℕ) (items : List Item) (o : Option (ℕ × ℕ)) (n : PlainNode) → sender_at home.plan (streams_of home) a ≡ o → packet ≡ Plain (message.Batch u index items) → Take n.ports (on_batch home u index items o n).ports
   batch-took u index items None n place same = all-still n.ports n.ports refl
   batch-took u index items (Some pr) n place same =
@@ -100,7 +83,7 @@ module _ (home : Home) (a : ℕ) (packet : Packet) where
     where
       at-port : (q : Port) → slice_get n.ports pr.0 ≡ Some q → (nth no_port n.ports pr.0).chosen ≡ pr.1 → Took home a packet pr.0 q (record q { inlet = (take_batch (nth no_port n.ports pr.0).inlet u index items).after })
       at-port q there chosen =
-          let is = nth-is n.ports pr.0 q there in
+          let is = nth-there n.ports pr.0 q there in
           let its : q.chosen ≡ pr.1 = ap (λ (z : Port). z.chosen) (sym is) ∙ chosen in
           subst (λ (z : Port). Took home a packet pr.0 q (record q { inlet = (take_batch z.inlet u index items).after })) (sym is)
           (record {
@@ -129,7 +112,7 @@ module _ (home : Home) (a : ℕ) (packet : Packet) where
       let other : same_sess u old.inlet.sess ≡ false = harmless pr.0 pr.1 refl in
       subst (λ (b : Bool). Take n.ports (cond {A = PlainNode} (b && all_truncated port) (after_loss home m) m).ports) (sym other)
       (one-took pr.0 (λ _. port) n.ports (λ q there.
-      let is = nth-is n.ports pr.0 q there in
+      let is = nth-there n.ports pr.0 q there in
       still pr.0 q port (ap (λ (z : Port). z.inlet.sess) is) (ap (λ (z : Port). z.chosen) is) (ap (λ (z : Port). z.inlet.held) is)))
 
   beat-port : (i r : ℕ) (b : Beat) (q : Port) → Took home a packet i q (on_beat r b q)

@@ -20,17 +20,15 @@ use Rattle.node_model.specs.Mails.{Packet, Plain, SnapFor, Mail, mail, mails, in
 use Rattle.node_model.specs.Nodes.{Home, PlainNode, streams_of, own_readers, node_frontier, out_stable, complete_buckets, ready, due_at, wants_to_reconcile, shown}
 use Rattle.node_model.specs.NodeSteps.{idle_step, peers_of, peer_watches, replica_number, reader_place, give, given_by, given_stable, enter_step, on_subscribe, on_ask, on_grant, on_snap_ask, on_message, with_marks_ended, packet_step, after_stable_buckets, after_last_correction, mill_step, after_clock, choice_step, ask_step, with_closed, with_failure, processing_upto, processing_step, done_at, acks_from, beats, announcing_step, serving_step, tick_step}
 use Rattle.law_safety.proofs.Numbering.{actors-pass}
-use Rattle.law_safety.proofs.Tests.{both}
-use Rattle.law_granting.proofs.Each.{Each, each-append, each-sorted, each-to, each-batches, each-subscription, each-beats}
+use Rattle.dpc_lists.proofs.Truths.{both}
+use Rattle.dpc_lists.proofs.Each.{Each, each-append}
+use Rattle.node_model.proofs.Mailed.{mill-ports}
+use Rattle.law_granting.proofs.Each.{each-sorted, each-to, each-batches, each-subscription, each-beats}
 use Rattle.law_granting.proofs.Moves.{get-mapped, reconciling-ports, processing-ports}
 use Rattle.law_readers.proofs.Sessions.{ticked-port}
 use Rattle.law_calm.proofs.Whole.{ticked-serves}
 
 -- ---- the ports
-
-pub milled-ports : (home : Home) (r : ℕ) (n : PlainNode) → (mill_step home r n).after.ports ≡ n.ports
-unfolding mill_step
-milled-ports home r n = refl
 
 -- a tick leaves the port as it chooses
 pub ticked-ports : (home : Home) (now : ℕ) (n : PlainNode) (p : ℕ) (r : Port) → n.recovering ≡ false → slice_get (tick_step home now n).after.ports p ≡ Some r →

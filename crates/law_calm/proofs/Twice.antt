@@ -1,15 +1,13 @@
 -- A node that reads a fragment at two ports never gets past its first bucket, so it acknowledges nothing, and nothing is truncated for it.
-use Rattle.std.proofs.Common.{◌≡◌, ℕ, zero, suc, ◌+◌, ◌*◌, ◌<◌, ◌≤◌, Bool, true, false, cond, ◌==◌, nat_lt, List, [], ◌∷◌, map, length, refl, sym, ap, subst, ◌∙◌, arith, Option, Some, None, slice_get, ◌⊎◌, inl, inr}
-use Rattle.std.proofs.lemmas.Grind.{common_steps}
+use Rattle.std.proofs.Common.{◌≡◌, ℕ, zero, suc, ◌+◌, ◌*◌, ◌<◌, ◌≤◌, Bool, true, false, cond, ◌==◌, List, [], ◌∷◌, map, refl, sym, ap, subst, ◌∙◌, arith, Option, Some, None, slice_get, ◌⊎◌, inl, inr}
 use Rattle.dpc_lists.specs.Lists.{place_of}
-use Rattle.dpc_model.specs.Streams.{cut, count_below}
+use Rattle.dpc_model.specs.Streams.{count_below}
 use Rattle.dpc_model.specs.Reading.{Reader}
 use Rattle.dpc_model.specs.Inlets.{InletState}
 use Rattle.dpc_model.specs.Actors.{role_of, inputs_of, sends_stream, senders_of}
 use Rattle.dpc_model.specs.Ports.{Port, held_at, sender_from, sender_at}
 use Rattle.dpc_model.specs.declared.actors.Role.{Role}
 use Rattle.dpc_model.specs.declared.actors.Role.TheVariants.{Source as IsSource, Node as IsNode, Client as IsClient, Nobody}
-use Rattle.dpc_model.specs.declared.tuples.Tuple.{Tuple}
 use Rattle.dpc_model.specs.declared.messages.Sess.{Sess}
 use Rattle.dpc_model.specs.declared.messages.Message.TheVariants as message
 use Rattle.dpc_model.specs.declared.plans.Plan.{Plan}
@@ -20,7 +18,9 @@ use Rattle.node_model.specs.Nodes.{Home, PlainNode, streams_of}
 use Rattle.node_model.specs.NodeSteps.{done_at}
 use Rattle.world_model.specs.Worlds.{World, Envelope, home_of, slot_of}
 use Rattle.world_model.specs.Safe.{EachReaches}
-use Rattle.law_safety.proofs.Tests.{eq-of}
+use Rattle.dpc_lists.proofs.Truths.{eq-of}
+use Rattle.dpc_model.proofs.Cuts.{none-counted}
+use Rattle.dpc_lists.proofs.Somes.{some-same}
 use Rattle.law_safety.proofs.Frames.{IsGood}
 use Rattle.law_safety.proofs.Distinct.{readers-distinct}
 use Rattle.law_safety.proofs.Pointwise.{sender-of, port-at}
@@ -37,14 +37,11 @@ use Rattle.law_calm.proofs.Levels.{IsLevel, level-next}
 found-first : (plan : Plan) (s : StreamRef) (a k : ℕ) (ss : List StreamRef) (i r p t : ℕ) → slice_get ss i ≡ Some s → place_of (λ c. a == c) (senders_of plan s) ≡ Some r → sender_from k plan ss a ≡ Some (p, t) → p ≤ k + i
 found-first plan s a k [] i r p t at place found = cc
 found-first plan s a k (u ∷ ss) zero r p t at place found =
-    let same : u ≡ s = some-stream u s at in
+    let same : u ≡ s = some-same u s at in
     let here : place_of (λ c. a == c) (senders_of plan u) ≡ Some r = ap (λ (z : StreamRef). place_of (λ c. a == c) (senders_of plan z)) same ∙ place in
     let now : ◌≡◌ {A = Option (ℕ × ℕ)} (Some (k, r)) (Some (p, t)) = subst (λ (o : Option ℕ). elim o as (λ _. Option (ℕ × ℕ)) [ None ↦ sender_from (k + 1) plan ss a | Some q ↦ Some (k, q) ] ≡ Some (p, t)) here found in
     let first = pair-first k p r t now in omega (arith, first)
   where
-    some-stream : (y z : StreamRef) → ◌≡◌ {A = Option StreamRef} (Some y) (Some z) → y ≡ z
-    some-stream y z d = cc
-
     pair-first : (c p r t : ℕ) → ◌≡◌ {A = Option (ℕ × ℕ)} (Some (c, r)) (Some (p, t)) → c ≡ p
     pair-first c p r t e = let same : ◌≡◌ {A = ℕ × ℕ} (c, r) (p, t) = cc in ap (λ (z : ℕ × ℕ). z.0) same
 found-first plan s a k (u ∷ ss) (suc i) r p t at place found =
@@ -59,21 +56,11 @@ found-first plan s a k (u ∷ ss) (suc i) r p t at place found =
 never-found : (plan : Plan) (s : StreamRef) (a : ℕ) (ss : List StreamRef) (i j r : ℕ) → slice_get ss i ≡ Some s → slice_get ss j ≡ Some s → i < j → sender_at plan ss a ≡ Some (j, r) → ⊥
 never-found plan s a ss i j r at_i at_j less found =
     let it = sender-of plan ss a j r found in
-    let same : it.stream ≡ s = some-stream it.stream s (sym it.at ∙ at_j) in
+    let same : it.stream ≡ s = some-same it.stream s (sym it.at ∙ at_j) in
     let low = found-first plan s a 0 ss i r j r at_i (ap (λ (z : StreamRef). place_of (λ c. a == c) (senders_of plan z)) (sym same) ∙ it.place) found in
     omega (arith, low, less)
-  where
-    some-stream : (y z : StreamRef) → ◌≡◌ {A = Option StreamRef} (Some y) (Some z) → y ≡ z
-    some-stream y z d = cc
 
 -- ---- nothing below the first bucket
-
-none-cut : (ts : List Tuple) → count_below ts 0 ≡ 0
-none-cut [] = refl
-none-cut (t ∷ ts) = ap (λ (c : Bool). length (cond {A = List Tuple} c (t ∷ cut ts 0) (cut ts 0))) (never-less t.stime) ∙ none-cut ts
-  where
-    never-less : (k : ℕ) → nat_lt k 0 ≡ false
-    never-less k = grind (arith, common_steps)
 
 reaches-at : (b j : ℕ) (ports : List Port) (q : Port) → EachReaches b (map held_at ports) → slice_get ports j ≡ Some q → b ≤ q.inlet.held.bound
 reaches-at b j [] q h e = cc
@@ -131,7 +118,7 @@ module _ (w next : World) (most : ℕ) (fine : IsFine w most) (calm : AreCalmSlo
       by-value false e =
           let low = at-first e in
           let none : z.cursor * w.plan.width ≡ 0 = omega (arith, low) in
-          ap (λ (c : Bool). cond {A = ℕ} c 0 (count_below q.inlet.held.stable (z.cursor * w.plan.width))) e ∙ ap (λ (c : ℕ). count_below q.inlet.held.stable c) none ∙ none-cut q.inlet.held.stable
+          ap (λ (c : Bool). cond {A = ℕ} c 0 (count_below q.inlet.held.stable (z.cursor * w.plan.width))) e ∙ ap (λ (c : ℕ). count_below q.inlet.held.stable c) none ∙ none-counted q.inlet.held.stable
 
   none-acked : {T : Type 0} (to count : ℕ) → T ⊎ AcksNow w next most fine calm harmless x g b role to count → T ⊎ (count ≤ 0)
   none-acked to count (inl old) = inl old

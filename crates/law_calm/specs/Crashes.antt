@@ -1,24 +1,15 @@
 -- Runs in which no node is crashed.
-use Rattle.std.specs.Prelude.{Bool, true, false, flat_map}
+use Rattle.std.specs.Prelude.{Bool, not, true, false, flat_map}
 use Rattle.dpc_lists.specs.Lists.{list_all}
 use Rattle.dpc_model.specs.declared.messages.Event.{Event}
-use Rattle.dpc_model.specs.declared.messages.Event.TheVariants.{Phase, Emit, Release, Cut, Heal, Crash, Restart, Deliver, Tick, Mill}
 use Rattle.dpc_model.specs.declared.scripts.Directive.{Directive}
 use Rattle.dpc_model.specs.declared.scripts.Directive.TheVariants as directive
 use Rattle.dpc_model.specs.declared.scripts.Phase.{Phase as PhaseSpec}
 use Rattle.dpc_model.specs.declared.scripts.Script.{Script}
+use Rattle.world_model.specs.Events.{is_crash}
 
 abbrev pub crashes_none : Event → Bool
-crashes_none (Phase p) = true
-crashes_none (Emit s t) = true
-crashes_none (Release s t) = true
-crashes_none (Cut a b) = true
-crashes_none (Heal a b) = true
-crashes_none (Crash a) = false
-crashes_none (Restart a i) = true
-crashes_none (Deliver k) = true
-crashes_none (Tick a now) = true
-crashes_none (Mill a r) = true
+crashes_none e = not (is_crash e)
 
 abbrev pub is_no_crash : Directive → Bool
 is_no_crash (directive.Emit s t) = true

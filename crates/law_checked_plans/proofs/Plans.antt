@@ -1,8 +1,7 @@
 -- From what engines rely on to what every run relies on.
-use Rattle.std.proofs.Common.{◌≡◌, ℕ, zero, suc, ◌*◌, ◌/◌, ◌%◌, ◌<◌, true, List, [], ◌∷◌, map, length, refl, arith}
+use Rattle.std.proofs.Common.{◌≡◌, ℕ, zero, suc, ◌<◌, true, List, [], ◌∷◌, map, length, refl, arith}
 use Rattle.std.specs.Prelude.{◌&&◌, ◌==◌, nat_lt, nat_le}
 use Rattle.std.proofs.lemmas.Bool.{and_parts, leb-true}
-use Rattle.std.proofs.Math.Nat.{mod-eq-sub-div-mul, div-mul-le_self}
 use Rattle.dpc_lists.specs.Lists.{nth, list_all}
 use Rattle.dpc_model.specs.declared.tuples.Tuple.{Tuple}
 use Rattle.dpc_model.specs.declared.plans.SourceSpec.{SourceSpec}
@@ -11,6 +10,7 @@ use Rattle.dpc_model.specs.declared.plans.ClientSpec.{ClientSpec}
 use Rattle.dpc_model.specs.declared.plans.Plan.{Plan}
 use Rattle.dpc_model.specs.declared.plans.StreamRef.TheVariants.{Source}
 use Rattle.dpc_model.specs.declared.scripts.Script.{Script}
+use Rattle.dpc_model.proofs.Numbers.{buckets-whole}
 use Rattle.node_model.specs.Nodes.{no_fragment}
 use Rattle.node_model.specs.Clients.{client_stream}
 use Rattle.script_rules.specs.Places.{is_between}
@@ -37,9 +37,6 @@ reads_some f h =
     let inputs = (and_parts (is_between 1 4 f.replicas) (is_between 1 8 (length f.inputs)) h).1 in
     leb-true 1 (length f.inputs) (and_parts (nat_le 1 (length f.inputs)) (nat_le (length f.inputs) 8) inputs).0
 
-whole_buckets : (width end : ℕ) → end % width ≡ 0 → end / width * width ≡ end
-whole_buckets width end e = omega (arith, e, mod-eq-sub-div-mul end width, div-mul-le_self end width)
-
 pub checked_plan : (s : Script) → HasFacts s → IsCheckedPlan s.plan
 checked_plan s facts =
     let plan = s.plan in
@@ -48,7 +45,7 @@ checked_plan s facts =
       checked = record {
         sound = form.sound;
         width = form.width;
-        whole = whole_buckets plan.width plan.end form.whole;
+        whole = buckets-whole plan.width plan.end form.whole;
         logs = λ i. logs_fit plan.end plan.sources i form.logs;
         even = frags_even plan [] plan.frags refl 0 refl form.sound.inputs facts.frags;
       };

@@ -18,7 +18,7 @@ use Rattle.script_rules.specs.Places.{is_between}
 use Rattle.script_rules.specs.Facts.{is_there, has_sizes}
 use Rattle.law_safety.specs.Plans.{has_senders}
 use Rattle.law_safety.proofs.Numbering.{any-at}
-use Rattle.law_safety.proofs.Tests.{eq-test}
+use Rattle.dpc_lists.proofs.Truths.{eq-test, or-true}
 
 some_number : (test : Role → Bool) (k : ℕ) (roles : List Role) → list_any test roles ≡ true →
     0 < length (map (λ (x : ℕ × Role). x.0) (filter (λ (x : ℕ × Role). test x.1) (enumerate_from k roles)))
@@ -30,10 +30,6 @@ some_number test k (role ∷ roles) h =
       | false ↦ λ e. some_number test (k + 1) roles e
     ]) h
 
-or_true : (x : Bool) → (x || true) ≡ true
-or_true true = refl
-or_true false = refl
-
 -- a test that holds in a part of the roles holds of one of them
 in_sources : (test : Role → Bool) (a b c : List Role) → list_any test a ≡ true → list_any test (a ++ b ++ c) ≡ true
 in_sources test a b c h =
@@ -42,7 +38,7 @@ in_sources test a b c h =
 in_nodes : (test : Role → Bool) (a b c : List Role) → list_any test b ≡ true → list_any test (a ++ b ++ c) ≡ true
 in_nodes test a b c h =
     list_any-append test (a ++ b) c
-    ∙ ap (λ x. x || list_any test c) (list_any-append test a b ∙ ap (λ x. list_any test a || x) h ∙ or_true (list_any test a))
+    ∙ ap (λ x. x || list_any test c) (list_any-append test a b ∙ ap (λ x. list_any test a || x) h ∙ or-true (list_any test a))
 
 -- the first replica of fragment f sends it
 first_sends : (f k n : ℕ) → f ≡ k → 0 < n → list_any (sends_stream (Frag f)) (map (λ (x : ℕ × ℕ). IsNode x.0 x.1) (map (λ r. (k, r)) (range_with_len 0 n))) ≡ true
@@ -69,7 +65,7 @@ node_sends f k (suc i) (frag ∷ fs) e l h =
     let rest : List (ℕ × ℕ) = nodes_from (k + 1) fs in
     let among = node_sends f (k + 1) i fs (omega (arith, e)) (omega (arith, l)) (and_parts (has_sizes frag) (list_all has_sizes fs) h).1 in
     ap (list_any test) (map-append role here rest) ∙ list_any-append test (map role here) (map role rest)
-    ∙ ap (λ b. list_any test (map role here) || b) among ∙ or_true (list_any test (map role here))
+    ∙ ap (λ b. list_any test (map role here) || b) among ∙ or-true (list_any test (map role here))
 
 source_sends : (s n : ℕ) → s < n → list_any (sends_stream (Source s)) (map IsSource (range_with_len 0 n)) ≡ true
 source_sends s n l = any-at (sends_stream (Source s)) (map IsSource (range_with_len 0 n)) s (IsSource (0 + s)) (get-mapped-range IsSource 0 n s l) (eq-test s (0 + s) (omega arith))

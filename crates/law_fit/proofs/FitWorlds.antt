@@ -11,7 +11,7 @@ use Rattle.world_model.specs.Safe.{IsSafeNode, IsSafeWorld, IsTrueEnvelope}
 use Rattle.world_model.specs.Orderly.{IsOrderlyNode, IsOrderlyWorld, packet_way, carries_fitting, is_fitting}
 use Rattle.law_safety.specs.Plans.{IsChecked, IsCheckedPlan}
 use Rattle.law_safety.specs.Keeps.{IsFineWorld}
-use Rattle.law_safety.proofs.Tests.{both}
+use Rattle.dpc_lists.proofs.Truths.{both}
 use Rattle.law_safety.proofs.Frames.{IsGood}
 use Rattle.law_safety.proofs.Numbering.{node-at, all-at}
 use Rattle.law_safety.proofs.Worlding.{slots-both, slots-at, actor-at, true-at}

@@ -10,7 +10,7 @@ use Rattle.node_model.specs.Nodes.{Home, PlainNode, streams_of, held_by, buckets
 use Rattle.node_model.specs.NodeParts.{inputs_of}
 use Rattle.world_model.specs.Orderly.{port_columns}
 use Rattle.law_safety.specs.Plans.{IsChecked}
-use Rattle.law_safety.proofs.Tests.{both, eq-of}
+use Rattle.dpc_lists.proofs.Truths.{both, eq-of}
 use Rattle.law_safety.proofs.Closing.{closed-of}
 use Rattle.law_safety.proofs.Processing.{holds-length}
 use Rattle.law_safety.proofs.Frames.{IsGood}

@@ -8,9 +8,8 @@ use Rattle.dpc_model.specs.Fragments.{ideal_upto}
 use Rattle.dpc_model.specs.Inlets.{AfterBatch, take_batch}
 use Rattle.dpc_model.specs.Parts.{done_in}
 use Rattle.dpc_model.specs.Ports.{no_port, sender_at}
-use Rattle.dpc_model.specs.Actors.{role_of, are_peers}
-use Rattle.dpc_model.specs.declared.actors.Role.{Role}
-use Rattle.dpc_model.specs.declared.actors.Role.TheVariants.{Source as IsSource, Node as IsNode, Client as IsClient, Nobody}
+use Rattle.dpc_model.specs.Actors.{role_of}
+use Rattle.dpc_model.specs.declared.actors.Role.TheVariants.{Node as IsNode}
 use Rattle.dpc_model.specs.declared.batches.Taken.{Taken}
 use Rattle.dpc_model.specs.declared.batches.Taken.TheVariants as taken
 use Rattle.dpc_model.specs.declared.messages.Sess.{Sess}
@@ -27,12 +26,12 @@ use Rattle.node_model.specs.NodeParts.{inputs_of}
 use Rattle.world_model.specs.Safe.{IsTruePacket, IsTrueSnap}
 use Rattle.world_model.specs.Orderly.{packet_way, carries_fitting}
 use Rattle.law_safety.specs.Plans.{IsChecked, IsPlace}
-use Rattle.law_safety.proofs.Tests.{both, eq-of, lt-of}
+use Rattle.dpc_lists.proofs.Truths.{lt-of}
 use Rattle.law_safety.proofs.Columns.{ideal_upto-below}
 use Rattle.law_safety.proofs.Outputs.{inputs-held}
 use Rattle.law_safety.proofs.Frames.{IsGood, marks-good}
 use Rattle.law_safety.proofs.Mailing.{IsActor}
-use Rattle.law_safety.proofs.Delivered.{delivered-good}
+use Rattle.law_safety.proofs.Delivered.{delivered-good, peer-snap}
 use Rattle.law_node.specs.Fitting.{IsFitSnap, IsFitMessage, IsFitPacket}
 use Rattle.law_node.proofs.Viewed.{done-is}
 use Rattle.law_fit.proofs.Readers.{all-of, good-reaches}
@@ -84,13 +83,6 @@ message-fits home most sender (message.Grant i ask) n place before after = tt
 message-fits home most sender (message.SnapAsk i try) n place before after = tt
 
 -- ---- a snapshot
-
--- one of a peer is of the own fragment
-peer-snap : (home : Home) (role : Role) (i try : ℕ) (s : Snap) → are_peers role (IsNode home.frag home.replica) ≡ true → IsTruePacket home.plan role (SnapFor i try s) → IsTrueSnap home.plan home.frag s
-peer-snap home (IsNode f r) i try s way truth = let same : f ≡ home.frag = eq-of f home.frag (both (f == home.frag) _ way).0 in rw same at truth
-peer-snap home (IsSource u) i try s way truth = cc
-peer-snap home (IsClient c) i try s way truth = cc
-peer-snap home Nobody i try s way truth = cc
 
 pub snap-fits : (home : Home) (s : Snap) → IsChecked home.plan → IsTrueSnap home.plan home.frag s → IsFitSnap home s
 snap-fits home s checked truth =

@@ -1,6 +1,5 @@
 -- Closed buckets that stand in their places are accepted in their turn.
 use Rattle.std.proofs.Common.{◌≡◌, ℕ, ◌+◌, ◌*◌, ◌/◌, ◌^◌, ◌<◌, ◌≤◌, true, ◌&&◌, List, [], ◌∷◌, length, arith, Some}
-use Rattle.std.proofs.lemmas.Grind.{common_steps}
 use Rattle.std.proofs.Math.Nat.{div-mul-le_self}
 use Rattle.std.specs.List.{enumerate_from}
 use Rattle.dpc_lists.specs.Lists.{list_all}
@@ -9,7 +8,8 @@ use Rattle.dpc_model.specs.declared.tuples.Tagged.{Tagged}
 use Rattle.dpc_model.proofs.Serial.{serial-adjacent}
 use Rattle.checkpoint_redo.specs.Keeping.{AcceptsAll}
 use Rattle.world_model.specs.Orderly.{fits_port}
-use Rattle.law_safety.proofs.Tests.{both}
+use Rattle.dpc_lists.proofs.Truths.{both}
+use Rattle.dpc_model.proofs.Numbers.{times-le}
 use Rattle.law_safety.proofs.Closing.{is_placed}
 use Rattle.law_fit.proofs.Readers.{all-of}
 
@@ -19,9 +19,6 @@ bucket-ends w end k low =
     let whole : end / w * w ≤ end = div-mul-le_self end w in
     let fits : k * w ≤ end / w * w = times-le k (end / w) w low in
     omega (arith, fits, whole)
-  where
-    times-le : (a b c : ℕ) → a ≤ b → a * c ≤ b * c
-    times-le a b c h = grind (arith, common_steps, h)
 
 placed-fits : (w : ℕ) (cs : List ℕ) (c i k : ℕ) (b : List Tagged) → c + i ≡ k → (k + 1) * w < 2 ^ 64 → is_placed w cs c (i, b) ≡ true → FitsBucket w k b
 placed-fits w cs c i k b at ends h =

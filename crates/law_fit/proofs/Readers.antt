@@ -14,7 +14,7 @@ use Rattle.dpc_model.specs.declared.plans.StreamRef.{StreamRef}
 use Rattle.node_model.specs.Nodes.{Home, PlainNode, held_by}
 use Rattle.world_model.specs.Safe.{HoldsOf, EachHolds, EachReaches}
 use Rattle.world_model.specs.Orderly.{is_port_sound, are_ports_sound, is_passed_mark}
-use Rattle.law_safety.proofs.Tests.{both, le-of}
+use Rattle.dpc_lists.proofs.Truths.{both, le-of}
 use Rattle.law_safety.proofs.SoundPorts.{port-of}
 use Rattle.law_safety.proofs.Frames.{IsGood}
 use Rattle.law_safety.proofs.Emptied.{emptied-of}

@@ -13,12 +13,12 @@ use Rattle.dpc_model.specs.declared.plans.TheConstants.{MOST_REPLICAS}
 use Rattle.node_model.specs.Nodes.{no_fragment, streams_of}
 use Rattle.world_model.specs.Worlds.{node_place, home_of}
 use Rattle.law_safety.specs.Plans.{has_senders, IsCheckedPlan}
-use Rattle.law_safety.proofs.Tests.{eq-of, lt-of}
+use Rattle.dpc_lists.proofs.Truths.{eq-of, lt-of}
 use Rattle.law_safety.proofs.Numbering.{actors-pass, all-nth, node-at}
 use Rattle.law_granting.proofs.First.{source-below}
 use Rattle.law_session_origins.specs.Numbers.{first_replica, replicas_at}
 use Rattle.law_session_origins.proofs.RoleNumbers.{has-numbers}
-use Rattle.law_node.specs.Making.{IsReplica}
+use Rattle.node_model.specs.Making.{IsReplica}
 use Rattle.law_fit.specs.Fits.{HasFewReplicas}
 use Rattle.law_fit.proofs.Readers.{all-of}
 

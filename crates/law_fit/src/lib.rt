@@ -14,7 +14,7 @@ ghost use Rattle.law_safety.specs.Plans.{IsChecked, IsCheckedPlan};
 ghost use Rattle.law_safety.specs.Keeps.{IsFineWorld};
 ghost use Rattle.law_node.specs.Fitting.{IsFit, IsFitPacket};
 ghost use Rattle.law_session_origins.specs.Numbers.{replicas_at};
-ghost use Rattle.law_node.specs.Making.{IsReplica};
+ghost use Rattle.node_model.specs.Making.{IsReplica};
 ghost use Rattle.law_fit.specs.Fits.{NodesAreFit, PacketsAreFit, HasFewReplicas};
 
 /// A node that is safe and orderly is fit, where the run ends below 2^63.

@@ -13,17 +13,18 @@ use Rattle.node_model.specs.Nodes.{Home, PlainNode, spec_of, restarted_node}
 use Rattle.node_model.specs.NodeSteps.{replica_number, packet_step, mill_step, tick_step}
 use Rattle.world_model.specs.Worlds.{World, Envelope, Slot, home_of, node_place, slot_of, from, node_stepped, restart_slot, happens}
 use Rattle.world_model.specs.Orderly.{is_fitting, packet_way, carries_fitting}
-use Rattle.law_safety.proofs.Tests.{both, eq-of, eq-test}
+use Rattle.dpc_lists.proofs.Truths.{both, eq-of, eq-test}
+use Rattle.dpc_lists.proofs.Places.{place-nth}
+use Rattle.dpc_lists.proofs.Somes.{some-same}
 use Rattle.law_safety.proofs.Numbering.{replica-at, all-at}
-use Rattle.law_safety.proofs.Delivered.{place-nth}
 use Rattle.law_safety.proofs.Worlding.{actor-at}
 use Rattle.law_safety.proofs.Happening.{IsFine, node-here, may-mill}
 use Rattle.law_granting.specs.Asking.{IsOver, WasAsked, TellsSo}
-use Rattle.law_granting.proofs.Each.{Each}
 use Rattle.law_granting.proofs.Saying.{PacketSays, Says, told_key, asked_key, Hears, Asks, Ends, Never, FoundAbsent, IsOwnStep, own-delivered, own-milled, own-ticked}
 use Rattle.law_granting.proofs.AtWork.{IsAsking, idle, delivered-asking, ticked-asking, milled-asking}
 use Rattle.law_safety.proofs.EventCases.{AreCases, by-event}
 use Rattle.law_safety.proofs.Promises.{slot-here}
+use Rattle.dpc_lists.proofs.Each.{Each}
 use Rattle.law_granting.proofs.Slots.{slot-there, Advances, advances-same, advances-down, advances-restart, advances-step, got-sent}
 
 -- a node of a world whose last incarnation this is
@@ -51,10 +52,7 @@ tells-later x y (Plain (message.SnapAsk i n)) h t = tt
 tells-later x y (SnapFor i try s) h t = tt
 
 pub told-so : (x : Slot) (p : Packet) (key : Key) → told_key p ≡ Some key → TellsSo x p → IsOver x key
-told-so x (Plain (message.Beat b)) key e t = subst (λ (k : Key). IsOver x k) (some-key (b.inc, b.over) key e) t
-  where
-    some-key : (k l : Key) → ◌≡◌ {A = Option Key} (Some k) (Some l) → k ≡ l
-    some-key k l d = cc
+told-so x (Plain (message.Beat b)) key e t = subst (λ (k : Key). IsOver x k) (some-same (b.inc, b.over) key e) t
 told-so x (Plain (message.Ask i ask)) key e t = cc
 told-so x (Plain (message.Grant i ask)) key e t = cc
 told-so x (Plain (message.Batch u index items)) key e t = cc
@@ -65,10 +63,7 @@ told-so x (Plain (message.SnapAsk i n)) key e t = cc
 told-so x (SnapFor i try s) key e t = cc
 
 asked-so : (x : Slot) (p : Packet) (key : Key) → asked_key p ≡ Some key → TellsSo x p → WasAsked x key
-asked-so x (Plain (message.Ask i ask)) key e t = subst (λ (k : Key). WasAsked x k) (some-key (i, ask) key e) t
-  where
-    some-key : (k l : Key) → ◌≡◌ {A = Option Key} (Some k) (Some l) → k ≡ l
-    some-key k l d = cc
+asked-so x (Plain (message.Ask i ask)) key e t = subst (λ (k : Key). WasAsked x k) (some-same (i, ask) key e) t
 asked-so x (Plain (message.Beat b)) key e t = cc
 asked-so x (Plain (message.Grant i ask)) key e t = cc
 asked-so x (Plain (message.Batch u index items)) key e t = cc
@@ -192,7 +187,7 @@ step-asking-world H A E w most a f r n s fine role up own asking hears asks h =
     let old = h.nodes a f r n role up in
     let inc : s.after.grants.inc ≡ (slot_of w a).last_inc = own.grants.inc ∙ old.inc in
     slot-asking w most a f r (λ (slot : Slot). record slot { node = Some s.after }) (w.envelopes ++ map (from a) s.sends) fine role (advances-step H A E (slot_of w a) n s.after up own.grants)
-    (λ m e. subst (λ (x : PlainNode). IsInOrder w f r (slot_of w a).last_inc x) (some-node s.after m e)
+    (λ m e. subst (λ (x : PlainNode). IsInOrder w f r (slot_of w a).last_inc x) (some-same s.after m e)
     (record {
       asking = asking;
       inc = inc;
@@ -207,9 +202,6 @@ step-asking-world H A E w most a f r n s fine role up own asking hears asks h =
             (said-so (slot_of w a) (home_of w.plan (f, r)) s.after new.0.to new.0.packet inc new.2),
       )
     ]) h
-  where
-    some-node : (x y : PlainNode) → ◌≡◌ {A = Option PlainNode} (Some x) (Some y) → x ≡ y
-    some-node x y e = cc
 
 -- ---- nothing heard yet
 
@@ -270,7 +262,7 @@ asking-cases w most fine h =
         by-node None up d = elim (nat_lt (slot_of w a).last_inc i) as (λ b. (cond {A = Slot} b (record { last_inc = i; node = Some (restarted_node (home_of w.plan (f, r)) i) }) (slot_of w a)).node ≡ Some n →
             IsInOrder w f r (cond {A = Slot} b (record { last_inc = i; node = Some (restarted_node (home_of w.plan (f, r)) i) }) (slot_of w a)).last_inc n) [
               | true ↦ λ g.
-                  let same : restarted_node (home_of w.plan (f, r)) i ≡ n = some-node (restarted_node (home_of w.plan (f, r)) i) n g in
+                  let same : restarted_node (home_of w.plan (f, r)) i ≡ n = some-same (restarted_node (home_of w.plan (f, r)) i) n g in
                   subst (λ (x : PlainNode). IsInOrder w f r i x) same
                   (record {
                     asking = idle (home_of w.plan (f, r)) (restarted_node (home_of w.plan (f, r)) i) refl (λ u v. cc) (λ p v. cc);
@@ -280,9 +272,6 @@ asking-cases w most fine h =
                   })
               | false ↦ λ g. h.nodes a f r n role g
             ] d
-          where
-            some-node : (x y : PlainNode) → ◌≡◌ {A = Option PlainNode} (Some x) (Some y) → x ≡ y
-            some-node x y v = cc
 
 pub event-asking : (w : World) (most : ℕ) (e : Event) → IsFine w most → IsAskingWorld w → IsAskingWorld (happens w e)
 event-asking w most e fine h = by-event w (λ e next. IsAskingWorld next) (asking-cases w most fine h) e

@@ -1,7 +1,6 @@
 -- A node's own order of asking: who asks has a complete first bucket, who reconciles promised nobody, and promises are proper.
 use Rattle.std.proofs.Common.{◌≡◌, ℕ, ◌+◌, ◌-◌, ◌*◌, ◌<◌, ◌≤◌, Bool, true, false, cond, not, ◌&&◌, ◌==◌, nat_lt, min, List, [], ◌∷◌, map, length, refl, sym, ap, subst, ◌∙◌, arith, Option, Some, None, slice_get, ◌⊎◌, inl, inr}
 use Rattle.std.specs.Prelude.{is_none}
-use Rattle.std.proofs.lemmas.Grind.{common_steps}
 use Rattle.dpc_lists.specs.Lists.{nth, list_all, is_nil}
 use Rattle.dpc_model.specs.Inlets.{take_batch, same_sess}
 use Rattle.dpc_model.specs.Due.{is_complete}
@@ -29,7 +28,10 @@ use Rattle.world_model.specs.Safe.{EachReaches}
 use Rattle.world_model.specs.Orderly.{has_state_of_closed, packet_way}
 use Rattle.law_safety.proofs.Milling.{reaches_least}
 use Rattle.law_safety.specs.Plans.{IsPlace}
-use Rattle.law_safety.proofs.Tests.{both, lt-of, not-lt, eq-of, eq-test}
+use Rattle.dpc_lists.proofs.Truths.{both, lt-of, not-lt, eq-of, eq-test, not-zero, not-second}
+use Rattle.dpc_lists.proofs.Places.{place-nth}
+use Rattle.dpc_model.proofs.Subs.{nth-there}
+use Rattle.dpc_lists.proofs.Somes.{some-same}
 use Rattle.law_safety.proofs.Frames.{IsGood, held-map, marks-good, clocked-good}
 use Rattle.law_safety.proofs.Emptied.{emptied-of, shape-of}
 use Rattle.law_safety.proofs.Starting.{fresh-good}
@@ -38,7 +40,7 @@ use Rattle.law_safety.proofs.Pointwise.{reaches-changed}
 use Rattle.law_safety.proofs.Batches.{take_batch-bound}
 use Rattle.law_safety.proofs.Numbering.{replica-at}
 use Rattle.law_safety.proofs.Mailing.{IsActor}
-use Rattle.law_safety.proofs.Delivered.{place-nth, held-changed, failure-calm}
+use Rattle.law_safety.proofs.Delivered.{held-changed, failure-calm}
 use Rattle.law_safety.proofs.Ticked.{chosen-held, choosing-good, reconciling-good, reconciling-recovering}
 use Rattle.law_granting.proofs.Keys.{nth-changed, greater-one}
 use Rattle.law_granting.proofs.Saying.{IsGranted, granted-of}
@@ -93,9 +95,6 @@ finished-proper : (home : Home) (g : Grants) → ((p : ℕ × Key) → g.promise
 finished-proper home g h p e = let k = h p e in record { other = k.other; lower = λ d. cc; going_on = k.going_on }
 
 -- ---- a packet
-
-pub nth-there : (ports : List Port) (p : ℕ) (q : Port) → slice_get ports p ≡ Some q → nth no_port ports p ≡ q
-nth-there ports p q e = rw e refl
 
 took-asking : (home : Home) (p : ℕ) (u : Sess) (index : ℕ) (items : List Item) (n : PlainNode) → IsAsking home n → IsAsking home (after_taking home p (take_batch (nth no_port n.ports p).inlet u index items) n)
 took-asking home p u index items n h =
@@ -155,10 +154,6 @@ told-proper home g r k h p e = by-old g.promise refl e
         by-place (inl same) = ap (λ (z : Option Key). over_by x.1 z) same ∙ y.going_on
         by-place (inr here) = ap (λ (z : Option Key). over_by x.1 z) here.1 ∙ more (nth None g.heard x.0) y.going_on
           where
-            not-second : (a b : Bool) → a ≡ true → (a && b) ≡ false → b ≡ false
-            not-second true b c d = d
-            not-second false b c d = cc
-
             late : key_le x.1 k ≡ false
             late = not-second (x.0 == r) (key_le x.1 k) (eq-test x.0 r here.0) out
 
@@ -218,10 +213,6 @@ ask-asking home i ask r n me other may h =
         let most = not-lt n.grants.me r least_of in
         apart (lt-or r home.replica)
       where
-        not-second : (a b : Bool) → a ≡ true → (a && b) ≡ false → b ≡ false
-        not-second true b c d = d
-        not-second false b c d = cc
-
         lt-or : (x y : ℕ) → (x < y) ⊎ (y ≤ x)
         lt-or x y = (elim (nat_lt x y) as (λ b. nat_lt x y ≡ b → (x < y) ⊎ (y ≤ x)) [ true ↦ λ c. inl (lt-of x y c) | false ↦ λ c. inr (not-lt x y c) ]) refl
 
@@ -235,16 +226,13 @@ ask-asking home i ask r n me other may h =
     proper : (key : Key) → known_over n.grants r key ≡ false → IsProper home (with_promise n.grants r (i, ask)) (r, key)
     proper key out = record { other = other; lower = low; going_on = out }
 
-    some-is : (x y : ℕ × Key) → ◌≡◌ {A = Option (ℕ × Key)} (Some x) (Some y) → x ≡ y
-    some-is x y e = cc
-
     by-old : (o : Option (ℕ × Key)) → n.grants.promise ≡ o → (p : ℕ × Key) → (with_promise n.grants r (i, ask)).promise ≡ Some p → IsProper home (with_promise n.grants r (i, ask)) p
     by-old None f p e =
         let now : promise_to n.grants r (i, ask) ≡ (r, (i, ask)) = rw f refl in
-        subst (λ (z : ℕ × Key). IsProper home (with_promise n.grants r (i, ask)) z) (sym now ∙ some-is (promise_to n.grants r (i, ask)) p e) (proper (i, ask) may.going_on)
+        subst (λ (z : ℕ × Key). IsProper home (with_promise n.grants r (i, ask)) z) (sym now ∙ some-same (promise_to n.grants r (i, ask)) p e) (proper (i, ask) may.going_on)
     by-old (Some x) f p e =
         let now : promise_to n.grants r (i, ask) ≡ (r, greater_key x.1 (i, ask)) = rw f refl in
-        subst (λ (z : ℕ × Key). IsProper home (with_promise n.grants r (i, ask)) z) (sym now ∙ some-is (promise_to n.grants r (i, ask)) p e)
+        subst (λ (z : ℕ × Key). IsProper home (with_promise n.grants r (i, ask)) z) (sym now ∙ some-same (promise_to n.grants r (i, ask)) p e)
         (proper (greater_key x.1 (i, ask)) (going (greater-one x.1 (i, ask))))
       where
         same-place : x.0 ≡ r
@@ -507,9 +495,6 @@ more-ready home r n may e =
     let some : (complete_upto home n - (n.cursor + r) == 0) ≡ false = rw many at e in
     let positive : 1 ≤ complete_upto home n - (n.cursor + r) = not-zero (complete_upto home n - (n.cursor + r)) some in
     omega (arith, positive)
-  where
-    not-zero : (k : ℕ) → (k == 0) ≡ false → 1 ≤ k
-    not-zero k d = grind (arith, common_steps)
 
 pub milled-asking : (home : Home) (most r : ℕ) (n : PlainNode) → IsPlace home → MayMill home r n → IsGood home most n → IsAsking home n → IsAsking home (mill_step home r n).after
 unfolding mill_step

@@ -16,18 +16,7 @@ use Rattle.dpc_model.specs.declared.plans.StreamRef.{StreamRef}
 use Rattle.node_model.specs.Mails.{Mail, mail, mails, in_actor_order, to_each, to_readers}
 use Rattle.node_model.specs.Nodes.{Home, PlainNode, own_readers}
 use Rattle.node_model.specs.NodeSteps.{peers_of, done_at, acks_from, beat_of, beats}
-
-abbrev pub Each : {X : Type 0} → (X → Type 0) → List X → Type 0
-Each P [] = Unit {0}
-Each P (x ∷ xs) = P x × Each P xs
-
-pub each-append : {X : Type 0} (P : X → Type 0) (xs ys : List X) → Each P xs → Each P ys → Each P (xs ++ ys)
-each-append P [] ys h k = k
-each-append P (x ∷ xs) ys h k = (h.0, each-append P xs ys h.1 k)
-
-pub each-weaker : {X : Type 0} (P Q : X → Type 0) (xs : List X) → ((x : X) → P x → Q x) → Each P xs → Each Q xs
-each-weaker P Q [] f h = tt
-each-weaker P Q (x ∷ xs) f h = (f x h.0, each-weaker P Q xs f h.1)
+use Rattle.dpc_lists.proofs.Each.{Each, each-append}
 
 module _ (P : Mail → Type 0) where
   each-insert : (m : Mail) (ms : List Mail) → P m → Each P ms → Each P (insert_by (λ (x : Mail). x.to) m ms)

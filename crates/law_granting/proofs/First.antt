@@ -22,22 +22,20 @@ use Rattle.world_model.specs.Worlds.{Envelope, source_at, no_source, run_from, r
 use Rattle.world_model.specs.Orderly.{is_fitting, packet_way, carries_fitting}
 use Rattle.world_model.specs.SessionLaw.{Channel}
 use Rattle.law_safety.specs.Plans.{IsCheckedPlan}
-use Rattle.law_safety.proofs.Tests.{both, eq-of, eq-test}
+use Rattle.dpc_lists.proofs.Truths.{both, eq-of, eq-test}
+use Rattle.dpc_model.proofs.Roles.{sources-first}
+use Rattle.world_model.proofs.Running.{new_world-none}
 use Rattle.law_safety.proofs.Numbering.{all-at, role-split, source-at as source-number, no-node-source}
 use Rattle.law_safety.proofs.Law.{new_world-fine, new_world-plan, run-fine}
+use Rattle.law_safety.proofs.Growing.{run_from-plan}
 use Rattle.law_granting.specs.Taken.{index_in, index_of, batches_in, taken_in, line_of, IsBatchAt, IsAnsweredIn, PrefixTaken}
-use Rattle.law_granting.proofs.Taking.{run-plan, run-taken}
+use Rattle.law_granting.proofs.Taking.{run-taken}
 use Rattle.law_granting.proofs.Sending.{indexes}
 use Rattle.law_granting.proofs.Sent.{SubHolds}
-use Rattle.law_granting.proofs.Prefix.{taken-first, IsReader, reader-found, none-holds, first-holds, new_world-none, node-sent}
+use Rattle.law_granting.proofs.Prefix.{taken-first, IsReader, reader-found, none-holds, first-holds, node-sent}
 use Rattle.law_granting.proofs.Sourced.{SourceOrder, IsSourceLine, source-run}
 
 -- ---- the opening of a source
-
-sources-first : (rest : List Role) → ((i s : ℕ) → nth Nobody rest i ≡ IsSource s → ⊥) → (from count a s : ℕ) → nth Nobody (map IsSource (range_with_len from count) ++ rest) a ≡ IsSource s → a < count
-sources-first rest none from zero a s e = absurd (none a s e)
-sources-first rest none from (suc count) zero s e = omega arith
-sources-first rest none from (suc count) (suc a) s e = let less = sources-first rest none (from + 1) count a s e in omega (arith, less)
 
 pub source-below : (plan : Plan) (a u : ℕ) → role_of plan a ≡ IsSource u → u < length plan.sources
 source-below plan a u e =
@@ -164,7 +162,7 @@ sender-reads plan events l k v checked b =
     let way = (both (packet_way w.plan (role_of w.plan e.sender) (role_of w.plan e.to) e.packet) (carries_fitting w.plan (role_of w.plan e.sender) e.packet) fits).0 in
     let parts = index-parts l e v b.is_batch in
     let reads = batch-way w.plan (role_of w.plan e.sender) (role_of w.plan e.to) l.sess e.packet v parts.2 way in
-    let same = run-plan (new_world plan) events ∙ new_world-plan plan in
+    let same = run_from-plan (new_world plan) events ∙ new_world-plan plan in
     subst (λ (z : ℕ). reads_from plan (role_of plan z) (role_of plan l.sender) ≡ true) parts.1
     (subst (λ (z : ℕ). reads_from plan (role_of plan e.to) (role_of plan z) ≡ true) parts.0 (subst (λ (p : Plan). reads_from p (role_of p e.to) (role_of p e.sender) ≡ true) same reads))
 

@@ -3,7 +3,8 @@ use Rattle.std.proofs.Common.{◌≡◌, ℕ, zero, suc, ◌+◌, ◌<◌, ◌�
 use Rattle.std.proofs.lemmas.Grind.{common_steps}
 use Rattle.dpc_lists.specs.Lists.{nth, changed}
 use Rattle.dpc_model.specs.Granting.{Key, key_le, greater_key, Grants, with_promise, promise_to, after_peer_beat, later_key, promise_after, after_absence, promise_kept, with_ask, with_ask_over, promised_other}
-use Rattle.law_safety.proofs.Tests.{both, eq-of}
+use Rattle.dpc_lists.proofs.Truths.{both, eq-of}
+use Rattle.dpc_lists.proofs.Somes.{some-same}
 
 -- ---- keys
 
@@ -76,12 +77,6 @@ module _ (Hears Asks Ends : ℕ → Key → Type 0) where
 
 -- ---- what a replica learns, and promises
 
-some-same : (x y : ℕ × Key) → ◌≡◌ {A = Option (ℕ × Key)} (Some x) (Some y) → x ≡ y
-some-same x y e = cc
-
-some-key : (x y : Key) → ◌≡◌ {A = Option Key} (Some x) (Some y) → x ≡ y
-some-key x y e = cc
-
 pub nth-changed : {X : Type 0} (d : X) (i : ℕ) (f : X → X) (xs : List X) (j : ℕ) → (nth d (changed i f xs) j ≡ nth d xs j) ⊎ ((j ≡ i) × (nth d (changed i f xs) j ≡ f (nth d xs j)))
 nth-changed d i f [] j = inl refl
 nth-changed d zero f (x ∷ xs) zero = inr (refl, refl)
@@ -116,9 +111,9 @@ module _ (Hears Asks Ends : ℕ → Key → Type 0) where
           now same = subst (λ (x : Key). Hears q x) same (subst (λ (x : ℕ). Hears x k) (sym here.0) hears)
 
           by-old : (o : Option Key) → nth None g.heard q ≡ o → later_key k o ≡ Some key → (nth None g.heard q ≡ Some key) ⊎ Hears q key
-          by-old None f d = inr (now (some-key k key d))
+          by-old None f d = inr (now (some-same k key d))
           by-old (Some x) f d =
-              let name : greater_key x k ≡ key = some-key (greater_key x k) key d in
+              let name : greater_key x k ≡ key = some-same (greater_key x k) key d in
               elim (greater-one x k) [
                 | inl old ↦ inl (f ∙ ap {B = Option Key} Some (sym old ∙ name))
                 | inr new ↦ inr (now (sym new ∙ name))

@@ -1,5 +1,5 @@
 -- What an event may do to a port: nothing to its session, or the next batch is taken, or a new session is opened.
-use Rattle.std.proofs.Common.{◌≡◌, ℕ, zero, suc, ◌+◌, ◌*◌, Bool, true, false, cond, not, ◌&&◌, ◌||◌, ◌==◌, nat_lt, nat_le, List, [], ◌∷◌, map, refl, sym, ap, subst, ◌∙◌, arith, Option, Some, None, slice_get, ◌⊎◌, inl, inr}
+use Rattle.std.proofs.Common.{◌≡◌, ℕ, zero, suc, ◌+◌, ◌*◌, true, false, cond, not, ◌&&◌, ◌||◌, ◌==◌, nat_lt, nat_le, List, [], ◌∷◌, map, refl, sym, ap, subst, ◌∙◌, arith, Option, Some, None, slice_get, ◌⊎◌, inl, inr}
 use Rattle.std.specs.Prelude.{is_none}
 use Rattle.std.proofs.lemmas.Grind.{common_steps}
 use Rattle.dpc_lists.specs.Lists.{nth, changed, list_all}
@@ -22,9 +22,10 @@ use Rattle.node_model.specs.Mails.{Snap, Packet, Plain, SnapFor, mail, to_each, 
 use Rattle.dpc_model.specs.NodeStates.{is_up_failure, is_stabilization}
 use Rattle.node_model.specs.Nodes.{Home, PlainNode, streams_of, due_at, wants_to_reconcile}
 use Rattle.node_model.specs.NodeSteps.{idle_step, then_do, peers_of, peer_watches, replica_number, reader_place, with_port, emptied_port, adopted_ports, enter_step, after_loss, after_adoption, after_taking, with_stamps_of, on_batch, on_subscribe, on_truncation, on_upstream_beat, on_peer_beat, on_ack, on_ask, on_grant, on_snap_ask, on_snap, on_message, on_packet, with_marks_ended, packet_step, mill_step, after_clock, may_start_afresh, choice_step, ask_step, processing_upto, processing_step, announcing_step, serving_step, snapshot_ask_step, rest_of_tick, with_fresh_start, tick_step}
-use Rattle.law_safety.proofs.Tests.{not-lt, eq-of}
+use Rattle.dpc_lists.proofs.Truths.{not-lt, eq-of, neither, not-first}
+use Rattle.dpc_model.proofs.Subs.{nth-there}
+use Rattle.dpc_lists.proofs.Somes.{some-same}
 use Rattle.law_granting.specs.Taken.{index_in}
-use Rattle.law_granting.proofs.AtWork.{nth-there}
 
 -- ---- one port
 
@@ -142,13 +143,9 @@ took-moves T q u index items h =
 pub beat-moves : (T : ℕ → Sess → ℕ → Type 0) (q : Port) (r : ℕ) (b : Beat) → Moves T q (on_beat r b q)
 beat-moves T q r b =
     elim (r == q.chosen) as (λ c. Moves T q (record { inlet = cond c (after_tally q.inlet b.tally) q.inlet; chosen = q.chosen; watches = (on_beat r b q).watches; ticks = q.ticks })) [
-      | true ↦ inl (record { sess = refl; chosen = refl; next = λ e. (first q.inlet.broken (shows_loss q.inlet b.tally) e, refl); none = λ e. absurd (omega (arith, e)) })
+      | true ↦ inl (record { sess = refl; chosen = refl; next = λ e. ((neither q.inlet.broken (shows_loss q.inlet b.tally) e).0, refl); none = λ e. absurd (omega (arith, e)) })
       | false ↦ inl (record { sess = refl; chosen = refl; next = λ e. (e, refl); none = λ e. absurd (omega (arith, e)) })
     ]
-  where
-    first : (a c : Bool) → (a || c) ≡ false → a ≡ false
-    first true c e = cc
-    first false c e = refl
 
 pub truncated-moves : (T : ℕ → Sess → ℕ → Type 0) (q : Port) (r : ℕ) (u : Sess) (base : ℕ) → Moves T q (on_truncated r u base q)
 truncated-moves T q r u base = inl (stays-same q (on_truncated r u base q) refl refl refl refl)
@@ -160,15 +157,11 @@ pub chosen-moves : (T : ℕ → Sess → ℕ → Type 0) (q : Port) → Moves T 
 chosen-moves T q =
     (elim (must_reopen q) as (λ c. must_reopen q ≡ c → Moves T q (record q { inlet = cond c (with_next_session q.inlet) q.inlet; chosen = choice_at q; ticks = cond c 0 q.ticks })) [
       | true ↦ λ e. inr (inl (record { sess = other q.inlet.sess; to = refl; next = refl }))
-      | false ↦ λ e. inl (stays-same q (record q { chosen = choice_at q }) refl (eq-of (choice_at q) q.chosen (first (choice_at q == q.chosen) q.inlet.broken (not q.inlet.answered && nat_le 3 q.ticks) e)) refl refl)
+      | false ↦ λ e. inl (stays-same q (record q { chosen = choice_at q }) refl (eq-of (choice_at q) q.chosen (not-first (choice_at q == q.chosen) q.inlet.broken (not q.inlet.answered && nat_le 3 q.ticks) e)) refl refl)
     ]) refl
   where
     other : (u : Sess) → (u.inc == u.inc && u.number == u.number + 1) ≡ false
     other u = grind (arith, common_steps)
-
-    first : (a b c : Bool) → (not a || b || c) ≡ false → a ≡ true
-    first true b c e = refl
-    first false b c e = cc
 
 -- ---- the node's ports
 
@@ -271,10 +264,7 @@ module _ (home : Home) (a : ℕ) (packet : Packet) where
       among : (b : ℕ) (tss : List (List Tuple)) (ps : List Port) → PortsMove (DeliversNext home a packet) ps (adopted_ports b tss ps)
       among b [] ps p r e = cc
       among b (ts ∷ tss) [] p r e = cc
-      among b (ts ∷ tss) (q ∷ ps) zero r e = (q, refl, subst (λ (x : Port). Moves (DeliversNext home a packet 0) q x) (some-port (emptied_port ts b q) r e) (emptied-moves (DeliversNext home a packet 0) q ts b))
-        where
-          some-port : (x y : Port) → ◌≡◌ {A = Option Port} (Some x) (Some y) → x ≡ y
-          some-port x y f = cc
+      among b (ts ∷ tss) (q ∷ ps) zero r e = (q, refl, subst (λ (x : Port). Moves (DeliversNext home a packet 0) q x) (some-same (emptied_port ts b q) r e) (emptied-moves (DeliversNext home a packet 0) q ts b))
       among b (ts ∷ tss) (q ∷ ps) (suc p) r e = let k = shifted b tss ps p r e in k
         where
           stays-any : (p : ℕ) (x : Port) (ts : List Tuple) (b : ℕ) → Moves (DeliversNext home a packet p) x (emptied_port ts b x)
@@ -283,10 +273,7 @@ module _ (home : Home) (a : ℕ) (packet : Packet) where
           shifted : (b : ℕ) (tss : List (List Tuple)) (ps : List Port) (i : ℕ) (r : Port) → slice_get (adopted_ports b tss ps) i ≡ Some r → (x : Port) × (slice_get ps i ≡ Some x) × Moves (DeliversNext home a packet (suc p)) x r
           shifted b [] ps i r e = cc
           shifted b (ts ∷ tss) [] i r e = cc
-          shifted b (ts ∷ tss) (x ∷ ps) zero r e = (x, refl, subst (λ (y : Port). Moves (DeliversNext home a packet (suc p)) x y) (some-port (emptied_port ts b x) r e) (stays-any (suc p) x ts b))
-            where
-              some-port : (x y : Port) → ◌≡◌ {A = Option Port} (Some x) (Some y) → x ≡ y
-              some-port x y f = cc
+          shifted b (ts ∷ tss) (x ∷ ps) zero r e = (x, refl, subst (λ (y : Port). Moves (DeliversNext home a packet (suc p)) x y) (some-same (emptied_port ts b x) r e) (stays-any (suc p) x ts b))
           shifted b (ts ∷ tss) (x ∷ ps) (suc i) r e = shifted b tss ps i r e
 
 entered-ports : (home : Home) (n : PlainNode) → (enter_step home n).after.ports ≡ n.ports

@@ -1,5 +1,5 @@
 -- The batches taken are the first ones sent.
-use Rattle.std.proofs.Common.{◌≡◌, ℕ, zero, suc, ◌+◌, ◌<◌, Bool, true, false, cond, ◌==◌, List, [], ◌∷◌, map, length, refl, sym, ap, subst, ◌∙◌, arith, Option, Some, None, slice_get, unwrap_or, ◌⊎◌, inl, inr}
+use Rattle.std.proofs.Common.{◌≡◌, ℕ, zero, suc, ◌+◌, ◌<◌, Bool, true, false, cond, ◌==◌, List, [], ◌∷◌, map, length, refl, sym, ap, subst, ◌∙◌, arith, Option, Some, None, slice_get, unwrap_or, inl, inr}
 use Rattle.std.specs.List.{filter, enumerate_from}
 use Rattle.dpc_lists.specs.Lists.{nth, range_with_len, list_any, IsPrefixOf}
 use Rattle.dpc_model.specs.Inlets.{same_sess, sess_of}
@@ -13,10 +13,15 @@ use Rattle.dpc_model.specs.declared.messages.Sess.{Sess}
 use Rattle.dpc_model.specs.declared.plans.Plan.{Plan}
 use Rattle.dpc_model.specs.declared.plans.StreamRef.{StreamRef}
 use Rattle.dpc_model.specs.declared.plans.StreamRef.TheVariants.{Frag}
+use Rattle.dpc_lists.proofs.Elements.{range-at}
+use Rattle.dpc_model.proofs.Subs.{nth-const}
+use Rattle.dpc_model.proofs.Roles.{numbers_where}
+use Rattle.dpc_lists.proofs.Somes.{some-same, some-pair}
 use Rattle.node_model.specs.Nodes.{Home, PlainNode, own_readers, first_session, new_node}
 use Rattle.world_model.specs.Worlds.{World, Envelope, Slot, home_of, happens, run_from, run, new_world}
 use Rattle.world_model.specs.Safe.{EachStep}
 use Rattle.world_model.specs.SessionLaw.{Channel}
+use Rattle.world_model.proofs.Running.{new_world-none}
 use Rattle.law_safety.specs.Plans.{IsCheckedPlan}
 use Rattle.law_safety.proofs.Happening.{IsFine, happens-next}
 use Rattle.law_safety.proofs.Law.{new_world-fine, new_world-plan}
@@ -29,11 +34,6 @@ use Rattle.law_granting.proofs.Sent.{SubHolds, SentOrder, IsNodeLine, event-orde
 use Rattle.law_safety.proofs.Distinct.{readers-distinct}
 
 -- ---- lists
-
-range-at : (k n j v : ℕ) → slice_get (range_with_len k n) j ≡ Some v → v ≡ k + j
-range-at k zero j v e = cc
-range-at k (suc n) zero v e = let same : k ≡ v = cc in omega (arith, same)
-range-at k (suc n) (suc j) v e = let far = range-at (k + 1) n j v e in omega (arith, far)
 
 -- a batch stands at the place of its index among the indices
 batch-found : (l : Channel) (k : ℕ) (es : List Envelope) (d v : ℕ) (e : Envelope) → slice_get es d ≡ Some e → index_of l e ≡ Some v → (j : ℕ) × (slice_get (batches_in l k es) j ≡ Some (k + d)) × (slice_get (indexes l es) j ≡ Some v)
@@ -57,12 +57,9 @@ agreeing : (ks ns : List ℕ) → ((j k : ℕ) → slice_get ks j ≡ Some k →
 agreeing [] ns h = (ns, refl)
 agreeing (k ∷ ks) [] h = let clash : ◌≡◌ {A = Option ℕ} None (Some k) = h 0 k refl in cc
 agreeing (k ∷ ks) (n ∷ ns) h =
-    let same : n ≡ k = some-is n k (h 0 k refl) in
+    let same : n ≡ k = some-same n k (h 0 k refl) in
     let rest = agreeing ks ns (λ j m e. h (suc j) m e) in
     (rest.0, ap (λ (z : ℕ). z ∷ ns) same ∙ ap (λ (zs : List ℕ). k ∷ zs) rest.1)
-  where
-    some-is : (x y : ℕ) → ◌≡◌ {A = Option ℕ} (Some x) (Some y) → x ≡ y
-    some-is x y e = cc
 
 -- what is taken in order of what is sent in order is its beginning
 pub taken-first : (l : Channel) (es : List Envelope) (many : ℕ) (ks : List ℕ) → indexes l es ≡ range_with_len 0 many → ((j k : ℕ) → slice_get ks j ≡ Some k → IsBatchAt l es k j) → IsPrefixOf ks (batches_in l 0 es)
@@ -77,10 +74,7 @@ taken-first l es many ks order h =
 
 -- ---- actors that pass a test
 
-abbrev numbers : (Role → Bool) → ℕ → List Role → List ℕ
-numbers test k roles = map (λ (x : ℕ × Role). x.0) (filter (λ (x : ℕ × Role). test x.1) (enumerate_from k roles))
-
-number-found : (test : Role → Bool) (k : ℕ) (roles : List Role) (i : ℕ) → test Nobody ≡ false → test (nth Nobody roles i) ≡ true → (j : ℕ) × (slice_get (numbers test k roles) j ≡ Some (k + i))
+number-found : (test : Role → Bool) (k : ℕ) (roles : List Role) (i : ℕ) → test Nobody ≡ false → test (nth Nobody roles i) ≡ true → (j : ℕ) × (slice_get (numbers_where test k roles) j ≡ Some (k + i))
 number-found test k [] i none e = let clash : true ≡ false = sym e ∙ none in cc
 number-found test k (role ∷ roles) zero none e =
     let here : k + 0 ≡ k = omega arith in
@@ -125,23 +119,15 @@ sent-run w most (e ∷ events) a x f r k i s fine asking line h told =
     (subst (λ (p : Plan). IsNodeLine p a x f r k) (sym (event-grows w e).plan) line)
     (event-order w most a x f r k i s fine asking line h e told.0) told.1
 
-nth-const : {X : Type 0} (z : Sub) (ys : List X) (k : ℕ) → (nth no_session (map (λ (_ : X). z) ys) k ≡ z) ⊎ (nth no_session (map (λ (_ : X). z) ys) k ≡ no_session)
-nth-const z [] k = inr refl
-nth-const z (y ∷ ys) zero = inl refl
-nth-const z (y ∷ ys) (suc k) = nth-const z ys k
-
 pub none-holds : (s : Sess) (i inc : ℕ) → SubHolds s i 0 inc no_session
 none-holds s i inc = (λ c. record { open_one = λ v m g u. cc; newer = λ g. refl }, λ c. record { other = λ v m g. cc })
 
 pub first-holds : (s : Sess) (i : ℕ) → (same_sess (sess_of 1 1) s ≡ true → i ≡ 1) → SubHolds s i 0 1 opening_session
 first-holds s i opening = (
-  λ c. record { open_one = λ v m g u. let p = pair-of (sess_of 1 1) v 0 m g in sym p.1; newer = λ g. refl },
-  λ c. record { other = λ v m g. let p = pair-of (sess_of 1 1) v 0 m g in ap (λ (z : Sess). same_sess z s) (sym p.0) ∙ not-first c },
+  λ c. record { open_one = λ v m g u. let p = some-pair (sess_of 1 1) v 0 m g in sym p.1; newer = λ g. refl },
+  λ c. record { other = λ v m g. let p = some-pair (sess_of 1 1) v 0 m g in ap (λ (z : Sess). same_sess z s) (sym p.0) ∙ not-first c },
 )
   where
-    pair-of : (v u : Sess) (m n : ℕ) → ◌≡◌ {A = Option (Sess × ℕ)} (Some (v, m)) (Some (u, n)) → (v ≡ u) × (m ≡ n)
-    pair-of v u m n e = let same : ◌≡◌ {A = Sess × ℕ} (v, m) (u, n) = cc in (ap (λ (z : Sess × ℕ). z.0) same, ap (λ (z : Sess × ℕ). z.1) same)
-
     not-first : (1 ≡ i → ⊥) → same_sess (sess_of 1 1) s ≡ false
     not-first c = (elim (same_sess (sess_of 1 1) s) as (λ b. same_sess (sess_of 1 1) s ≡ b → b ≡ false) [ false ↦ λ e. refl | true ↦ λ e. absurd (c (sym (opening e))) ]) refl
 
@@ -153,10 +139,6 @@ new-sub home k i s opening =
       | inr none ↦ subst (λ (z : Sub). SubHolds s i 0 1 z) (sym none) (none-holds s i 1)
     ]
 
-pub new_world-none : (plan : Plan) → (new_world plan).envelopes ≡ []
-unfolding new_world
-new_world-none plan = refl
-
 pub new-order : (plan : Plan) (a x f r k i : ℕ) (s : Sess) → role_of plan a ≡ IsNode f r → (same_sess (sess_of 1 1) s ≡ true → i ≡ 1) → SentOrder (new_world plan) a x k i s
 new-order plan a x f r k i s role opening =
     record {
@@ -165,12 +147,9 @@ new-order plan a x f r k i s role opening =
       early = λ e. refl;
       there = λ n up.
           let slot = new-slot plan a f r role in
-          let it = some-node (new_node (home_of plan (f, r))) n (sym (ap (λ (z : Slot). z.node) slot) ∙ up) in
+          let it = some-same (new_node (home_of plan (f, r))) n (sym (ap (λ (z : Slot). z.node) slot) ∙ up) in
           subst (λ (z : PlainNode). SubHolds s i 0 z.grants.inc (nth no_session z.subs k)) it (new-sub (home_of plan (f, r)) k i s opening);
     }
-  where
-    some-node : (y z : PlainNode) → ◌≡◌ {A = Option PlainNode} (Some y) (Some z) → y ≡ z
-    some-node y z e = cc
 
 -- a node's session that was answered in one incarnation
 pub node-sent : (plan : Plan) (events : List Event) (a x f r i : ℕ) (s : Sess) → IsCheckedPlan plan → role_of plan a ≡ IsNode f r → IsReader plan (Frag f) x → IsAnsweredIn plan events (record { sender = a; reader = x; sess = s }) i →

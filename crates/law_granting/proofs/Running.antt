@@ -15,7 +15,7 @@ use Rattle.world_model.specs.Worlds.{World, Slot, home_of, node_place, slot_of, 
 use Rattle.world_model.specs.Safe.{EachReaches}
 use Rattle.world_model.specs.Orderly.{has_state_of_closed}
 use Rattle.law_safety.specs.Plans.{IsCheckedPlan, IsPlace}
-use Rattle.law_safety.proofs.Tests.{both, both-of, le-test}
+use Rattle.dpc_lists.proofs.Truths.{both, both-of, le-test, not-of, or-left, or-right}
 use Rattle.law_safety.proofs.Frames.{IsGood}
 use Rattle.law_safety.proofs.Numbering.{node-at}
 use Rattle.law_safety.proofs.Processing.{least-reached}
@@ -27,6 +27,7 @@ use Rattle.law_granting.specs.Asking.{reconciles, AsksInOrder, AreAsksInOrder}
 use Rattle.law_granting.proofs.AtWork.{IsAtWork, IsAsking, idle, unstable-failed}
 use Rattle.law_granting.proofs.Asked.{IsInOrder, IsAskingWorld, heard-none, event-asking}
 use Rattle.dpc_lists.proofs.Elements.{get-map}
+use Rattle.dpc_lists.proofs.Somes.{some-same}
 
 -- ---- one node
 
@@ -66,20 +67,8 @@ node-order home most n place g h =
       promise = λ p e. let k = h.promise p e in record { other = k.other; lower = k.lower; going_on = k.going_on };
     }
   where
-    not-of : (b : Bool) → not b ≡ true → b ≡ false
-    not-of true e = cc
-    not-of false e = refl
-
     parts : reconciles n ≡ true → (is_stabilization n.state ≡ true) × (n.recovering ≡ false)
     parts e = let p = both (is_stabilization n.state) (not n.recovering) e in (p.0, not-of n.recovering p.1)
-
-    or-left : (a b : Bool) → a ≡ true → (a || b) ≡ true
-    or-left true b e = refl
-    or-left false b e = cc
-
-    or-right : (a b : Bool) → b ≡ true → (a || b) ≡ true
-    or-right true b e = refl
-    or-right false b e = e
 
     wanting : IsAtWork home n → (b : Bool) → is_stabilization n.state ≡ b → (wants_to_reconcile home n || reconciles n) ≡ true
     wanting w true e =
@@ -117,13 +106,10 @@ new_world-asking plan =
     record {
       nodes = λ a f r n role up.
           let slot = new-slot plan a f r role in
-          let same = some-node (new_node (home_of plan (f, r))) n (sym (ap (λ (x : Slot). x.node) slot) ∙ up) in
+          let same = some-same (new_node (home_of plan (f, r))) n (sym (ap (λ (x : Slot). x.node) slot) ∙ up) in
           subst (λ (x : Slot). IsInOrder (new_world plan) f r x.last_inc n) (sym slot) (subst (λ (x : PlainNode). IsInOrder (new_world plan) f r 1 x) same (new-order plan f r));
       sent = λ k f r e there role. cc;
     }
-  where
-    some-node : (x y : PlainNode) → ◌≡◌ {A = Option PlainNode} (Some x) (Some y) → x ≡ y
-    some-node x y e = cc
 
 -- ---- a run
 

@@ -22,10 +22,11 @@ use Rattle.dpc_model.specs.declared.messages.Message.{Message}
 use Rattle.dpc_model.specs.declared.messages.Message.TheVariants as message
 use Rattle.node_model.specs.Mails.{Snap, Packet, Plain, SnapFor, Mail, mail, mails, in_actor_order, to_each, Stepped}
 use Rattle.dpc_model.specs.NodeStates.{is_up_failure, is_stabilization}
+use Rattle.dpc_lists.proofs.Places.{place-nth}
 use Rattle.node_model.specs.Nodes.{Home, PlainNode, streams_of, own_readers, node_frontier, out_stable, shown, complete_buckets, ready, due_at, wants_to_reconcile}
 use Rattle.node_model.specs.NodeSteps.{idle_step, then_do, peers_of, peer_watches, replica_number, with_port, give, given_by, given_stable, enter_step, after_loss, after_adoption, after_taking, with_stamps_of, on_batch, on_subscribe, on_truncation, on_upstream_beat, on_peer_beat, on_ack, on_ask, on_grant, on_snap_ask, on_snap, reader_place, on_message, on_packet, with_marks_ended, packet_step, after_stable_buckets, after_last_correction, mill_step, after_clock, may_start_afresh, choice_step, ask_step, with_closed, with_failure, processing_upto, processing_step, acks_from, beats, announcing_step, serving_step, snapshot_ask_step, rest_of_tick, with_fresh_start, tick_step}
-use Rattle.law_safety.proofs.Delivered.{place-nth}
-use Rattle.law_granting.proofs.Each.{Each, each-append, each-sorted, each-to, each-batches, each-subscription, each-acks, each-beats}
+use Rattle.dpc_lists.proofs.Each.{Each, each-append}
+use Rattle.law_granting.proofs.Each.{each-sorted, each-to, each-batches, each-subscription, each-acks, each-beats}
 use Rattle.law_granting.proofs.Keys.{key-refl, greater-second, IsAskStep, step-same, step-asking, step-finished, step-told, step-granted, step-silent}
 
 -- ---- what a mail says

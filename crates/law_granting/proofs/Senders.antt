@@ -3,15 +3,13 @@ use Rattle.std.proofs.Common.{◌≡◌, ℕ, zero, suc, ◌+◌, ◌-◌, min, 
 use Rattle.std.specs.Prelude.{is_none}
 use Rattle.std.proofs.lemmas.List.{length-map}
 use Rattle.dpc_lists.specs.Lists.{nth, changed, list_all}
-use Rattle.dpc_model.specs.Inlets.{same_sess, take_batch, AfterBatch}
+use Rattle.dpc_model.specs.Inlets.{same_sess}
 use Rattle.dpc_model.specs.Replicas.{is_absent}
 use Rattle.dpc_model.specs.Granting.{grants, with_promise, own_key, with_ask, may_enter_by}
 use Rattle.dpc_model.specs.Actors.{replicas_of}
 use Rattle.dpc_model.specs.Ports.{no_port, sender_at, on_truncated, all_truncated, subscriptions}
 use Rattle.dpc_model.specs.Sessions.{no_session, answer_to, with_session_shut, given_items}
 use Rattle.dpc_model.specs.declared.sessions.Sub.{Sub}
-use Rattle.dpc_model.specs.declared.batches.Taken.{Taken}
-use Rattle.dpc_model.specs.declared.batches.Taken.TheVariants.{Used, Old, Broken}
 use Rattle.dpc_model.specs.declared.tuples.Item.{Item}
 use Rattle.dpc_model.specs.declared.tuples.Item.TheVariants as item
 use Rattle.dpc_model.specs.declared.messages.Sess.{Sess}
@@ -23,20 +21,21 @@ use Rattle.dpc_model.specs.declared.messages.NodeState.TheVariants.{Stabilizatio
 use Rattle.node_model.specs.Mails.{Snap, Packet, Plain, SnapFor, Mail, mail, mails, in_actor_order, to_each, Stepped}
 use Rattle.dpc_model.specs.NodeStates.{is_up_failure, is_stabilization}
 use Rattle.node_model.specs.Nodes.{Home, PlainNode, streams_of, own_readers, node_frontier, out_stable, shown, complete_buckets, ready, due_at, wants_to_reconcile}
-use Rattle.node_model.specs.NodeSteps.{idle_step, then_do, peers_of, peer_watches, replica_number, reader_place, with_port, give, given_by, given_stable, enter_step, after_loss, after_adoption, after_taking, with_stamps_of, on_batch, on_subscribe, on_truncation, on_upstream_beat, on_peer_beat, on_ack, on_ask, on_grant, on_snap_ask, on_snap, on_message, on_packet, with_marks_ended, packet_step, after_stable_buckets, after_last_correction, mill_step, after_clock, may_start_afresh, choice_step, ask_step, with_closed, with_failure, processing_upto, processing_step, acks_from, beats, announcing_step, serving_step, snapshot_ask_step, rest_of_tick, with_fresh_start, tick_step}
+use Rattle.node_model.specs.NodeSteps.{idle_step, then_do, peers_of, peer_watches, replica_number, reader_place, with_port, give, given_by, given_stable, enter_step, after_loss, after_adoption, on_subscribe, on_truncation, on_ack, on_ask, on_grant, on_snap_ask, on_snap, on_message, on_packet, with_marks_ended, packet_step, after_stable_buckets, after_last_correction, mill_step, after_clock, may_start_afresh, choice_step, ask_step, with_closed, with_failure, processing_upto, processing_step, acks_from, beats, announcing_step, serving_step, snapshot_ask_step, rest_of_tick, with_fresh_start, tick_step}
 use Rattle.world_model.specs.Worlds.{Envelope, from}
 use Rattle.world_model.specs.SessionLaw.{Channel}
-use Rattle.law_safety.proofs.Tests.{both-of, eq-of, eq-test}
+use Rattle.dpc_lists.proofs.Truths.{both-of, eq-of, eq-test, and-false}
 use Rattle.law_safety.proofs.Histories.{AreDistinct}
 use Rattle.dpc_lists.proofs.Elements.{length-changed}
-use Rattle.law_safety.proofs.Giving.{place-below}
-use Rattle.law_safety.proofs.Delivered.{place-nth}
+use Rattle.dpc_lists.proofs.Places.{place-within, place-nth}
+use Rattle.dpc_model.proofs.Subs.{length-counted}
+use Rattle.dpc_lists.proofs.Each.{Each, each-append}
+use Rattle.node_model.proofs.Mailed.{batch-subs, beat-subs, ack-subs}
 use Rattle.law_granting.specs.Taken.{subscribes_packet}
-use Rattle.law_granting.proofs.Each.{Each, each-append, each-sorted, each-to, each-subscription, each-acks, each-beats}
+use Rattle.law_granting.proofs.Each.{each-sorted, each-to, each-subscription, each-acks, each-beats}
 use Rattle.law_granting.proofs.Keys.{nth-changed}
 use Rattle.law_granting.proofs.Asked.{same-or}
 use Rattle.law_granting.proofs.Sending.{indexes, indexes-append, SendsOn, sends-none, sends-shut, sends-then, answer_index, sends-answered, IsNoBatch, none-indexed, skip-other, take-mine, nth-map, sends-given}
-use Rattle.law_safety.proofs.Processing.{length-counted}
 
 map-append : (a : ℕ) (ms ns : List Mail) → map (from a) (ms ++ ns) ≡ map (from a) ms ++ map (from a) ns
 map-append a [] ns = refl
@@ -132,11 +131,7 @@ module _ (home : Home) (a k : ℕ) (s : Sess) (opens : Bool) (distinct : AreDist
             where
               by-value : (b : Bool) → (nth 0 (own_readers home) j == nth 0 (own_readers home) k) ≡ b → (nth 0 (own_readers home) j == nth 0 (own_readers home) k) ≡ false
               by-value false d = d
-              by-value true d = absurd (other (distinct j k (place-below (λ b. sender == b) (own_readers home) j e) low (eq-of (nth 0 (own_readers home) j) (nth 0 (own_readers home) k) d)))
-
-          and-false : (b c : Bool) → c ≡ false → (b && c) ≡ false
-          and-false true c d = d
-          and-false false c d = refl
+              by-value true d = absurd (other (distinct j k (place-within (λ b. sender == b) (own_readers home) j e) low (eq-of (nth 0 (own_readers home) j) (nth 0 (own_readers home) k) d)))
 
           answer-is : (o : Option Message) → indexes line (map (from a) (elim o as (λ _. List Mail) [ None ↦ [] | Some m ↦ mail (nth 0 (own_readers home) j) m ∷ [] ])) ≡ []
           answer-is None = refl
@@ -181,38 +176,13 @@ module _ (home : Home) (a k : ℕ) (s : Sess) (opens : Bool) (distinct : AreDist
   unless-sends : (n : PlainNode) (t : Stepped PlainNode) → length n.subs ≡ length (own_readers home) → Sends n.subs t → Sends n.subs (cond n.recovering (idle_step n) t)
   unless-sends n t many h = elim n.recovering as (λ b. Sends n.subs (cond b (idle_step n) t)) [ true ↦ sends-quiet n.subs (idle_step n) many refl tt | false ↦ h ]
 
-  took-subs : (p : ℕ) (t : AfterBatch) (n : PlainNode) → (after_taking home p t n).subs ≡ n.subs
-  took-subs p t n = by-answer t.answer
-    where
-      by-answer : (x : Taken) → (with_stamps_of home x (with_port p (λ q. record q { inlet = t.after }) n)).subs ≡ n.subs
-      by-answer (Used items) = refl
-      by-answer Old = refl
-      by-answer Broken = refl
-
-  batch-subs : (u : Sess) (index : ℕ) (items : List Item) (o : Option (ℕ × ℕ)) (n : PlainNode) → (on_batch home u index items o n).subs ≡ n.subs
-  batch-subs u index items None n = refl
-  batch-subs u index items (Some pr) n = elim ((nth no_port n.ports pr.0).chosen == pr.1) as (λ b. (cond b (after_taking home pr.0 (take_batch (nth no_port n.ports pr.0).inlet u index items) n) n).subs ≡ n.subs) [
-    | true ↦ took-subs pr.0 (take_batch (nth no_port n.ports pr.0).inlet u index items) n
-    | false ↦ refl
-  ]
-
-  beat-subs : (b : Beat) (o : Option ℕ) (r : Option (ℕ × ℕ)) (n : PlainNode) → (on_peer_beat b o (on_upstream_beat b r n)).subs ≡ n.subs
-  beat-subs b None None n = refl
-  beat-subs b None (Some pr) n = refl
-  beat-subs b (Some q) None n = refl
-  beat-subs b (Some q) (Some pr) n = refl
-
-  ack-subs : (i count : ℕ) (o : Option ℕ) (n : PlainNode) → (on_ack home i count o n).subs ≡ n.subs
-  ack-subs i count None n = refl
-  ack-subs i count (Some j) n = refl
-
   message-sends : (sender : ℕ) (m : Message) (n : PlainNode) → (sender ≡ nth 0 (own_readers home) k → subscribes_packet s (Plain m) ≡ true → opens ≡ true) → length n.subs ≡ length (own_readers home) → Sends n.subs (on_message home sender m n)
-  message-sends sender (message.Batch u index items) n told many = sends-quiet n.subs (on_message home sender (message.Batch u index items) n) many (batch-subs u index items (sender_at home.plan (streams_of home) sender) n) tt
+  message-sends sender (message.Batch u index items) n told many = sends-quiet n.subs (on_message home sender (message.Batch u index items) n) many (batch-subs home u index items (sender_at home.plan (streams_of home) sender) n) tt
   message-sends sender (message.Subscribe asked) n told many = unless-sends n (on_subscribe home asked (reader_place home sender) n) many (subscribed-sends sender asked (reader_place home sender) n refl told many)
   message-sends sender (message.Truncated u base) n told many = truncation-sends u base (sender_at home.plan (streams_of home) sender) n many
   message-sends sender (message.Beat b) n told many = sends-quiet n.subs (on_message home sender (message.Beat b) n) many (beat-subs b (replica_number home sender) (sender_at home.plan (streams_of home) sender) n) tt
   message-sends sender (message.Ack i count) n told many =
-      sends-quiet n.subs (on_message home sender (message.Ack i count) n) many (elim n.recovering as (λ b. (cond b n (on_ack home i count (reader_place home sender) n)).subs ≡ n.subs) [ true ↦ refl | false ↦ ack-subs i count (reader_place home sender) n ]) tt
+      sends-quiet n.subs (on_message home sender (message.Ack i count) n) many (elim n.recovering as (λ b. (cond b n (on_ack home i count (reader_place home sender) n)).subs ≡ n.subs) [ true ↦ refl | false ↦ ack-subs home i count (reader_place home sender) n ]) tt
   message-sends sender (message.Ask i ask) n told many = ask-sends i ask (replica_number home sender) n many
   message-sends sender (message.Grant i ask) n told many = grant-sends i ask n many
   message-sends sender (message.SnapAsk i try) n told many = unless-sends n (on_snap_ask home sender i try n) many (sends-quiet n.subs (on_snap_ask home sender i try n) many refl (λ z. refl, tt))

@@ -14,10 +14,11 @@ use Rattle.dpc_model.specs.declared.messages.Message.TheVariants as message
 use Rattle.node_model.specs.Mails.{Mail, mail, Plain, to_readers}
 use Rattle.world_model.specs.Worlds.{Envelope, from}
 use Rattle.world_model.specs.SessionLaw.{Channel}
-use Rattle.law_safety.proofs.Tests.{both-of, eq-of, eq-test}
+use Rattle.dpc_lists.proofs.Truths.{both-of, eq-of, eq-test, and-false}
+use Rattle.dpc_lists.proofs.Somes.{some-pair}
 use Rattle.law_safety.proofs.Histories.{AreDistinct, newer-kept}
+use Rattle.dpc_lists.proofs.Each.{Each}
 use Rattle.law_granting.specs.Taken.{index_in, index_of}
-use Rattle.law_granting.proofs.Each.{Each}
 
 -- ---- indices
 
@@ -116,9 +117,6 @@ sends-then s opens a b c xs ys h k =
 
 -- ---- a batch more
 
-pair-of : (v u : Sess) (m n : ℕ) → ◌≡◌ {A = Option (Sess × ℕ)} (Some (v, m)) (Some (u, n)) → (v ≡ u) × (m ≡ n)
-pair-of v u m n e = let same : ◌≡◌ {A = Sess × ℕ} (v, m) (u, n) = cc in (ap (λ (z : Sess × ℕ). z.0) same, ap (λ (z : Sess × ℕ). z.1) same)
-
 -- the index of an open session's batch
 abbrev pub given_index : Option (Sess × ℕ) → Sess → List ℕ
 given_index None s = []
@@ -160,7 +158,7 @@ sends-counted s opens sub = by-parts sub.kept sub.is_open refl refl
                 let it = c.open_one u sub.batches open_now same in (
                   ap (λ (z : ℕ). z ∷ []) it,
                   record {
-                    open_one = λ v m e d. let p = pair-of v u m (sub.batches + 1) (sym e ∙ open_next) in p.1 ∙ ap (λ (z : ℕ). z + 1) it;
+                    open_one = λ v m e d. let p = some-pair v u m (sub.batches + 1) (sym e ∙ open_next) in p.1 ∙ ap (λ (z : ℕ). z + 1) it;
                     newer = λ e. absurd (not-newer (kept-newer e) same);
                   },
                 );
@@ -171,12 +169,12 @@ sends-counted s opens sub = by-parts sub.kept sub.is_open refl refl
             counts = λ n c. (
               refl,
               record {
-                open_one = λ v m e d. let p = pair-of v u m (sub.batches + 1) (sym e ∙ open_next) in let clash : true ≡ false = sym d ∙ ap (λ (z : Sess). same_sess z s) p.0 ∙ other in cc;
+                open_one = λ v m e d. let p = some-pair v u m (sub.batches + 1) (sym e ∙ open_next) in let clash : true ≡ false = sym d ∙ ap (λ (z : Sess). same_sess z s) p.0 ∙ other in cc;
                 newer = λ e. no-more n ∙ c.newer (subst (λ (k : Option Sess). is_newer_than_kept s k ≡ true) kept-same e);
               },
             );
-            quiet = λ e c. (refl, record { other = λ v m d. let p = pair-of v u m (sub.batches + 1) (sym d ∙ open_next) in ap (λ (z : Sess). same_sess z s) p.0 ∙ other });
-            fresh = λ c. inr (record { other = λ v m d. let p = pair-of v u m (sub.batches + 1) (sym d ∙ open_next) in ap (λ (z : Sess). same_sess z s) p.0 ∙ other });
+            quiet = λ e c. (refl, record { other = λ v m d. let p = some-pair v u m (sub.batches + 1) (sym d ∙ open_next) in ap (λ (z : Sess). same_sess z s) p.0 ∙ other });
+            fresh = λ c. inr (record { other = λ v m d. let p = some-pair v u m (sub.batches + 1) (sym d ∙ open_next) in ap (λ (z : Sess). same_sess z s) p.0 ∙ other });
           }
         ]) refl)
       where
@@ -236,7 +234,7 @@ sends-answered s opens x sub asked told =
                 let none = c.newer (same-kept asked.sess s sub.kept same new) in (
                   ap (λ (z : ℕ). z ∷ []) (sym none),
                   record {
-                    open_one = λ v m e d. let p = pair-of v asked.sess m 1 (sym e) in let one = p.1 in omega (arith, one, none);
+                    open_one = λ v m e d. let p = some-pair v asked.sess m 1 (sym e) in let one = p.1 in omega (arith, one, none);
                     newer = λ e. absurd (newer-not asked.sess s e same);
                   },
                 );
@@ -247,12 +245,12 @@ sends-answered s opens x sub asked told =
             counts = λ n c. (
               refl,
               record {
-                open_one = λ v m e d. let p = pair-of v asked.sess m 1 (sym e) in let clash : true ≡ false = sym d ∙ ap (λ (z : Sess). same_sess z s) p.0 ∙ other in cc;
+                open_one = λ v m e d. let p = some-pair v asked.sess m 1 (sym e) in let clash : true ≡ false = sym d ∙ ap (λ (z : Sess). same_sess z s) p.0 ∙ other in cc;
                 newer = λ e. no-more n ∙ c.newer (newer-kept s asked.sess sub.kept e new);
               },
             );
-            quiet = λ e c. (refl, record { other = λ v m d. let p = pair-of v asked.sess m 1 (sym d) in ap (λ (z : Sess). same_sess z s) p.0 ∙ other });
-            fresh = λ c. inr (record { other = λ v m d. let p = pair-of v asked.sess m 1 (sym d) in ap (λ (z : Sess). same_sess z s) p.0 ∙ other });
+            quiet = λ e c. (refl, record { other = λ v m d. let p = some-pair v asked.sess m 1 (sym d) in ap (λ (z : Sess). same_sess z s) p.0 ∙ other });
+            fresh = λ c. inr (record { other = λ v m d. let p = some-pair v asked.sess m 1 (sym d) in ap (λ (z : Sess). same_sess z s) p.0 ∙ other });
           }
         ]) refl
 
@@ -301,10 +299,6 @@ others-indexed readers a k j s items (sub ∷ subs) distinct less few =
           skip-other l a (mail (nth 0 readers j) (message.Batch v.0 v.1 items)) (map (from a) (to_readers readers (batches_from (j + 1) items subs))) (and-false (a == a) (nth 0 readers j == nth 0 readers k) other) ∙ rest
     ]
   where
-    and-false : (b c : Bool) → c ≡ false → (b && c) ≡ false
-    and-false true c e = e
-    and-false false c e = refl
-
     apart : (b : Bool) → (nth 0 readers j == nth 0 readers k) ≡ b → (nth 0 readers j == nth 0 readers k) ≡ false
     apart false e = e
     apart true e =
@@ -345,10 +339,6 @@ given-indexed readers a j (suc i) s items (x ∷ subs) sub distinct few e =
       | Some v ↦ skip-other l a (mail (nth 0 readers j) (message.Batch v.0 v.1 items)) (map (from a) (to_readers readers (batches_from (j + 1) items subs))) (and-false (a == a) (nth 0 readers j == nth 0 readers (j + suc i)) other) ∙ rest
     ]
   where
-    and-false : (b c : Bool) → c ≡ false → (b && c) ≡ false
-    and-false true c e = e
-    and-false false c e = refl
-
     apart : i < length subs → (b : Bool) → (nth 0 readers j == nth 0 readers (j + suc i)) ≡ b → (nth 0 readers j == nth 0 readers (j + suc i)) ≡ false
     apart within false f = f
     apart within true f =

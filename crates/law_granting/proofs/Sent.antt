@@ -1,5 +1,5 @@
 -- The batches that a node sent in a session that was answered in one of its incarnations are numbered from 0 on.
-use Rattle.std.proofs.Common.{◌≡◌, ℕ, zero, suc, ◌+◌, ◌<◌, Bool, true, false, cond, ◌&&◌, ◌==◌, nat_lt, List, [], ◌∷◌, ◌++◌, map, length, refl, sym, ap, subst, ◌∙◌, arith, Option, Some, None, slice_get, inl, inr}
+use Rattle.std.proofs.Common.{◌≡◌, ℕ, ◌+◌, ◌<◌, Bool, true, false, cond, ◌&&◌, ◌==◌, nat_lt, List, [], ◌∷◌, ◌++◌, map, length, refl, sym, ap, subst, ◌∙◌, arith, Option, Some, None, slice_get, inl, inr}
 use Rattle.std.proofs.lemmas.List.{append-nil}
 use Rattle.dpc_lists.specs.Lists.{nth, changed, range_with_len}
 use Rattle.dpc_model.specs.Actors.{role_of}
@@ -14,7 +14,9 @@ use Rattle.node_model.specs.Nodes.{Home, PlainNode, own_readers, restarted_node}
 use Rattle.node_model.specs.NodeSteps.{packet_step, mill_step, tick_step}
 use Rattle.world_model.specs.Worlds.{World, Envelope, Slot, home_of, node_place, slot_of, from, node_stepped, restart_slot, can_come, happens}
 use Rattle.world_model.specs.SessionLaw.{Channel}
-use Rattle.law_safety.proofs.Tests.{both-of, eq-of, eq-test, lt-of}
+use Rattle.dpc_lists.proofs.Truths.{both-of, eq-of, eq-test, lt-of}
+use Rattle.dpc_model.proofs.Subs.{nth-none}
+use Rattle.dpc_lists.proofs.Somes.{some-same}
 use Rattle.law_safety.proofs.Emptied.{shape-of}
 use Rattle.law_safety.proofs.Histories.{AreDistinct}
 use Rattle.law_safety.proofs.Happening.{IsFine, node-here}
@@ -108,7 +110,7 @@ module _ (w : World) (most a x f r k i : ℕ) (s : Sess) (fine : IsFine w most) 
                   ∙ range-append 0 h.many (length sent);
               early = λ e. let low : (slot_of w a).last_inc < i = subst (λ (z : Slot). z.last_inc < i) here e in absurd (omega (arith, low, same, known));
               there = λ m now.
-                  let it = some-node t.after m (sym (ap (λ (z : Slot). z.node) here) ∙ now) in
+                  let it = some-same t.after m (sym (ap (λ (z : Slot). z.node) here) ∙ now) in
                   subst (λ (z : PlainNode). SubHolds s i (h.many + length sent) z.grants.inc (nth no_session z.subs k)) it (λ e. p.1, λ e. absurd (e (inc ∙ same)));
             }
         | inr other ↦
@@ -119,14 +121,11 @@ module _ (w : World) (most a x f r k i : ℕ) (s : Sess) (fine : IsFine w most) 
               order = indexes-append at w.envelopes (map (from a) t.sends) ∙ ap (λ (ns : List ℕ). indexes at w.envelopes ++ ns) q.0 ∙ append-nil (indexes at w.envelopes) ∙ h.order;
               early = λ e. h.early (subst (λ (z : Slot). z.last_inc < i) here e);
               there = λ m now.
-                  let it = some-node t.after m (sym (ap (λ (z : Slot). z.node) here) ∙ now) in
+                  let it = some-same t.after m (sym (ap (λ (z : Slot). z.node) here) ∙ now) in
                   subst (λ (z : PlainNode). SubHolds s i h.many z.grants.inc (nth no_session z.subs k)) it (λ e. absurd (other (sym inc ∙ e)), λ e. q.1);
             }
       ]
     where
-      some-node : (y z : PlainNode) → ◌≡◌ {A = Option PlainNode} (Some y) (Some z) → y ≡ z
-      some-node y z e = cc
-
       not-open : (b : Bool) → opens ≡ b → (n.grants.inc ≡ i → ⊥) → opens ≡ false
       not-open false e other = e
       not-open true e other = absurd (other (told e))
@@ -157,11 +156,6 @@ module _ (w : World) (most a x f r k i : ℕ) (s : Sess) (fine : IsFine w most) 
         there = λ n up. let none : ◌≡◌ {A = Option PlainNode} None (Some n) = sym (ap (λ (z : Slot). z.node) here) ∙ up in cc;
       }
 
-  nth-none : {X : Type 0} (ys : List X) (j : ℕ) → nth no_session (map (λ (_ : X). no_session) ys) j ≡ no_session
-  nth-none [] j = refl
-  nth-none (y ∷ ys) zero = refl
-  nth-none (y ∷ ys) (suc j) = nth-none ys j
-
   restarted-sub : (home : Home) (j : ℕ) → nth no_session (restarted_node home j).subs k ≡ no_session
   unfolding restarted_node
   restarted-sub home j = nth-none (own_readers home) k
@@ -178,9 +172,6 @@ module _ (w : World) (most a x f r k i : ℕ) (s : Sess) (fine : IsFine w most) 
       next : World
       next = record w { nodes = changed (node_place w.plan a) (restart_slot home j) w.nodes }
 
-      some-node : (y z : PlainNode) → ◌≡◌ {A = Option PlainNode} (Some y) (Some z) → y ≡ z
-      some-node y z e = cc
-
       by-node : (o : Option PlainNode) → (slot_of w a).node ≡ o → slot_of (record w { nodes = changed (node_place w.plan a) (restart_slot home j) w.nodes }) a ≡ (elim o as (λ _. Slot) [ Some n ↦ slot_of w a | None ↦ cond (nat_lt (slot_of w a).last_inc j) (record { last_inc = j; node = Some (restarted_node home j) }) (slot_of w a) ]) →
           SentOrder (record w { nodes = changed (node_place w.plan a) (restart_slot home j) w.nodes }) a x k i s
       by-node (Some n) up here = order-still w (record w { nodes = changed (node_place w.plan a) (restart_slot home j) w.nodes }) a x k i s refl here h
@@ -195,7 +186,7 @@ module _ (w : World) (most a x f r k i : ℕ) (s : Sess) (fine : IsFine w most) 
                   order = h.order;
                   early = λ d. let low : j < i = subst (λ (z : Slot). z.last_inc < i) now d in h.early (omega (arith, less, low));
                   there = λ m d.
-                      let it = some-node (restarted_node home j) m (sym (ap (λ (z : Slot). z.node) now) ∙ d) in
+                      let it = some-same (restarted_node home j) m (sym (ap (λ (z : Slot). z.node) now) ∙ d) in
                       subst (λ (z : PlainNode). SubHolds s i h.many z.grants.inc (nth no_session z.subs k)) it
                       (subst (λ (z : Sub). SubHolds s i h.many (restarted_node home j).grants.inc z) (sym (restarted-sub home j))
                       (λ c. record { open_one = λ v m g u. cc; newer = λ g. let it_is = restarted-inc home j in h.early (omega (arith, less, c, it_is)) }, λ c. record { other = λ v m g. cc }));

@@ -9,16 +9,15 @@ use Rattle.dpc_model.specs.declared.plans.Plan.{Plan}
 use Rattle.node_model.specs.Mails.{Mail}
 use Rattle.node_model.specs.Nodes.{Home, PlainNode, restarted_node}
 use Rattle.world_model.specs.Worlds.{World, Envelope, Slot, node_place, slot_of, from, restart_slot}
-use Rattle.law_safety.proofs.Tests.{lt-of, not-lt}
+use Rattle.dpc_lists.proofs.Truths.{lt-of}
+use Rattle.dpc_model.proofs.Numbers.{le-or}
+use Rattle.dpc_lists.proofs.Somes.{some-pair}
 use Rattle.law_safety.proofs.Numbering.{node-at, replica-at}
+use Rattle.dpc_lists.proofs.Each.{Each}
 use Rattle.law_granting.specs.Asking.{IsOver, WasAsked}
-use Rattle.law_granting.proofs.Each.{Each}
 use Rattle.law_granting.proofs.Keys.{nth-changed, IsAskStep}
 
 -- ---- places
-
-pair-of : (x y u v : ℕ) → ◌≡◌ {A = Option (ℕ × ℕ)} (Some (x, u)) (Some (y, v)) → (x ≡ y) × (u ≡ v)
-pair-of x y u v e = let same : ◌≡◌ {A = ℕ × ℕ} (x, u) (y, v) = cc in (ap (λ (z : ℕ × ℕ). z.0) same, ap (λ (z : ℕ × ℕ). z.1) same)
 
 -- one replica has one actor
 pub same-role : (plan : Plan) (a b f r q : ℕ) → role_of plan a ≡ IsNode f r → role_of plan b ≡ IsNode f q → r ≡ q → a ≡ b
@@ -26,7 +25,7 @@ same-role plan a b f r q e k same = sym (replica-at plan a f r e) ∙ ap (λ (x 
 
 pub same-place : (plan : Plan) (a b f r g q : ℕ) → role_of plan a ≡ IsNode f r → role_of plan b ≡ IsNode g q → node_place plan a ≡ node_place plan b → a ≡ b
 same-place plan a b f r g q e k same =
-    let both = pair-of f g r q (sym (node-at plan a f r e) ∙ ap (λ (i : ℕ). slice_get (nodes_of plan) i) same ∙ node-at plan b g q k) in
+    let both = some-pair f g r q (sym (node-at plan a f r e) ∙ ap (λ (i : ℕ). slice_get (nodes_of plan) i) same ∙ node-at plan b g q k) in
     same-role plan a b f r q e (k ∙ ap (λ (x : ℕ). IsNode x q) (sym both.0)) both.1
 
 -- the slot of another actor than the one that was changed
@@ -95,9 +94,6 @@ advances-step H A E x n m up s =
           | inr past ↦ let one = asks.0 in inl (omega (arith, one, past))
         ]
       where
-        le-or : (u v : ℕ) → (u ≤ v) ⊎ (v < u)
-        le-or u v = (elim (nat_lt v u) as (λ b. nat_lt v u ≡ b → (u ≤ v) ⊎ (v < u)) [ true ↦ λ e. inr (lt-of v u e) | false ↦ λ e. inl (not-lt v u e) ]) refl
-
         next : (m.grants.over ≤ n.grants.over) ⊎ (n.grants.over < m.grants.over) → m.grants.running ≡ true → (key.1 ≤ m.grants.over) ⊎ ((key.1 ≡ m.grants.over + 1) × (m.grants.running ≡ true))
         next (inl low) still = let one = asks.0 in let more = s.over in inr (omega (arith, one, low, more), still)
         next (inr past) still = let one = asks.0 in inl (omega (arith, one, past))

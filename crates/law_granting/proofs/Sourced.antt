@@ -1,15 +1,14 @@
 -- The batches that a source sent in a session are numbered from 0 on.
 use Rattle.std.proofs.Common.{◌≡◌, ℕ, zero, suc, ◌+◌, ◌<◌, Bool, true, false, cond, ◌&&◌, ◌==◌, nat_lt, List, [], ◌∷◌, ◌++◌, map, length, refl, sym, ap, subst, ◌∙◌, arith, Option, Some, None, slice_get, inl, inr}
 use Rattle.std.specs.Prelude.{zip, max}
-use Rattle.std.proofs.lemmas.List.{append-nil, length-map}
+use Rattle.std.proofs.lemmas.List.{append-nil}
 use Rattle.dpc_lists.specs.Lists.{nth, changed, range_with_len, place_of}
 use Rattle.dpc_model.specs.Inlets.{same_sess}
 use Rattle.dpc_model.specs.Actors.{role_of}
 use Rattle.dpc_model.specs.declared.actors.Role.TheVariants.{Source as IsSource, Node as IsNode, Client as IsClient}
-use Rattle.dpc_model.specs.Sessions.{no_session, tally_of, with_batch, with_batches, answer_to, given_items}
+use Rattle.dpc_model.specs.Sessions.{no_session, tally_of, answer_to, given_items}
 use Rattle.dpc_model.specs.declared.sessions.Sub.{Sub}
 use Rattle.dpc_model.specs.declared.messages.Event.{Event}
-use Rattle.dpc_model.specs.declared.tuples.Item.{Item}
 use Rattle.dpc_model.specs.declared.messages.Message.{Message}
 use Rattle.dpc_model.specs.declared.messages.Message.TheVariants as message
 use Rattle.dpc_model.specs.declared.messages.Sess.{Sess}
@@ -21,13 +20,12 @@ use Rattle.node_model.specs.Sources.{SourceState, source_readers, source_shown, 
 use Rattle.world_model.specs.Worlds.{World, Envelope, source_at, no_source, from, source_stepped, can_come, happens, run_from}
 use Rattle.world_model.specs.Safe.{EachStep}
 use Rattle.world_model.specs.SessionLaw.{Channel}
-use Rattle.law_safety.proofs.Tests.{both-of, eq-test}
+use Rattle.dpc_lists.proofs.Truths.{both-of, eq-test, and-false}
 use Rattle.dpc_lists.proofs.Elements.{length-changed}
-use Rattle.law_safety.proofs.Giving.{place-below}
-use Rattle.law_safety.proofs.Delivered.{place-nth}
+use Rattle.dpc_lists.proofs.Places.{place-within, place-nth}
+use Rattle.dpc_model.proofs.Subs.{length-counted}
 use Rattle.law_safety.proofs.Numbering.{source-at as source-number}
 use Rattle.law_granting.specs.Taken.{subscribes_packet, envelope_subscribes, subscribes, role_inc}
-use Rattle.law_granting.proofs.Each.{Each}
 use Rattle.law_granting.proofs.Keys.{nth-changed}
 use Rattle.law_safety.proofs.EventCases.{AreCases, by-event}
 use Rattle.law_granting.proofs.Asked.{same-or}
@@ -35,6 +33,7 @@ use Rattle.law_safety.proofs.Growing.{event-grows}
 use Rattle.law_granting.proofs.Sending.{indexes, indexes-append, range-append, SendsOn, sends-none, answer_index, sends-answered, IsNoBatch, none-indexed, skip-other, take-mine, sends-given}
 use Rattle.law_granting.proofs.Sent.{other-indexed, apart-test, SubHolds}
 use Rattle.law_safety.proofs.Distinct.{readers-distinct}
+use Rattle.dpc_lists.proofs.Each.{Each}
 
 nth-in : {X : Type 0} (d : X) (f : X → X) (xs : List X) (k : ℕ) → k < length xs → nth d (changed k f xs) k ≡ f (nth d xs k)
 nth-in d f [] k h = absurd (omega (arith, h))
@@ -61,14 +60,10 @@ module _ (plan : Plan) (u a k : ℕ) (s : Sess) (opens : Bool) (low : k < length
             (subst (λ (z : List Sub). SendsOn s opens (nth no_session x.subs k) (nth no_session z k) []) (sym same) (sends-none s opens (nth no_session x.subs k)));
       }
 
-  length-all : (items : List Item) (subs : List Sub) → length (with_batches items subs) ≡ length subs
-  length-all [] subs = refl
-  length-all (i ∷ items) subs = length-map subs with_batch
-
   gives : (t : ℕ) (bound : Option (ℕ × ℕ)) (x : SourceState) → length x.subs ≡ length (source_readers plan u) → Sends x (source_gives plan u t bound x)
   gives t bound x many =
       let items = given_items x.emitted (source_given plan u t bound x) in
-      record { many = length-all items x.subs ∙ many; on = sends-given (source_readers plan u) a k s opens items x.subs (readers-distinct plan (Source u)) many low }
+      record { many = length-counted items x.subs ∙ many; on = sends-given (source_readers plan u) a k s opens items x.subs (readers-distinct plan (Source u)) many low }
 
   subscribed : (sender : ℕ) (asked : Subscribe) (o : Option ℕ) (x : SourceState) → place_of (λ b. sender == b) (source_readers plan u) ≡ o → (sender ≡ nth 0 (source_readers plan u) k → same_sess asked.sess s ≡ true → opens ≡ true) →
       length x.subs ≡ length (source_readers plan u) → Sends x (source_subscribed plan u asked o x)
@@ -108,11 +103,7 @@ module _ (plan : Plan) (u a k : ℕ) (s : Sess) (opens : Bool) (low : k < length
         where
           apart : (nth 0 (source_readers plan u) j == nth 0 (source_readers plan u) k) ≡ false
           apart = apart-test (nth 0 (source_readers plan u) j) (nth 0 (source_readers plan u) k)
-              (λ d. other (readers-distinct plan (Source u) j k (place-below (λ b. sender == b) (source_readers plan u) j e) low (sym d)))
-
-          and-false : (b c : Bool) → c ≡ false → (b && c) ≡ false
-          and-false true c d = d
-          and-false false c d = refl
+              (λ d. other (readers-distinct plan (Source u) j k (place-within (λ b. sender == b) (source_readers plan u) j e) low (sym d)))
 
           answer-is : (o : Option Message) → indexes line (map (from a) (elim o as (λ _. List Mail) [ None ↦ [] | Some m ↦ mail (nth 0 (source_readers plan u) j) m ∷ [] ])) ≡ []
           answer-is None = refl

@@ -19,14 +19,14 @@ use Rattle.node_model.specs.NodeSteps.{replica_number, after_clock, packet_step,
 use Rattle.world_model.specs.Worlds.{World, Envelope, Slot, home_of, node_place, slot_of, from, node_stepped, restart_slot, is_clock, happens, run_from, run, new_world}
 use Rattle.world_model.specs.Orderly.{is_fitting, carries_fitting}
 use Rattle.law_safety.specs.Plans.{IsCheckedPlan}
-use Rattle.law_safety.proofs.Tests.{both, lt-of, eq-of, eq-test}
+use Rattle.dpc_lists.proofs.Truths.{both, lt-of, eq-of, eq-test, not-of}
+use Rattle.dpc_lists.proofs.Places.{place-nth}
+use Rattle.dpc_lists.proofs.Somes.{some-same}
 use Rattle.law_safety.proofs.Numbering.{all-at, replica-number}
-use Rattle.law_safety.proofs.Delivered.{place-nth}
 use Rattle.law_safety.proofs.Happening.{IsFine, happens-next}
 use Rattle.law_safety.proofs.Law.{new_world-fine, run-fine}
 use Rattle.law_granting.specs.Asking.{reconciles, IsOver}
 use Rattle.law_granting.specs.Meanwhile.{role_finds, finds_absent, NeverFindsAbsent, SendsGrant, IsUpIn, HasOpenAsk, ServesMeanwhile}
-use Rattle.law_granting.proofs.Each.{Each}
 use Rattle.law_granting.proofs.Keys.{key-trans, IsAskStep}
 use Rattle.law_granting.proofs.Saying.{Says, PacketSays, Hears, Asks, Ends, Never, FoundAbsent, own-delivered, own-milled, own-ticked}
 use Rattle.law_safety.proofs.EventCases.{AreCases, by-event}
@@ -34,7 +34,8 @@ use Rattle.law_safety.proofs.Promises.{slot-here}
 use Rattle.law_granting.proofs.Slots.{slot-there, got-sent}
 use Rattle.law_granting.proofs.Asked.{IsAskingWorld, told-so, same-or, event-asking, each-unit}
 use Rattle.law_granting.proofs.Running.{new_world-asking, run-asking}
-use Rattle.law_safety.proofs.Runs.{run_from-append}
+use Rattle.world_model.proofs.Running.{run_from-append}
+use Rattle.dpc_lists.proofs.Each.{Each}
 
 -- ---- what stands
 
@@ -83,9 +84,6 @@ granter-same home a i key pending x y e = subst (λ (z : Slot). KeepsGranter hom
 granter-down : (home : Home) (a i : ℕ) (key : Key) (pending : Type 0) (x : Slot) → KeepsGranter home a i key pending x (record x { node = None })
 granter-down home a i key pending x = record { last = omega arith; back = λ m up inc p h. cc }
 
-some-node : (x y : PlainNode) → ◌≡◌ {A = Option PlainNode} (Some x) (Some y) → x ≡ y
-some-node x y e = cc
-
 asker-restart : (home : Home) (i : ℕ) (key : Key) (x : Slot) → key.0 ≤ x.last_inc → KeepsAsker key x (restart_slot home i x)
 unfolding restarted_node
 asker-restart home i key x low = by-node x.node refl
@@ -98,7 +96,7 @@ asker-restart home i key x low = by-node x.node refl
           record {
             last = omega (arith, less);
             back = λ p.
-                let same = some-node (restarted_node home i) p.node p.up in
+                let same = some-same (restarted_node home i) p.node p.up in
                 let inc : i ≡ key.0 = ap (λ (n : PlainNode). n.grants.inc) same ∙ p.inc in absurd (omega (arith, low, less, inc));
           }
       | false ↦ λ f. asker-same key x x refl
@@ -116,7 +114,7 @@ granter-restart home place a i j key pending x low = by-node x.node refl
           record {
             last = omega (arith, less);
             back = λ m up inc p h.
-                let same = some-node (restarted_node place j) m up in
+                let same = some-same (restarted_node place j) m up in
                 let now : j ≡ i = ap (λ (n : PlainNode). n.grants.inc) same ∙ inc in absurd (omega (arith, low, less, now));
           }
       | false ↦ λ f. granter-same home a i key pending x x refl
@@ -127,7 +125,7 @@ asker-step H A E key x n m up s =
     record {
       last = omega arith;
       back = λ p.
-          let same = some-node m p.node p.up in
+          let same = some-same m p.node p.up in
           let less : m.grants.over < key.1 = subst (λ (z : PlainNode). z.grants.over < key.1) (sym same) p.going_on in
           let more = s.over in
           record { node = n; up = up; inc = sym s.inc ∙ ap (λ (z : PlainNode). z.grants.inc) same ∙ p.inc; going_on = omega (arith, less, more) };
@@ -139,7 +137,7 @@ granter-step H A E home a i key pending x n m up s stays =
     record {
       last = omega arith;
       back = λ y e inc p h.
-          let same = some-node m y e in
+          let same = some-same m y e in
           let old = h n up (sym s.inc ∙ ap (λ (z : PlainNode). z.grants.inc) same ∙ inc) in
           let now = s.holds old.replica old.more old.promise (stays p old.replica old.more old.number old.most) in
           subst (λ (z : PlainNode). HoldsFor home a key z) same
@@ -284,10 +282,6 @@ stands-run w most (e ∷ events) a b f ra rb i key fine asking h calm =
 stands-serves : (w : World) (a b f ra rb i : ℕ) (key : Key) → IsAskingWorld w → Stands w a b f ra rb i key → HasOpenAsk w a key → (n : PlainNode) → (slot_of w b).node ≡ Some n → n.grants.inc ≡ i → reconciles n ≡ false
 stands-serves w a b f ra rb i key asking h open_ask n up inc = by-value (reconciles n) refl
   where
-    not-of : (c : Bool) → not c ≡ true → c ≡ false
-    not-of true e = cc
-    not-of false e = refl
-
     by-value : (c : Bool) → reconciles n ≡ c → reconciles n ≡ false
     by-value false e = e
     by-value true e =
@@ -373,7 +367,7 @@ grant-cases w most k a b f rb key fine new role_b =
             (subst (λ (z : Packet). PacketSays (home_of w.plan (p, q)) s.after.grants mail.to z) (sym packet) h) in
             let here = slot-here w most x p q (λ (slot : Slot). record slot { node = Some s.after }) fine role in
             let there_b : slot_of (node_stepped x s w) b ≡ record (slot_of w x) { node = Some s.after } = ap (λ (z : ℕ). slot_of (node_stepped x s w) z) same ∙ here in
-            let node = some-node s.after n (sym (ap (λ (z : Slot). z.node) there_b) ∙ up) in
+            let node = some-same s.after n (sym (ap (λ (z : Slot). z.node) there_b) ∙ up) in
             subst (λ (z : ℕ). HoldsFor (home_of w.plan (z, rb)) a key n) one (subst (λ (z : ℕ). HoldsFor (home_of w.plan (p, z)) a key n) two
             (subst (λ (z : PlainNode). HoldsFor (home_of w.plan (p, q)) a key z) node (record { replica = grant.replica; more = grant.more; number = grant.number; promise = grant.promise; most = grant.most })))
 

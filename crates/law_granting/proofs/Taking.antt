@@ -7,8 +7,6 @@ use Rattle.dpc_model.specs.Actors.{role_of, nodes_of, inputs_of, senders_of}
 use Rattle.dpc_model.specs.declared.actors.Role.{Role}
 use Rattle.dpc_model.specs.declared.actors.Role.TheVariants.{Source as IsSource, Node as IsNode, Client as IsClient, Nobody}
 use Rattle.dpc_model.specs.Ports.{Port, port_at, sender_at, without_ended_marks, port_after_tick, port_after_choice}
-use Rattle.dpc_model.specs.declared.batches.Taken.{Taken}
-use Rattle.dpc_model.specs.declared.batches.Taken.TheVariants.{Used, Old, Broken}
 use Rattle.dpc_model.specs.declared.messages.Event.{Event}
 use Rattle.dpc_model.specs.declared.messages.Event.TheVariants.{Emit, Release, Crash, Restart, Deliver, Tick, Mill}
 use Rattle.dpc_model.specs.declared.messages.Message.{Message}
@@ -21,13 +19,12 @@ use Rattle.node_model.specs.Mails.{Packet, Plain, SnapFor, Stepped}
 use Rattle.dpc_model.specs.Reading.{stable_reader}
 use Rattle.node_model.specs.Nodes.{Home, PlainNode, streams_of, new_node, restarted_node}
 use Rattle.node_model.specs.NodeSteps.{packet_step, mill_step, tick_step}
-use Rattle.node_model.specs.Clients.{ClientState, client_stream, new_client, with_taken, client_after_batch, client_message, client_packet, client_marks_ended, client_after_packet, client_tick_step}
+use Rattle.node_model.specs.Clients.{ClientState, client_stream, new_client, client_after_batch, client_message, client_packet, client_marks_ended, client_after_packet, client_tick_step}
 use Rattle.world_model.specs.Worlds.{World, Envelope, Slot, home_of, node_place, slot_of, client_at, from, node_stepped, client_stepped, restart_slot, happens, run_from, run, new_world}
 use Rattle.world_model.specs.SessionLaw.{Channel}
 use Rattle.law_safety.specs.Plans.{IsCheckedPlan}
-use Rattle.law_safety.proofs.Tests.{eq-of, eq-test}
+use Rattle.dpc_lists.proofs.Truths.{eq-of, eq-test}
 use Rattle.law_safety.proofs.Numbering.{home-inputs, role-split}
-use Rattle.law_safety.proofs.Delivered.{place-nth}
 use Rattle.law_safety.proofs.Pointwise.{sender-of}
 use Rattle.law_safety.proofs.Happening.{IsFine, happens-next}
 use Rattle.law_safety.proofs.Law.{new_world-fine, new_world-plan}
@@ -39,9 +36,12 @@ use Rattle.law_granting.proofs.Slots.{slot-there}
 use Rattle.law_granting.proofs.Asked.{same-or}
 use Rattle.law_granting.proofs.Running.{new-slot}
 use Rattle.law_granting.proofs.Moves.{Moves, stays-same, stays-then, took-moves, beat-moves, truncated-moves, chosen-moves, PortsMove, DeliversNext, NoneTaken, get-mapped, delivered-ports, milled-ports, ticked-ports}
-use Rattle.dpc_lists.proofs.Elements.{get-first}
-use Rattle.law_safety.proofs.Growing.{event-grows}
-use Rattle.law_safety.proofs.Histories.{same-self}
+use Rattle.dpc_lists.proofs.Elements.{get-first, get-only}
+use Rattle.dpc_lists.proofs.Places.{place-nth}
+use Rattle.dpc_model.proofs.Alike.{same_sess-self}
+use Rattle.dpc_lists.proofs.Somes.{some-same}
+use Rattle.node_model.proofs.Mailed.{kept-port}
+use Rattle.law_safety.proofs.Growing.{event-grows, run_from-plan}
 
 -- ---- batches
 
@@ -76,11 +76,8 @@ came-same w e x p u r there = inr (r, there, inl (stays-same r r refl refl refl 
 pub sent-by : (plan : Plan) (ss : List StreamRef) (a p r : ℕ) (u : StreamRef) → slice_get ss p ≡ Some u → sender_at plan ss a ≡ Some (p, r) → nth 0 (senders_of plan u) r ≡ a
 sent-by plan ss a p r u at e =
     let k = sender-of plan ss a p r e in
-    let same : k.stream ≡ u = some-stream k.stream u (sym k.at ∙ at) in
+    let same : k.stream ≡ u = some-same k.stream u (sym k.at ∙ at) in
     subst (λ (s : StreamRef). nth 0 (senders_of plan s) r ≡ a) same (place-nth a (senders_of plan k.stream) r k.place)
-  where
-    some-stream : (s t : StreamRef) → ◌≡◌ {A = Option StreamRef} (Some s) (Some t) → s ≡ t
-    some-stream s t d = cc
 
 -- ---- a node's port
 
@@ -202,20 +199,12 @@ module _ (w : World) (x c : ℕ) (u : StreamRef) (role_x : role_of w.plan x ≡ 
   client-still : (e : Event) (next : World) → role_of next.plan x ≡ IsClient c → (client_at next c).port ≡ (client_at w c).port → (r : Port) → port_of next x 0 ≡ Some r → Came w e x 0 u r
   client-still e next role same r there = came-same w e x 0 u r (client-port w role_x ∙ ap {B = Option Port} Some (sym same) ∙ sym (client-port next role) ∙ there)
 
-  some-port : (y z : Port) → ◌≡◌ {A = Option Port} (Some y) (Some z) → y ≡ z
-  some-port y z e = cc
-
   client-move : (e : Event) (next : World) → role_of next.plan x ≡ IsClient c → Moves (TookIt w e x u) (client_at w c).port (client_at next c).port → (r : Port) → port_of next x 0 ≡ Some r → Came w e x 0 u r
   client-move e next role moves r there =
-      inr ((client_at w c).port, client-port w role_x, subst (λ (z : Port). Moves (TookIt w e x u) (client_at w c).port z) (some-port (client_at next c).port r (sym (client-port next role) ∙ there)) moves)
+      inr ((client_at w c).port, client-port w role_x, subst (λ (z : Port). Moves (TookIt w e x u) (client_at w c).port z) (some-same (client_at next c).port r (sym (client-port next role) ∙ there)) moves)
 
   stream-is : client_stream w.plan c ≡ u
   stream-is = ap (λ (o : Option StreamRef). unwrap_or o (Source 0)) input
-
-  kept-port : (t : Taken) (z : ClientState) → (with_taken t z).port ≡ z.port
-  kept-port (Used items) z = refl
-  kept-port Old z = refl
-  kept-port Broken z = refl
 
   message-moves : (k r : ℕ) (e : Envelope) (m : Message) (z : ClientState) → slice_get w.envelopes k ≡ Some e → e.to ≡ x → e.packet ≡ Plain m → sender_at w.plan (client_stream w.plan c ∷ []) e.sender ≡ Some (0, r) →
       Moves (TookIt w (Deliver k) x u) z.port (client_message r m z).port
@@ -248,12 +237,8 @@ module _ (w : World) (x c : ℕ) (u : StreamRef) (role_x : role_of w.plan x ≡ 
   packet-moves k e (Some pr) (SnapFor i try snap) z here to same sender = inl (stays-same z.port z.port refl refl refl refl)
   packet-moves k e (Some pr) (Plain m) z here to same sender =
       let found = sender-of w.plan (client_stream w.plan c ∷ []) e.sender pr.0 pr.1 sender in
-      let first : pr.0 ≡ 0 = only (client_stream w.plan c) found.stream pr.0 found.at in
+      let first : pr.0 ≡ 0 = get-only (client_stream w.plan c) found.stream pr.0 found.at in
       message-moves k pr.1 e m z here to same (subst (λ (y : ℕ). sender_at w.plan (client_stream w.plan c ∷ []) e.sender ≡ Some (y, pr.1)) first sender)
-    where
-      only : (s t : StreamRef) (i : ℕ) → slice_get (s ∷ []) i ≡ Some t → i ≡ 0
-      only s t zero d = refl
-      only s t (suc i) d = cc
 
   took-port : (k : ℕ) (e : Envelope) (z : ClientState) → slice_get w.envelopes k ≡ Some e → e.to ≡ x → Moves (TookIt w (Deliver k) x u) z.port (client_after_packet w.plan c e.sender e.packet z).port
   unfolding client_after_packet
@@ -341,7 +326,7 @@ pub record HasTaken (w : World) (x : ℕ) (u : StreamRef) (ks : List ℕ) (q : P
   pub each : (j k : ℕ) → slice_get ks j ≡ Some k → IsBatchAt (line_of w.plan x u q) w.envelopes k j
   pub next : q.inlet.broken ≡ false → q.inlet.next ≡ length ks
 
-line-same : (plan : Plan) (x : ℕ) (u : StreamRef) (q r : Port) → r.inlet.sess ≡ q.inlet.sess → r.chosen ≡ q.chosen → line_of plan x u r ≡ line_of plan x u q
+pub line-same : (plan : Plan) (x : ℕ) (u : StreamRef) (q r : Port) → r.inlet.sess ≡ q.inlet.sess → r.chosen ≡ q.chosen → line_of plan x u r ≡ line_of plan x u q
 line-same plan x u q r s c = rw (s, c) refl
 
 none-taken : (w : World) (x : ℕ) (u : StreamRef) (ks : List ℕ) (q : Port) → ks ≡ [] → (q.inlet.broken ≡ false → q.inlet.next ≡ 0) → HasTaken w x u ks q
@@ -354,7 +339,7 @@ taken-step w e x p u ks r now (inl fresh) h = none-taken (happens w e) x u (take
 taken-step w e x p u ks r now (inr (q, was, inl k)) h =
     let old = h q was in
     let grows = event-grows w e in
-    let kept : same_sess q.inlet.sess r.inlet.sess ≡ true = subst (λ (z : Sess). same_sess q.inlet.sess z ≡ true) (sym k.sess) (same-self q.inlet.sess) in
+    let kept : same_sess q.inlet.sess r.inlet.sess ≡ true = subst (λ (z : Sess). same_sess q.inlet.sess z ≡ true) (sym k.sess) (same_sess-self q.inlet.sess) in
     let not_one : (r.inlet.next == q.inlet.next + 1) ≡ false = differ (r.inlet.next == q.inlet.next + 1) refl in
     let all : taken_next ks e (port_of w x p) (port_of (happens w e) x p) ≡ ks = rw (was, now, kept, not_one) refl in
     subst (λ (l : List ℕ). HasTaken (happens w e) x u l r) (sym all)
@@ -377,7 +362,7 @@ taken-step w e x p u ks r now (inr (q, was, inr (inl k))) h =
     none-taken (happens w e) x u (taken_next ks e (port_of w x p) (port_of (happens w e) x p)) r (let other = k.sess in rw (was, now, other) refl) (λ b. k.next)
 taken-step w e x p u ks r now (inr (q, was, inr (inr k))) h =
     let old = h q was in
-    let kept : same_sess q.inlet.sess r.inlet.sess ≡ true = subst (λ (z : Sess). same_sess q.inlet.sess z ≡ true) (sym k.sess) (same-self q.inlet.sess) in
+    let kept : same_sess q.inlet.sess r.inlet.sess ≡ true = subst (λ (z : Sess). same_sess q.inlet.sess z ≡ true) (sym k.sess) (same_sess-self q.inlet.sess) in
     let one : (r.inlet.next == q.inlet.next + 1) ≡ true = eq-test r.inlet.next (q.inlet.next + 1) k.next in
     let it = k.it in
     let it_is = it.event in
@@ -449,18 +434,11 @@ new-port plan x p q there = by-role-of (role_of plan x) refl (subst (λ (pl : Pl
     by-role-of (IsClient c) is d =
         let here : cond (p == 0) (Some (client_at (new_world plan) c).port) None ≡ Some q = rw is at d in
         (elim (p == 0) as (λ b. cond {A = Option Port} b (Some (client_at (new_world plan) c).port) None ≡ Some q → q.inlet.next ≡ 0) [
-          | true ↦ λ g. let same : (client_at (new_world plan) c).port ≡ q = some-is (client_at (new_world plan) c).port q g in sym (ap (λ (z : Port). z.inlet.next) same) ∙ new-client-port plan c
+          | true ↦ λ g. let same : (client_at (new_world plan) c).port ≡ q = some-same (client_at (new_world plan) c).port q g in sym (ap (λ (z : Port). z.inlet.next) same) ∙ new-client-port plan c
           | false ↦ λ g. cc
         ]) here
-      where
-        some-is : (y z : Port) → ◌≡◌ {A = Option Port} (Some y) (Some z) → y ≡ z
-        some-is y z g = cc
     by-role-of (IsSource s) is d = let clash : ◌≡◌ {A = Option Port} None (Some q) = rw is at d in cc
     by-role-of Nobody is d = let clash : ◌≡◌ {A = Option Port} None (Some q) = rw is at d in cc
-
-pub run-plan : (w : World) (events : List Event) → (run_from w events).plan ≡ w.plan
-run-plan w [] = refl
-run-plan w (e ∷ events) = run-plan (happens w e) events ∙ (event-grows w e).plan
 
 pub run-taken : (plan : Plan) (events : List Event) → IsCheckedPlan plan → TakenInOrder plan events
 unfolding run
@@ -469,4 +447,4 @@ run-taken plan events checked x p u q input there j k d =
     let same = new_world-plan plan in
     let in_start : slice_get (inputs_of start.plan (role_of start.plan x)) p ≡ Some u = subst (λ (pl : Plan). slice_get (inputs_of pl (role_of pl x)) p ≡ Some u) (sym same) input in
     let h = taken-run start 1 events x p u [] (new_world-fine plan checked) in_start (λ r first. none-taken start x u [] r refl (λ b. new-port plan x p r first)) q there in
-    subst (λ (pl : Plan). IsBatchAt (line_of pl x u q) (run_from start events).envelopes k j) (run-plan start events ∙ same) (h.each j k d)
+    subst (λ (pl : Plan). IsBatchAt (line_of pl x u q) (run_from start events).envelopes k j) (run_from-plan start events ∙ same) (h.each j k d)

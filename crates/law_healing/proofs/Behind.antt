@@ -1,27 +1,17 @@
 -- What directives leave, one after another: each cut link and each node that is down was cut, or crashed, by one of them.
-use Rattle.std.proofs.Common.{◌≡◌, ℕ, zero, suc, ◌<◌, Bool, true, false, not, cond, ◌&&◌, ◌||◌, ◌==◌, List, [], ◌∷◌, ◌++◌, length, arith, refl, sym, ap, subst, ◌∙◌, ◌⊎◌, inl, inr}
+use Rattle.std.proofs.Common.{◌≡◌, ℕ, Bool, true, false, not, cond, ◌&&◌, ◌||◌, ◌==◌, List, [], ◌∷◌, ◌++◌, refl, sym, ap, subst, ◌∙◌, ◌⊎◌, inl, inr}
 use Rattle.std.specs.Prelude.{fold}
 use Rattle.std.specs.List.{filter}
 use Rattle.std.proofs.lemmas.List.Sums.{fold-append}
 use Rattle.std.proofs.lemmas.List.Folds.{list_any-append}
-use Rattle.dpc_lists.specs.Lists.{list_all, list_any, nth, changed}
+use Rattle.dpc_lists.specs.Lists.{list_all, list_any}
 use Rattle.dpc_model.specs.declared.plans.Plan.{Plan}
 use Rattle.dpc_model.specs.declared.scripts.Directive.{Directive}
 use Rattle.dpc_model.specs.declared.scripts.Directive.TheVariants as directive
 use Rattle.world_model.specs.Schedules.{has_event}
-use Rattle.law_safety.proofs.Tests.{both, eq-of, not-of}
+use Rattle.dpc_lists.proofs.Truths.{both, eq-of, not-of, or-of}
 use Rattle.world_model.specs.Worlds.{same_pair}
 use Rattle.law_healing.specs.Healing.{cut_behind, down_behind, releases_all, is_mended}
-
-pub or-of : (a b : Bool) → (a || b) ≡ true → (a ≡ true) ⊎ (b ≡ true)
-or-of true b e = inl refl
-or-of false b e = inr e
-
--- the element that was changed
-pub changed-here : {X : Type 0} (d : X) (f : X → X) (i : ℕ) (xs : List X) → i < length xs → nth d (changed i f xs) i ≡ f (nth d xs i)
-changed-here d f i [] low = absurd (omega (arith, low))
-changed-here d f zero (x ∷ xs) low = refl
-changed-here d f (suc i) (x ∷ xs) low = changed-here d f i xs (omega (arith, low))
 
 -- ---- one directive more
 

@@ -1,5 +1,5 @@
 -- Each node that is down in a world is down behind the directives that were done.
-use Rattle.std.proofs.Common.{◌≡◌, ℕ, ◌+◌, ◌-◌, ◌<◌, ◌≤◌, Bool, true, false, cond, not, ◌==◌, nat_lt, List, [], ◌∷◌, ◌++◌, length, refl, sym, ap, ◌∙◌, arith, Option, Some, None, slice_get, slice_index_or, is_some, inl, inr}
+use Rattle.std.proofs.Common.{◌≡◌, ℕ, ◌+◌, ◌-◌, ◌<◌, Bool, true, false, cond, not, ◌==◌, nat_lt, List, [], ◌∷◌, ◌++◌, length, refl, sym, ap, ◌∙◌, arith, Option, Some, None, slice_get, slice_index_or, is_some, inl, inr, ◌||◌}
 use Rattle.std.specs.Prelude.{fold}
 use Rattle.std.proofs.lemmas.Bool.{or_right, false_from_ne_true}
 use Rattle.std.proofs.lemmas.Option.{slice_get-get_or}
@@ -8,21 +8,23 @@ use Rattle.dpc_model.specs.Actors.{role_of, nodes_of}
 use Rattle.dpc_model.specs.declared.actors.Role.{Role}
 use Rattle.dpc_model.specs.declared.actors.Role.TheVariants.{Source as IsSource, Node as IsNode, Client as IsClient, Nobody}
 use Rattle.dpc_model.specs.declared.messages.Event.{Event}
-use Rattle.dpc_model.specs.declared.messages.Event.TheVariants.{Phase, Emit, Release, Cut, Heal, Crash, Restart, Deliver, Tick, Mill}
+use Rattle.dpc_model.specs.declared.messages.Event.TheVariants.{Crash, Restart}
 use Rattle.dpc_model.specs.declared.plans.Plan.{Plan}
 use Rattle.dpc_model.specs.declared.scripts.Directive.{Directive}
 use Rattle.dpc_model.specs.declared.scripts.Directive.TheVariants as directive
-use Rattle.dpc_lists.proofs.Elements.{length-changed}
-use Rattle.dpc_model.proofs.Numbers.{source-role, node-role}
+use Rattle.dpc_lists.proofs.Elements.{length-changed, nth-here}
+use Rattle.dpc_model.proofs.Numbers.{node-role}
 use Rattle.node_model.specs.Nodes.{Home, PlainNode, restarted_node}
 use Rattle.node_model.specs.NodeSteps.{packet_step, mill_step, tick_step}
 use Rattle.world_model.specs.Worlds.{World, Slot, home_of, node_place, slot_of, crashes, restart_slot, restarts, happens}
-use Rattle.law_safety.proofs.Tests.{eq-of, eq-test, lt-of, not-lt, lt-test}
+use Rattle.dpc_lists.proofs.Truths.{eq-of, eq-test, lt-test}
+use Rattle.dpc_model.proofs.Roles.{node-past}
+use Rattle.world_model.specs.Events.{is_crash, is_restart}
 use Rattle.law_safety.proofs.EventCases.{AreCases, by-event}
 use Rattle.law_granting.proofs.Keys.{nth-changed}
 use Rattle.law_schedules.proofs.Calm.{no_slot, node_in}
 use Rattle.law_healing.specs.Healing.{down_behind}
-use Rattle.law_healing.proofs.Behind.{fold-push, changed-here}
+use Rattle.law_healing.proofs.Behind.{fold-push}
 
 abbrev pub is_up_at : List Slot → ℕ → Bool
 is_up_at slots i = is_some (node_in slots i)
@@ -38,14 +40,6 @@ node-there plan i low =
     let n = slice_index_or (nodes_of plan) i (0, 0) in
     let place : length plan.sources + i - length plan.sources ≡ i = omega arith in
     (n, node-role plan (length plan.sources + i) n (omega arith) (ap (λ (j : ℕ). slice_get (nodes_of plan) j) place ∙ slice_get-get_or (nodes_of plan) i (0, 0) low))
-
--- a node stands behind the sources
-node-past : (plan : Plan) (a f r : ℕ) → role_of plan a ≡ IsNode f r → length plan.sources ≤ a
-node-past plan a f r is =
-    (elim (nat_lt a (length plan.sources)) as (λ b. nat_lt a (length plan.sources) ≡ b → length plan.sources ≤ a) [
-      | true ↦ λ e. let clash : IsSource a ≡ IsNode f r = sym (source-role plan a (lt-of a (length plan.sources) e)) ∙ is in cc
-      | false ↦ λ e. not-lt a (length plan.sources) e
-    ]) refl
 
 abbrev is_node : Role → Bool
 is_node (IsNode f r) = true
@@ -132,7 +126,7 @@ downs-restart done w a (IsNode f r) is many h = λ i low down.
       | true ↦ λ e.
           let number = eq-of a (first + i) e in
           let mine : i ≡ place = omega (arith, number) in
-          let here = changed-here no_slot (restart_slot home inc) i w.nodes (omega (arith, low, same_many)) in
+          let here = nth-here no_slot i (restart_slot home inc) w.nodes (omega (arith, low, same_many)) in
           let clash : true ≡ false = sym (now_up i mine (ap (λ (k : ℕ). nth no_slot (changed k (restart_slot home inc) w.nodes) i) (sym mine) ∙ here)) ∙ down in
           cc
       | false ↦ λ e.
@@ -144,17 +138,9 @@ downs-restart done w a (IsNode f r) is many h = λ i low down.
 
 -- ---- all other events leave each node up
 
+-- a node is crashed or restarted
 abbrev pub is_broken : Event → Bool
-is_broken (Crash a) = true
-is_broken (Restart a i) = true
-is_broken (Phase p) = false
-is_broken (Emit s t) = false
-is_broken (Release s t) = false
-is_broken (Cut a b) = false
-is_broken (Heal a b) = false
-is_broken (Deliver k) = false
-is_broken (Tick a now) = false
-is_broken (Mill a r) = false
+is_broken e = is_crash e || is_restart e
 
 stepped-stays : (w : World) (a : ℕ) (n : PlainNode) (i : ℕ) → is_up_at w.nodes i ≡ true → is_up_at (changed (node_place w.plan a) (λ (slot : Slot). record slot { node = Some n }) w.nodes) i ≡ true
 stepped-stays w a n i up =

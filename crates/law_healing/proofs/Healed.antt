@@ -15,13 +15,13 @@ use Rattle.world_model.specs.Schedules.{event_of}
 use Rattle.law_safety.proofs.Growing.{event-grows}
 use Rattle.law_safety.proofs.Law.{new_world-plan}
 use Rattle.law_schedules.proofs.Calm.{deliver-calm, tick-calm, mill-calm}
-use Rattle.law_settling.specs.Phased.{is_quiet}
+use Rattle.world_model.specs.Events.{is_quiet, is_release}
 use Rattle.law_settling.proofs.Logs.{event-many, run-sources}
 use Rattle.law_healing.specs.Healing.{cut_behind, down_behind, releases_all}
 use Rattle.law_healing.proofs.Steps.{AreSteps, by-directive}
 use Rattle.law_healing.proofs.Links.{is_cut_behind, AreCutBehind, links-idle, links-cut, links-heal, emits-cuts, releases-cuts, crashes-cuts, restarts-cuts}
 use Rattle.law_healing.proofs.Downs.{is_up_at, AreDownBehind, is_broken, downs-kept, downs-idle, downs-crash, downs-restart, stays-up, event-slots}
-use Rattle.law_healing.proofs.Releasing.{AreReleasedBehind, is_release, same-bound, logs-kept, logs-idle, logs-release}
+use Rattle.law_healing.proofs.Releasing.{AreReleasedBehind, same-bound, logs-kept, logs-idle, logs-release}
 
 -- its cuts, its nodes that are down and its sources' bounds are what these directives left
 pub record IsBehind (plan : Plan) (done : List Directive) (w : World) : Type 0 where

@@ -11,12 +11,12 @@ use Rattle.dpc_model.specs.declared.scripts.Phase.{Phase as PhaseSpec}
 use Rattle.dpc_model.specs.declared.scripts.Script.{Script}
 use Rattle.world_model.specs.Worlds.{World, happens}
 use Rattle.world_model.specs.Schedules.{Progress, last_clock, phase_of, has_event, next_progress, progress, may_follow, is_live_so_far, is_phase_complete, all_ticked, all_delivered, all_milled}
-use Rattle.law_safety.proofs.Tests.{both, eq-of}
+use Rattle.dpc_lists.proofs.Truths.{both, eq-of, or-of}
+use Rattle.dpc_lists.proofs.Elements.{nil-of}
 use Rattle.law_settling.specs.Phased.{opened}
 use Rattle.law_settling.proofs.Splitting.{opens}
 use Rattle.law_settling.proofs.Along.{every-prefix, progress-push, live-may}
 use Rattle.law_healing.specs.Healing.{directives_of}
-use Rattle.law_healing.proofs.Behind.{or-of}
 use Rattle.law_healing.proofs.Steps.{IsNext, next-of}
 use Rattle.law_healing.proofs.Healed.{IsBehind, directive-done, quiet-done, opening-behind}
 
@@ -61,10 +61,6 @@ complete-todo script x complete h =
           let two = (both (is_nil x.todo && all_ticked x) (all_delivered x) three).0 in
           nil-of x.todo (both (is_nil x.todo) (all_ticked x) two).0
     ]
-  where
-    nil-of : (ds : List Directive) → is_nil ds ≡ true → ds ≡ []
-    nil-of [] e = refl
-    nil-of (d ∷ ds) e = cc
 
 opened-done : (script : Script) (x : Progress) → is_phase_complete x ≡ true → IsDone script x → IsDone script (opened script x)
 opened-done script x complete h =

@@ -10,7 +10,7 @@ use Rattle.dpc_model.specs.declared.scripts.Directive.{Directive}
 use Rattle.dpc_model.specs.declared.scripts.Directive.TheVariants as directive
 use Rattle.node_model.specs.Sources.{source_emits, source_releases}
 use Rattle.world_model.specs.Worlds.{World, source_at, source_stepped, same_pair, link_up, is_release_time, emits, releases, cuts_link, heals_link, crashes, restarts}
-use Rattle.law_safety.proofs.Tests.{both, both-of, eq-test, all-append}
+use Rattle.dpc_lists.proofs.Truths.{both, both-of, eq-test, all-append}
 use Rattle.law_healing.specs.Healing.{cut_behind}
 use Rattle.law_healing.proofs.Behind.{fold-push}
 

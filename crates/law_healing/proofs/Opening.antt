@@ -1,12 +1,12 @@
 -- Where all has healed behind a script's directives, the quiet phases of a live run open well.
-use Rattle.std.proofs.Common.{◌≡◌, ℕ, zero, suc, ◌+◌, ◌<◌, ◌≤◌, Bool, true, false, nat_lt, List, [], ◌∷◌, ◌++◌, length, refl, sym, ap, subst, ◌∙◌, arith, is_some, append-nil}
+use Rattle.std.proofs.Common.{◌≡◌, ℕ, ◌+◌, ◌<◌, true, List, [], ◌∷◌, ◌++◌, length, refl, sym, ap, subst, ◌∙◌, arith, is_some, append-nil}
 use Rattle.std.proofs.Math.Seq.{drop-length}
 use Rattle.std.specs.Prelude.{IsTrue, IsSome}
 use Rattle.std.specs.List.{filter}
 use Rattle.std.proofs.lemmas.Bool.{true_from_ne_false}
 use Rattle.std.proofs.lemmas.List.Elements.{All-from_get_or}
 use Rattle.std.proofs.lemmas.Option.{unwrap_or-slice_get}
-use Rattle.dpc_lists.specs.Lists.{list_all, list_any, range_with_len}
+use Rattle.dpc_lists.specs.Lists.{list_all, list_any}
 use Rattle.dpc_model.specs.declared.messages.Event.{Event}
 use Rattle.dpc_model.specs.declared.messages.Event.TheVariants.{Phase}
 use Rattle.dpc_model.specs.declared.plans.Plan.{Plan}
@@ -17,7 +17,7 @@ use Rattle.node_model.specs.Sources.{SourceState}
 use Rattle.world_model.specs.Worlds.{World, Slot, no_source, run}
 use Rattle.world_model.specs.Schedules.{Progress, progress, has_event, is_live}
 use Rattle.world_model.specs.Steady.{IsOpen, OpensWell}
-use Rattle.law_safety.proofs.Tests.{both, lt-of, not-lt}
+use Rattle.dpc_lists.proofs.Truths.{both, in-range}
 use Rattle.law_schedules.proofs.Calm.{no_slot}
 use Rattle.law_schedules.proofs.Journals.{live-far, progress-run}
 use Rattle.law_settling.proofs.Along.{live-may}
@@ -30,15 +30,6 @@ use Rattle.law_healing.proofs.Healed.{IsBehind}
 use Rattle.law_healing.proofs.Journal.{directives_in, later, IsDone, complete-todo, done-along}
 
 -- ---- what heals, taken apart
-
-in-range : (test : ℕ → Bool) (k n b : ℕ) → list_all test (range_with_len k n) ≡ true → k ≤ b → b < k + n → test b ≡ true
-in-range test k zero b h low high = absurd (omega (arith, low, high))
-in-range test k (suc n) b h low high =
-    let p = both (test k) (list_all test (range_with_len (k + 1) n)) h in
-    (elim (nat_lt k b) as (λ t. nat_lt k b ≡ t → test b ≡ true) [
-      | true ↦ λ e. let more = lt-of k b e in in-range test (k + 1) n b p.1 (omega (arith, more)) (omega (arith, high))
-      | false ↦ λ e. let few = not-lt k b e in let same : k ≡ b = omega (arith, few, low) in subst (λ (c : ℕ). test c ≡ true) same p.0
-    ]) refl
 
 module _ (script : Script) (healed : heals script ≡ true) where
   all-mended : list_all (is_mended (directives_of script)) (directives_of script) ≡ true

@@ -1,12 +1,12 @@
 -- No source's bound passes the end, and one that released its whole log has the end as its bound.
-use Rattle.std.proofs.Common.{◌≡◌, ℕ, ◌<◌, ◌≤◌, max, Bool, true, false, cond, ◌==◌, nat_lt, nat_le, List, [], ◌∷◌, ◌++◌, length, refl, sym, ap, ◌∙◌, arith, ◌⊎◌, inl, inr}
+use Rattle.std.proofs.Common.{◌≡◌, ℕ, ◌<◌, ◌≤◌, max, true, false, cond, ◌==◌, nat_lt, nat_le, List, [], ◌∷◌, ◌++◌, length, refl, sym, ap, ◌∙◌, arith, ◌⊎◌, inl, inr}
 use Rattle.std.proofs.Math.Nat.{le-max_left, le-max_right, max-le}
 use Rattle.dpc_lists.specs.Lists.{list_any, nth, changed}
 use Rattle.dpc_model.specs.Actors.{role_of}
 use Rattle.dpc_model.specs.declared.actors.Role.{Role}
 use Rattle.dpc_model.specs.declared.actors.Role.TheVariants.{Source as IsSource, Node as IsNode, Client as IsClient, Nobody}
 use Rattle.dpc_model.specs.declared.messages.Event.{Event}
-use Rattle.dpc_model.specs.declared.messages.Event.TheVariants.{Phase, Emit, Release, Cut, Heal, Crash, Restart, Deliver, Tick, Mill}
+use Rattle.dpc_model.specs.declared.messages.Event.TheVariants.{Release}
 use Rattle.dpc_model.specs.declared.plans.Plan.{Plan}
 use Rattle.dpc_model.specs.declared.scripts.Directive.{Directive}
 use Rattle.dpc_model.specs.declared.scripts.Directive.TheVariants as directive
@@ -14,13 +14,15 @@ use Rattle.dpc_model.proofs.Numbers.{source-role}
 use Rattle.node_model.specs.Mails.{Stepped}
 use Rattle.node_model.specs.Sources.{SourceState, source_emits, source_releases, source_packet_step, source_tick_step}
 use Rattle.world_model.specs.Worlds.{World, source_at, no_source, source_stepped, is_release_time, releases, happens}
-use Rattle.law_safety.proofs.Tests.{both, both-of, eq-of, lt-of, not-lt, le-of, le-test}
+use Rattle.dpc_lists.proofs.Truths.{both, both-of, eq-of, lt-of, not-lt, le-of, le-test}
+use Rattle.dpc_lists.proofs.Elements.{nth-here}
+use Rattle.world_model.specs.Events.{is_release}
 use Rattle.law_safety.proofs.EventCases.{AreCases, by-event}
 use Rattle.law_safety.proofs.Numbering.{source-at as source-number}
 use Rattle.law_granting.proofs.Keys.{nth-changed}
 use Rattle.law_settling.proofs.Logs.{packet-same, tick-same}
 use Rattle.law_healing.specs.Healing.{releases_all}
-use Rattle.law_healing.proofs.Behind.{any-push, changed-here}
+use Rattle.law_healing.proofs.Behind.{any-push}
 
 -- what is known of the sources of a plan in a world
 pub record AreReleasedBehind (plan : Plan) (done : List Directive) (w : World) : Type 0 where
@@ -28,18 +30,6 @@ pub record AreReleasedBehind (plan : Plan) (done : List Directive) (w : World) :
   pub whole : (s : ℕ) → s < length plan.sources → list_any (releases_all plan s) done ≡ true → plan.end ≤ (source_at w s).bound
 
 -- ---- events that release nothing
-
-abbrev pub is_release : Event → Bool
-is_release (Release s t) = true
-is_release (Phase p) = false
-is_release (Emit s t) = false
-is_release (Cut a b) = false
-is_release (Heal a b) = false
-is_release (Crash a) = false
-is_release (Restart a i) = false
-is_release (Deliver k) = false
-is_release (Tick a now) = false
-is_release (Mill a r) = false
 
 emits-bound : (plan : Plan) (s t : ℕ) (x : SourceState) → (source_emits plan s t x).after.bound ≡ x.bound
 unfolding source_emits
@@ -162,7 +152,7 @@ released done w a t v role many time h =
 
     now-at : (s : ℕ) → s < length w.plan.sources → a ≡ s → t ≡ w.plan.end → w.plan.end ≤ (source_at next s).bound
     now-at s below is ended =
-        let here : source_at next a ≡ after = changed-here no_source (λ (_ : SourceState). after) a w.sources (omega (arith, below, is, many)) in
+        let here : source_at next a ≡ after = nth-here no_source a (λ (_ : SourceState). after) w.sources (omega (arith, below, is, many)) in
         let bound : (source_at next s).bound ≡ max (source_at w v).bound t = ap (λ (z : ℕ). (source_at next z).bound) (sym is) ∙ ap (λ (x : SourceState). x.bound) here ∙ after-bound in
         let more = le-max_right (source_at w v).bound t in
         omega (arith, bound, more, ended)

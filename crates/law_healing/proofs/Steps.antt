@@ -6,7 +6,8 @@ use Rattle.dpc_model.specs.declared.scripts.Directive.{Directive}
 use Rattle.dpc_model.specs.declared.scripts.Directive.TheVariants as directive
 use Rattle.world_model.specs.Worlds.{World, slot_of}
 use Rattle.world_model.specs.Schedules.{Progress, event_of, same_event, is_next}
-use Rattle.law_safety.proofs.Tests.{both, eq-of}
+use Rattle.dpc_lists.proofs.Truths.{both, eq-of}
+use Rattle.dpc_lists.proofs.Somes.{some-same}
 
 -- what holds of each directive with its event
 pub record AreSteps (w : World) (P : Directive → Event → Type 0) : Type 0 where
@@ -17,16 +18,13 @@ pub record AreSteps (w : World) (P : Directive → Event → Type 0) : Type 0 wh
   pub crash : (a : ℕ) → P (directive.Crash a) (Crash a)
   pub restart : (a : ℕ) → P (directive.Restart a) (Restart a ((slot_of w a).last_inc + 1))
 
-some-event : (e f : Event) → ◌≡◌ {A = Option Event} (Some e) (Some f) → e ≡ f
-some-event e f h = cc
-
 pub by-directive : (w : World) (P : Directive → Event → Type 0) → AreSteps w P → (d : Directive) (e : Event) → event_of w d ≡ Some e → P d e
-by-directive w P h (directive.Emit s t) e is = subst (P (directive.Emit s t)) (some-event (Emit s t) e is) (h.emit s t)
-by-directive w P h (directive.Release s t) e is = subst (P (directive.Release s t)) (some-event (Release s t) e is) (h.release s t)
-by-directive w P h (directive.Cut a b) e is = subst (P (directive.Cut a b)) (some-event (Cut a b) e is) (h.cut a b)
-by-directive w P h (directive.Heal a b) e is = subst (P (directive.Heal a b)) (some-event (Heal a b) e is) (h.heal a b)
-by-directive w P h (directive.Crash a) e is = subst (P (directive.Crash a)) (some-event (Crash a) e is) (h.crash a)
-by-directive w P h (directive.Restart a) e is = subst (P (directive.Restart a)) (some-event (Restart a ((slot_of w a).last_inc + 1)) e is) (h.restart a)
+by-directive w P h (directive.Emit s t) e is = subst (P (directive.Emit s t)) (some-same (Emit s t) e is) (h.emit s t)
+by-directive w P h (directive.Release s t) e is = subst (P (directive.Release s t)) (some-same (Release s t) e is) (h.release s t)
+by-directive w P h (directive.Cut a b) e is = subst (P (directive.Cut a b)) (some-same (Cut a b) e is) (h.cut a b)
+by-directive w P h (directive.Heal a b) e is = subst (P (directive.Heal a b)) (some-same (Heal a b) e is) (h.heal a b)
+by-directive w P h (directive.Crash a) e is = subst (P (directive.Crash a)) (some-same (Crash a) e is) (h.crash a)
+by-directive w P h (directive.Restart a) e is = subst (P (directive.Restart a)) (some-same (Restart a ((slot_of w a).last_inc + 1)) e is) (h.restart a)
 by-directive w P h (directive.Lose a b) e is = cc
 by-directive w P h (directive.Repeat a b) e is = cc
 

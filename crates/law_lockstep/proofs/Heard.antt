@@ -19,9 +19,9 @@ use Rattle.dpc_model.specs.declared.scripts.Script.{Script}
 use Rattle.node_model.specs.Nodes.{PlainNode, streams_of}
 use Rattle.world_model.specs.Orderly.{is_port_sound, are_ports_sound}
 use Rattle.world_model.specs.Worlds.{World, home_of, slot_of, client_at, happens, run_from, run, new_world}
-use Rattle.world_model.specs.Schedules.{Progress, first_progress, next_progress, progress, is_live, lockstep_journal}
-use Rattle.world_model.specs.Steady.{NoneThree, IsHeardAt, AreHeard, HeardBy, TickIsHeard, phase_at, patience, SteadyFrom, IsSteady, OpensWell}
-use Rattle.law_safety.proofs.Tests.{both}
+use Rattle.world_model.specs.Schedules.{Progress, first_progress, next_progress, progress, is_live, lockstep_journal, settling_phases}
+use Rattle.world_model.specs.Steady.{NoneThree, IsHeardAt, AreHeard, HeardBy, TickIsHeard, phase_at, SteadyFrom, IsSteady, OpensWell}
+use Rattle.dpc_lists.proofs.Truths.{both}
 use Rattle.law_safety.proofs.Happening.{node-here}
 use Rattle.law_safety.proofs.Numbering.{home-inputs}
 use Rattle.law_safety.proofs.Worlding.{client-below}
@@ -67,7 +67,7 @@ client-reads (client ∷ cs) (suc c) low = client-reads cs c (omega (arith, low)
 -- ---- a tick
 
 module _ (script : Script) (events : List Event) (can : CanSettle script) (live : is_live script events ≡ true) (tidy : is_tidy false events ≡ true) (well : OpensWell script events) (calm : IsCalm script events) where
-  module _ (done rest : List Event) (x now : ℕ) (is : events ≡ done ++ Tick x now ∷ rest) (far : length script.phases + patience < (progress script done).phase) where
+  module _ (done rest : List Event) (x now : ℕ) (is : events ≡ done ++ Tick x now ∷ rest) (far : length script.phases + settling_phases < (progress script done).phase) where
     -- the state behind it
     abbrev Next : Progress
     Next = next_progress script (progress script done) (Tick x now)
@@ -76,7 +76,7 @@ module _ (script : Script) (events : List Event) (can : CanSettle script) (live 
     open-next =
         let push = progress-push script done (Tick x now) in
         let later : events ≡ (done ++ Tick x now ∷ []) ++ rest = is ∙ sym (append_assoc done (Tick x now ∷ []) rest) in
-        let far_next : length script.phases + patience < (progress script (done ++ Tick x now ∷ [])).phase = subst (λ (y : Progress). length script.phases + patience < y.phase) (sym push) far in
+        let far_next : length script.phases + settling_phases < (progress script (done ++ Tick x now ∷ [])).phase = subst (λ (y : Progress). length script.phases + settling_phases < y.phase) (sym push) far in
         subst (IsOpenAt script) push (open-of script can (progress script (done ++ Tick x now ∷ [])) (running-along script events (live-far script events live) well (done ++ Tick x now ∷ []) rest later (omega (arith, far_next))))
 
     many-next : length Next.world.clients ≡ length Next.world.plan.clients
@@ -128,7 +128,7 @@ module _ (script : Script) (events : List Event) (can : CanSettle script) (live 
             let reads = client-reads Next.world.plan.clients c (client-below Next.world.plan x c role) in
             port-is-heard 0 reads.0 (client_at Next.world c).port (ap (λ (z : Role). slice_get (inputs_of Next.world.plan z) 0) role ∙ reads.1) (ap (λ (z : Role). role_port Next.world x 0 z) role)
 
-  event-heard : (done rest : List Event) (e : Event) → events ≡ done ++ e ∷ rest → length script.phases + patience < phase_at (progress script done).phase e → TickIsHeard (happens (progress script done).world e) e
+  event-heard : (done rest : List Event) (e : Event) → events ≡ done ++ e ∷ rest → length script.phases + settling_phases < phase_at (progress script done).phase e → TickIsHeard (happens (progress script done).world e) e
   event-heard done rest (Tick a now) is far = heard-by done rest a now is far
   event-heard done rest (Phase p) is far = tt
   event-heard done rest (Emit s t) is far = tt
@@ -143,7 +143,7 @@ module _ (script : Script) (events : List Event) (can : CanSettle script) (live 
 -- ---- the whole journal
 
 steady-from : (script : Script) (p : ℕ) (w : World) (events : List Event) → CalmFrom script p w events →
-    ((done rest : List Event) (e : Event) → events ≡ done ++ e ∷ rest → length script.phases + patience < phase_at (phase_after p done) e → TickIsHeard (happens (run_from w done) e) e) → SteadyFrom script p w events
+    ((done rest : List Event) (e : Event) → events ≡ done ++ e ∷ rest → length script.phases + settling_phases < phase_at (phase_after p done) e → TickIsHeard (happens (run_from w done) e) e) → SteadyFrom script p w events
 steady-from script p w [] calm heard = tt
 steady-from script p w (e ∷ events) calm heard = (
   λ far. (calm.0 far, heard [] events e refl far),
@@ -156,7 +156,7 @@ tidy-steady script events can live tidy well calm =
     steady-from script 0 (new_world script.plan) events calm (λ done rest e is far.
     let phase : (progress script done).phase ≡ phase_after 0 done = phase-from script (first_progress script) done in
     let world : (progress script done).world ≡ run_from (new_world script.plan) done = progress-run script done in
-    subst (λ (w : World). TickIsHeard (happens w e) e) world (event-heard script events can live tidy well calm done rest e is (subst (λ (n : ℕ). length script.phases + patience < phase_at n e) (sym phase) far)))
+    subst (λ (w : World). TickIsHeard (happens w e) e) world (event-heard script events can live tidy well calm done rest e is (subst (λ (n : ℕ). length script.phases + settling_phases < phase_at n e) (sym phase) far)))
 
 pub lock-steady : (script : Script) → CanSettle script → OpensWell script (lockstep_journal script) → IsCalm script (lockstep_journal script) → IsSteady script (lockstep_journal script)
 lock-steady script can well calm = tidy-steady script (lockstep_journal script) can (lock-live script) (lock-tidy script) well calm

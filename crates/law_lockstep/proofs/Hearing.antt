@@ -20,27 +20,28 @@ use Rattle.node_model.specs.NodeSteps.{tick_step}
 use Rattle.world_model.specs.Worlds.{World, Envelope, Slot, home_of, slot_of, from, node_stepped, can_come, happens}
 use Rattle.world_model.specs.Schedules.{Progress, next_progress, may_come, may_follow, is_phase_complete}
 use Rattle.world_model.specs.Steady.{NoneRecovers}
-use Rattle.law_safety.proofs.Tests.{eq-test}
+use Rattle.dpc_lists.proofs.Truths.{eq-test, not-less}
+use Rattle.dpc_lists.proofs.Elements.{get-changed}
+use Rattle.dpc_lists.proofs.Somes.{some-same}
 use Rattle.law_safety.proofs.Happening.{node-here}
 use Rattle.law_safety.proofs.Emptied.{shape-of}
 use Rattle.law_safety.proofs.Promises.{slot-here}
 use Rattle.law_granting.specs.Taken.{port_of}
 use Rattle.law_granting.proofs.Moves.{get-mapped, get-was}
-use Rattle.law_settling.specs.Phased.{is_quiet, opened}
-use Rattle.law_settling.proofs.Exact.{get-here}
+use Rattle.law_settling.specs.Phased.{opened}
 use Rattle.law_settling.proofs.Fresh.{new-waits, still-sent}
 use Rattle.law_settling.proofs.Nodes.{node-ticked-now}
 use Rattle.law_settling.proofs.Opening.{all-come}
 use Rattle.law_settling.proofs.PortExact.{port_after}
 use Rattle.law_settling.proofs.PortGoing.{port-goes}
 use Rattle.law_settling.proofs.PortNow.{took-now}
-use Rattle.law_settling.proofs.PortSteps.{sent-place, some-port}
+use Rattle.law_settling.proofs.PortSteps.{sent-place}
 use Rattle.law_settling.proofs.Ports.{node-there, port-there}
 use Rattle.law_settling.proofs.Promises.{IsOpenAt}
-use Rattle.law_settling.proofs.Rules.{is_tick, opened-due}
+use Rattle.world_model.specs.Events.{is_tick, is_quiet, is_delivery}
+use Rattle.law_settling.proofs.Rules.{opened-due}
 use Rattle.law_settling.proofs.Stages.{due-waits}
-use Rattle.law_settling.proofs.Waitings.{waits, is_due, is_delivery, waits-on, comes}
-use Rattle.law_settling_readers.proofs.Calming.{not-less}
+use Rattle.law_settling.proofs.Waitings.{waits, is_due, waits-on, comes}
 use Rattle.law_settling_readers.proofs.Comings.{inc-stays}
 use Rattle.law_settling_readers.proofs.Reading.{replica_at, replicas_in, IsReader}
 use Rattle.law_settling_readers.proofs.Watching.{WatchGoes, watch-goes}
@@ -65,12 +66,6 @@ pub record Sees (script : Script) (x p f k : ℕ) (z : Progress) (e : Event) : T
 pub record IsCalmly (z y : Progress) : Type 0 where
   pub here : NoneRecovers z.world.nodes
   pub next : NoneRecovers y.world.nodes
-
-some-node : (a b : PlainNode) → ◌≡◌ {A = Option PlainNode} (Some a) (Some b) → a ≡ b
-some-node a b d = cc
-
-some-watch : (a b : Watch) → ◌≡◌ {A = Option Watch} (Some a) (Some b) → a ≡ b
-some-watch a b d = cc
 
 module _ (script : Script) (x p f k i : ℕ) (low : i < replicas_in script.plan f) where
   -- the replica of this number, as an actor
@@ -137,7 +132,7 @@ module _ (script : Script) (x p f k i : ℕ) (low : i < replicas_in script.plan 
           beat = beat;
           sent = sent;
           waits = new-waits script z (Tick Rep now) place.0 _ place.2 sent;
-          inc = λ o there. let one : t.after ≡ o = some-node t.after o (sym up ∙ there) in sym (ap (λ (y : PlainNode). y.grants.inc) one);
+          inc = λ o there. let one : t.after ≡ o = some-same t.after o (sym up ∙ there) in sym (ap (λ (y : PlainNode). y.grants.inc) one);
         },
       )
 
@@ -154,7 +149,7 @@ module _ (script : Script) (x p f k i : ℕ) (low : i < replicas_in script.plan 
         beat = h.beat;
         sent = still-sent z.world e m _ h.sent;
         waits = waits-on script z e m goes.quiet other h.waits;
-        inc = λ o up. let one : stays.0 ≡ o = some-node stays.0 o (sym stays.1 ∙ up) in sym (ap (λ (y : PlainNode). y.grants.inc) one) ∙ stays.2 ∙ h.inc it.node it.up;
+        inc = λ o up. let one : stays.0 ≡ o = some-same stays.0 o (sym stays.1 ∙ up) in sym (ap (λ (y : PlainNode). y.grants.inc) one) ∙ stays.2 ∙ h.inc it.node it.up;
       }
 
   -- it is due in the next phase
@@ -185,7 +180,7 @@ module _ (script : Script) (x p f k i : ℕ) (low : i < replicas_in script.plan 
       let h = goes.here.here in
       let q = port-here z goes.here in
       let n = port-goes z.world h.most x p (Frag f) h.fine goes.here.many goes.here.line.port calm.here e goes.quiet calm.next q.0 q.1 in
-      let one : n.0 ≡ r = some-port n.0 r (sym n.1 ∙ now) in
+      let one : n.0 ≡ r = some-same n.0 r (sym n.1 ∙ now) in
       let w = watch-goes z.world x p e (Frag f) (happens z.world e) q.0 n.0 n.2 i u (ap (λ (y : Port). slice_get y.watches i) one ∙ at) in
       record { port = q.0; there = q.1; watch = w.0; at = w.1; goes = w.2 }
 
@@ -219,7 +214,7 @@ module _ (script : Script) (x p f k i : ℕ) (low : i < replicas_in script.plan 
       ap (λ (a : ℕ). sender_at z.world.plan (inputs_of z.world.plan (role_of z.world.plan x)) a) (sym (same-replica z goes.here)) ∙ goes.here.line.sender i (low-here z goes.here) in
       let can : can_come z.world g ≡ true = sym (ap (λ (o : Option Envelope). may_come z.world o) h.sent) ∙ comes-here z m goes.here h in
       let taken = took-now z.world here.most x p (Frag f) here.fine goes.here.many goes.here.line.port calm.here m i g h.sent can refl place calm.next q.0 q.1 in
-      let one : r ≡ port_after i (Plain (message.Beat b)) (without_ended_marks q.0) = some-port r taken.0 (sym now ∙ taken.1) ∙ taken.2.0 in
+      let one : r ≡ port_after i (Plain (message.Beat b)) (without_ended_marks q.0) = some-same r taken.0 (sym now ∙ taken.1) ∙ taken.2.0 in
       let found : slice_get (changed i (after_beat b.inc b.state b.recovering) (without_ended_marks q.0).watches) i ≡ Some u = ap (λ (y : Port). slice_get y.watches i) (sym one) ∙ at in
       let y = get-was i (after_beat b.inc b.state b.recovering) (without_ended_marks q.0).watches i u found in
       by-watch q.0 q.1 found y.0 y.1
@@ -234,7 +229,7 @@ module _ (script : Script) (x p f k i : ℕ) (low : i < replicas_in script.plan 
           let inc = h.inc it.node it.up in
           let same : y.inc ≡ v.0.inc = ap (λ (o : Watch). o.inc) (sym v.2) in
           let new : nat_lt b.inc y.inc ≡ false = not-less b.inc y.inc (omega (arith, below, inc, same)) in
-          let is : u ≡ after_beat b.inc b.state b.recovering y = some-watch u (after_beat b.inc b.state b.recovering y) (sym found ∙ get-here i (after_beat b.inc b.state b.recovering) (without_ended_marks q).watches y at_y) in
+          let is : u ≡ after_beat b.inc b.state b.recovering y = some-same u (after_beat b.inc b.state b.recovering y) (sym found ∙ get-changed i (after_beat b.inc b.state b.recovering) (without_ended_marks q).watches y at_y) in
           let noted : u ≡ record y { inc = b.inc; ticks = 0; said = Some (b.state, b.recovering) } = is ∙ ap (λ (t : Bool). cond {A = Watch} t y (record y { inc = b.inc; ticks = 0; said = Some (b.state, b.recovering) })) new in
           let none : u.ticks ≡ 0 = ap (λ (o : Watch). o.ticks) noted in
           omega (arith, none)

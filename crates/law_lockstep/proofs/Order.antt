@@ -5,7 +5,7 @@ use Rattle.dpc_model.specs.declared.messages.Event.TheVariants.{Phase, Emit, Rel
 use Rattle.dpc_model.specs.declared.scripts.Script.{Script}
 use Rattle.world_model.specs.Worlds.{happens}
 use Rattle.world_model.specs.Schedules.{Progress, next_progress, progress_from, progress, may_follow, follows_from, is_live_so_far, is_live, is_phase_complete}
-use Rattle.law_safety.proofs.Tests.{both}
+use Rattle.dpc_lists.proofs.Truths.{both}
 use Rattle.law_schedules.proofs.Calm.{calm-grown, grown-longer, calm-like, tick-calm}
 use Rattle.law_schedules.proofs.Waits.{come-kept}
 use Rattle.law_schedules.proofs.Journals.{live-far}
@@ -14,7 +14,8 @@ use Rattle.law_settling.proofs.Splitting.{opens}
 use Rattle.law_settling.proofs.Waitings.{is_due, due-on, comes, done-of, none-due}
 use Rattle.law_settling.proofs.Along.{every-prefix, progress-push}
 use Rattle.law_settling.proofs.Deliveries.{progress-parts, live-part}
-use Rattle.law_lockstep.proofs.Tidy.{is_ticking, is_late, is_tidy, ends_ticking, ends-push, tidy-behind}
+use Rattle.world_model.specs.Events.{is_ticking}
+use Rattle.law_lockstep.proofs.Tidy.{is_late, is_tidy, ends_ticking, ends-push, tidy-behind}
 
 -- ---- what is due at a tick is never delivered
 

@@ -1,5 +1,5 @@
 -- What is seen at each point of a calm live run past the script's phases.
-use Rattle.std.proofs.Common.{◌≡◌, ℕ, ◌+◌, ◌<◌, ◌≤◌, true, List, [], ◌∷◌, ◌++◌, length, refl, sym, ap, subst, ◌∙◌, arith, Some, slice_get}
+use Rattle.std.proofs.Common.{◌≡◌, ℕ, ◌+◌, ◌<◌, ◌≤◌, true, List, [], ◌∷◌, ◌++◌, length, sym, ap, subst, ◌∙◌, arith, Some, slice_get}
 use Rattle.dpc_model.specs.Actors.{role_of}
 use Rattle.dpc_model.specs.Ports.{Port}
 use Rattle.dpc_model.specs.Replicas.{Watch}
@@ -9,8 +9,9 @@ use Rattle.dpc_model.specs.declared.plans.Plan.{Plan}
 use Rattle.dpc_model.specs.declared.scripts.Script.{Script}
 use Rattle.node_model.specs.Nodes.{PlainNode}
 use Rattle.world_model.specs.Worlds.{World, slot_of, happens, run_from, run, new_world}
-use Rattle.world_model.specs.Schedules.{Progress, first_progress, next_progress, progress, is_live_so_far}
-use Rattle.world_model.specs.Steady.{NoneRecovers, phase_at, patience, OpensWell}
+use Rattle.world_model.specs.Schedules.{Progress, first_progress, next_progress, progress, is_live_so_far, settling_phases}
+use Rattle.world_model.specs.Steady.{NoneRecovers, phase_at, OpensWell}
+use Rattle.world_model.proofs.Running.{first-phase}
 use Rattle.law_granting.specs.Taken.{port_of}
 use Rattle.law_schedules.proofs.Journals.{progress-run}
 use Rattle.law_readers.specs.Settling.{CanSettle}
@@ -24,27 +25,23 @@ use Rattle.law_lockstep.proofs.Hearing.{IsSeen}
 
 -- ---- no node recovers
 
-calm-from : (script : Script) (p : ℕ) (w : World) (done rest : List Event) (e : Event) → CalmFrom script p w (done ++ e ∷ rest) → length script.phases + patience < phase_at (phase_after p done) e → NoneRecovers (happens (run_from w done) e).nodes
+calm-from : (script : Script) (p : ℕ) (w : World) (done rest : List Event) (e : Event) → CalmFrom script p w (done ++ e ∷ rest) → length script.phases + settling_phases < phase_at (phase_after p done) e → NoneRecovers (happens (run_from w done) e).nodes
 calm-from script p w [] rest e h far = h.0 far
 calm-from script p w (d ∷ done) rest e h far = calm-from script (phase_at p d) (happens w d) done rest e h.1 far
 
-calm-event : (script : Script) (events done rest : List Event) (e : Event) → IsCalm script events → events ≡ done ++ e ∷ rest → length script.phases + patience < (next_progress script (progress script done) e).phase → NoneRecovers (happens (run script.plan done) e).nodes
+calm-event : (script : Script) (events done rest : List Event) (e : Event) → IsCalm script events → events ≡ done ++ e ∷ rest → length script.phases + settling_phases < (next_progress script (progress script done) e).phase → NoneRecovers (happens (run script.plan done) e).nodes
 unfolding run progress
 calm-event script events done rest e calm is far =
     let phase : (next_progress script (progress script done) e).phase ≡ phase_at (phase_after 0 done) e = next-at script (progress script done) e ∙ ap (λ (n : ℕ). phase_at n e) (phase-from script (first_progress script) done) in
     calm-from script 0 (new_world script.plan) done rest e (subst (λ (es : List Event). CalmFrom script 0 (new_world script.plan) es) is calm) (omega (arith, far, phase))
 
-first-phase : (script : Script) → (progress script []).phase ≡ 0
-unfolding progress
-first-phase script = refl
-
 -- past the first quiet phases
-pub calm-along : (script : Script) (events : List Event) → IsCalm script events → (done rest : List Event) → events ≡ done ++ rest → length script.phases + patience < (progress script done).phase → NoneRecovers (progress script done).world.nodes
+pub calm-along : (script : Script) (events : List Event) → IsCalm script events → (done rest : List Event) → events ≡ done ++ rest → length script.phases + settling_phases < (progress script done).phase → NoneRecovers (progress script done).world.nodes
 calm-along script events calm done rest is =
-    every-prefix events (λ (es : List Event). length script.phases + patience < (progress script es).phase → NoneRecovers (progress script es).world.nodes) (λ far. let none = first-phase script in absurd (omega (arith, far, none)))
+    every-prefix events (λ (es : List Event). length script.phases + settling_phases < (progress script es).phase → NoneRecovers (progress script es).world.nodes) (λ far. let none = first-phase script in absurd (omega (arith, far, none)))
     (λ before after e at h far.
     let push = progress-push script before e in
-    let here = calm-event script events before after e calm at (subst (λ (y : Progress). length script.phases + patience < y.phase) push far) in
+    let here = calm-event script events before after e calm at (subst (λ (y : Progress). length script.phases + settling_phases < y.phase) push far) in
     subst (λ (y : Progress). NoneRecovers y.world.nodes) (sym push) (subst (λ (w : World). NoneRecovers (happens w e).nodes) (sym (progress-run script before)) here)) done rest is
 
 -- ---- what a port knows of a replica

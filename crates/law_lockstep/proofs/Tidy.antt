@@ -14,33 +14,13 @@ use Rattle.dpc_model.specs.declared.scripts.Phase.{Phase as PhaseSpec}
 use Rattle.dpc_model.specs.declared.scripts.Script.{Script}
 use Rattle.world_model.specs.Worlds.{slot_of, ready_at, is_up, new_world, all_settled}
 use Rattle.world_model.specs.Schedules.{Told, tell, tell_all, tell_directive, mill_events, deliveries_of, actors_of, tell_phase, tell_phases, tell_quiet, last_clock, quiet_limit, lockstep, lockstep_journal}
-use Rattle.law_safety.proofs.Tests.{both, both-of, all-append}
+use Rattle.dpc_lists.proofs.Truths.{both, both-of, all-append, not-of}
+use Rattle.world_model.specs.Events.{is_phase, is_ticking}
 use Rattle.law_schedules.proofs.Doing.{tell-append}
-
-abbrev pub is_ticking : Event → Bool
-is_ticking (Phase p) = false
-is_ticking (Emit s t) = false
-is_ticking (Release s t) = false
-is_ticking (Cut a b) = false
-is_ticking (Heal a b) = false
-is_ticking (Crash a) = false
-is_ticking (Restart a i) = false
-is_ticking (Deliver k) = false
-is_ticking (Tick a now) = true
-is_ticking (Mill a r) = false
 
 -- what may stand behind a tick
 abbrev pub is_late : Event → Bool
-is_late (Phase p) = true
-is_late (Emit s t) = false
-is_late (Release s t) = false
-is_late (Cut a b) = false
-is_late (Heal a b) = false
-is_late (Crash a) = false
-is_late (Restart a i) = false
-is_late (Deliver k) = false
-is_late (Tick a now) = true
-is_late (Mill a r) = false
+is_late e = is_phase e || is_ticking e
 
 -- so it is in a journal; `was` says whether the event before it is a tick
 abbrev pub is_tidy : Bool → List Event → Bool
@@ -115,11 +95,7 @@ is_before e = not (is_ticking e)
 
 all-free : (es : List Event) (x : Told) → list_all is_before es ≡ true → Free x → Free (tell_all x es)
 all-free [] x none h = h
-all-free (e ∷ es) x none h = let p = both (is_before e) (list_all is_before es) none in all-free es (tell x e) p.1 (tell-free x e (no-tick (is_ticking e) p.0) h)
-  where
-    no-tick : (b : Bool) → not b ≡ true → b ≡ false
-    no-tick true k = cc
-    no-tick false k = refl
+all-free (e ∷ es) x none h = let p = both (is_before e) (list_all is_before es) none in all-free es (tell x e) p.1 (tell-free x e (not-of (is_ticking e) p.0) h)
 
 all-same : (n : ℕ) (e : Event) → is_before e ≡ true → list_all is_before (replicate n e) ≡ true
 all-same zero e h = refl

@@ -12,20 +12,20 @@ use Rattle.dpc_model.specs.declared.messages.Event.TheVariants.{Deliver, Tick}
 use Rattle.dpc_model.specs.declared.scripts.Script.{Script}
 use Rattle.node_model.specs.Nodes.{PlainNode}
 use Rattle.world_model.specs.Worlds.{is_up, role_up}
-use Rattle.world_model.specs.Schedules.{Progress, next_progress, progress, now_of, is_free, is_live, is_phase_complete}
-use Rattle.world_model.specs.Steady.{NoneRecovers, patience}
-use Rattle.law_safety.proofs.Tests.{both, eq-test, not-of}
+use Rattle.world_model.specs.Schedules.{Progress, next_progress, progress, now_of, is_free, is_live, is_phase_complete, settling_phases}
+use Rattle.world_model.specs.Steady.{NoneRecovers}
+use Rattle.dpc_lists.proofs.Truths.{both, eq-test, not-of, in-range}
+use Rattle.dpc_model.proofs.Numbers.{le-or}
 use Rattle.law_schedules.proofs.Journals.{live-far}
-use Rattle.law_settling.specs.Phased.{is_quiet, opened}
+use Rattle.law_settling.specs.Phased.{opened}
 use Rattle.law_settling.proofs.Along.{every-prefix, progress-push, live-may}
-use Rattle.law_settling.proofs.Rules.{is_tick, same-tick, same-delivery, some-phase}
+use Rattle.world_model.specs.Events.{is_tick, is_quiet, is_delivery}
+use Rattle.law_settling.proofs.Rules.{same-tick, same-delivery, some-phase}
 use Rattle.law_settling.proofs.Splitting.{stays, in-quiet}
 use Rattle.law_settling.proofs.Stages.{role-within}
-use Rattle.law_settling.proofs.Travels.{le-or}
-use Rattle.law_settling.proofs.Waitings.{is_due, is_delivery, due-on, done-of}
+use Rattle.law_settling.proofs.Waitings.{is_due, due-on, done-of}
 use Rattle.law_settling_readers.proofs.Reading.{replica_at, replicas_in}
 use Rattle.law_lockstep.proofs.Tidy.{is_tidy}
-use Rattle.law_settling.proofs.Rules.{all-range}
 use Rattle.law_settling_readers.proofs.Watching.{ticked-on}
 use Rattle.law_lockstep.proofs.Order.{none-ticked, nothing-due}
 use Rattle.law_lockstep.proofs.Hearing.{IsSeen, Sees, IsCalmly, IsBeating, Within, replica-here, told-now, comes-here, beating-next, beating-opened, within-next, within-more, heard-now}
@@ -37,7 +37,7 @@ ticks-itself script z a now = let here = eq-test a a refl in rw here refl
 has-ticked : (z : Progress) (a : ℕ) → (z.phase == 0) ≡ false → is_phase_complete z ≡ true → is_up z.world a ≡ true → a < length (roles_of z.world.plan) → has z.ticked a ≡ true
 has-ticked z a some complete up low =
     let done = done-of z some complete in
-    let here : (not (is_up z.world a) || has z.ticked a) ≡ true = all-range (λ b. not (is_up z.world b) || has z.ticked b) 0 (length (roles_of z.world.plan)) a done.ticked (omega arith) (omega (arith, low)) in
+    let here : (not (is_up z.world a) || has z.ticked a) ≡ true = in-range (λ b. not (is_up z.world b) || has z.ticked b) 0 (length (roles_of z.world.plan)) a done.ticked (omega arith) (omega (arith, low)) in
     rw up at here
 
 -- ---- a replica and a reader
@@ -108,9 +108,9 @@ module _ (script : Script) (x p f k i : ℕ) (low : i < replicas_in script.plan 
 
   module _ (events : List Event) (live : is_live script events ≡ true) (tidy : is_tidy false events ≡ true)
       (seen : (done rest : List Event) → events ≡ done ++ rest → length script.phases < (progress script done).phase → IsSeen script x p f k (progress script done))
-      (calm : (done rest : List Event) → events ≡ done ++ rest → length script.phases + patience < (progress script done).phase → NoneRecovers (progress script done).world.nodes) where
+      (calm : (done rest : List Event) → events ≡ done ++ rest → length script.phases + settling_phases < (progress script done).phase → NoneRecovers (progress script done).world.nodes) where
     abbrev Base : ℕ
-    Base = length script.phases + patience
+    Base = length script.phases + settling_phases
 
     abbrev At : Progress → Type 0
     At z = (Base ≤ z.phase → Sends z) × (Base < z.phase → Hears z)

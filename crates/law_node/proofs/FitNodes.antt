@@ -8,15 +8,14 @@ use Rattle.dpc_lists.specs.Lists.{changed, list_all}
 use Rattle.dpc_model.specs.Streams.{InOrder}
 use Rattle.dpc_model.specs.Reading.{Reader}
 use Rattle.dpc_model.specs.Inlets.{InletState, with_next_session}
-use Rattle.dpc_model.specs.Sessions.{with_batch, with_batches, given_items}
-use Rattle.dpc_model.specs.declared.sessions.Sub.{Sub}
-use Rattle.dpc_model.specs.declared.tuples.Item.{Item}
+use Rattle.dpc_model.specs.Sessions.{given_items}
 use Rattle.dpc_model.specs.declared.tuples.Item.TheVariants.{Undo}
 use Rattle.dpc_model.specs.NodeStates.{is_stabilization}
 use Rattle.dpc_model.specs.Ports.{Port, must_reopen, without_ended_marks, port_after_tick, port_after_choice}
 use Rattle.dpc_model.specs.Parts.{Inputs}
 use Rattle.dpc_model.specs.Replicas.{is_absent}
 use Rattle.dpc_model.specs.declared.tuples.Tuple.{Tuple}
+use Rattle.dpc_model.proofs.Subs.{length-counted}
 use Rattle.law_buckets.specs.Series.{AreReady}
 use Rattle.node_model.specs.Mails.{Stepped}
 use Rattle.node_model.specs.Nodes.{Home, out_stable, buckets_of, PlainNode, complete_buckets, ready, due_at, due_inputs, wants_to_reconcile}
@@ -125,11 +124,6 @@ fit-choice home p fit =
 
 -- ---- entering and asking
 
--- each reader's session stays one
-given-many : (items : List Item) (subs : List Sub) → length (with_batches items subs) ≡ length subs
-given-many [] subs = refl
-given-many (i ∷ items) subs = length-map subs with_batch
-
 pub fit-enter : (home : Home) (p : PlainNode) → IsFit home p → IsFit home (enter_step home p).after
 unfolding enter_step
 fit-enter home p fit =
@@ -140,7 +134,7 @@ fit-enter home p fit =
       end = fit.end;
       inputs = record { ordered = f.ordered; past = f.past; reached = f.reached; within = f.within; placed = tt; frontier = omega (arith, frontier) };
       ports = fit.ports;
-      readers = given-many (Undo (length (out_stable home p)) ∷ []) p.subs ∙ fit.readers;
+      readers = length-counted (Undo (length (out_stable home p)) ∷ []) p.subs ∙ fit.readers;
       silent = fit.silent;
     }
 
@@ -181,7 +175,7 @@ fit-upto home last p pos due fit =
       inputs = subst (λ (x : Inputs). AreFitInputs home.plan.width (buckets_of home.plan) home.plan.end x) (sym (processed-inputs home last p))
           (fit-processed home.plan.width (buckets_of home.plan) home.plan.end last (inputs_of p) pos refl fit.end fit.inputs lies.0 lies.1);
       ports = fit.ports;
-      readers = given-many items p.subs ∙ fit.readers;
+      readers = length-counted items p.subs ∙ fit.readers;
       silent = fit.silent;
     }
 

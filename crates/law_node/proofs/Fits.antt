@@ -13,6 +13,8 @@ use Rattle.dpc_model.specs.Due.{DueInputs, reach, stamp_of, waited_long, is_comp
 use Rattle.dpc_model.specs.Inlets.{InletState}
 use Rattle.dpc_model.specs.Parts.{Inputs, frontier_of}
 use Rattle.dpc_model.specs.declared.tuples.Tagged.{Tagged}
+use Rattle.dpc_lists.proofs.Truths.{true-not-false}
+use Rattle.dpc_model.proofs.Numbers.{times-le}
 use Rattle.checkpoint_redo.specs.Keeping.{AcceptsAll}
 use Rattle.sunion.specs.Unions.{held_in, complete_upto_in, after_advancing}
 use Rattle.law_buckets.specs.Series.{buckets_from, AreReady, CanClose}
@@ -103,9 +105,6 @@ closing-ends w buckets end last many h =
     let low : last + 1 ≤ end / w = omega (arith, h, many) in
     let fits : (last + 1) * w ≤ end / w * w = times-le (last + 1) (end / w) w low in
     omega (arith, fits, whole)
-  where
-    times-le : (a b k : ℕ) → a ≤ b → a * k ≤ b * k
-    times-le a b k h = grind (arith, common_steps, h)
 
 few-stably : (w last : ℕ) (x : Inputs) → stably_upto w last x ≤ count_upto last x
 few-stably w last x = let most = (if is_nil x.closed then complete_upto_in w x - x.cursor else 0) in grind (arith, common_steps)
@@ -190,9 +189,6 @@ due-lies v now buckets last e =
     let turn = v.any_closed || not (is_complete v.width v.ports last) in
     let frontier = (elim (nat_le v.frontier last) as (λ (b : Bool). nat_le v.frontier last ≡ b → (b && waits || (v.passing && b && reaches && turn)) ≡ true → v.frontier ≤ last) [
       | true ↦ λ c h. grind (arith, common_steps, c)
-      | false ↦ λ c h. absurd (none-true (none-at v.passing waits reaches turn h))
+      | false ↦ λ c h. absurd (true-not-false (none-at v.passing waits reaches turn h))
     ]) refl found.1 in
     (frontier, found.0)
-  where
-    none-true : true ≡ false → ⊥
-    none-true e = cc

@@ -21,7 +21,9 @@ use Rattle.world_model.specs.Worlds.{World, Envelope, Slot, home_of, node_place,
 use Rattle.world_model.specs.Safe.{EachStep}
 use Rattle.world_model.specs.Orderly.{items_carried}
 use Rattle.world_model.specs.SessionLaw.{Channel, packet_items, carried, goes_down, sent_after}
-use Rattle.law_safety.proofs.Tests.{lt-of}
+use Rattle.dpc_lists.proofs.Truths.{lt-of, and-none}
+use Rattle.dpc_lists.proofs.Elements.{no-elements, range-at}
+use Rattle.dpc_lists.proofs.Somes.{some-same}
 use Rattle.law_safety.proofs.EventCases.{AreCases, by-event}
 use Rattle.law_safety.proofs.Growing.{event-grows}
 use Rattle.law_safety.proofs.Happening.{IsFine, happens-next}
@@ -86,21 +88,13 @@ found l (x ∷ es) (suc d) j e there index =
       | Some i ↦ (suc rest.0, rest.1, rest.2)
     ]
 
-range-at : (k n j v : ℕ) → slice_get (range_with_len k n) j ≡ Some v → v ≡ k + j
-range-at k zero j v e = cc
-range-at k (suc n) zero v e = let same : k ≡ v = cc in omega (arith, same)
-range-at k (suc n) (suc j) v e = let far = range-at (k + 1) n j v e in omega (arith, far)
-
 same-lists : {X : Type 0} (xs ys : List X) → length xs ≡ length ys → ((j : ℕ) (y : X) → slice_get xs j ≡ Some y → slice_get ys j ≡ Some y) → xs ≡ ys
 same-lists [] [] many h = refl
 same-lists [] (y ∷ ys) many h = absurd (omega (arith, many))
 same-lists (x ∷ xs) [] many h = absurd (omega (arith, many))
 same-lists {X = X} (x ∷ xs) (y ∷ ys) many h =
-    let first : y ≡ x = some-is y x (h 0 x refl) in
+    let first : y ≡ x = some-same y x (h 0 x refl) in
     ap (λ (z : X). z ∷ xs) (sym first) ∙ ap (λ (zs : List X). y ∷ zs) (same-lists xs ys (omega (arith, many)) (λ j z e. h (suc j) z e))
-  where
-    some-is : (v w : X) → ◌≡◌ {A = Option X} (Some v) (Some w) → v ≡ w
-    some-is v w e = cc
 
 -- batches by their numbers, as many as were sent, are all that was sent
 pub all-carried : (l : Channel) (es : List Envelope) (many : ℕ) (bs : List (List Item)) → indexes l es ≡ range_with_len 0 many → length bs ≡ many → ((j : ℕ) (items : List Item) → slice_get bs j ≡ Some items → IsBatchOf l es j items) → joined bs ≡ carried l es
@@ -122,11 +116,7 @@ carried-more l (e ∷ xs) ys =
     ap (λ (z : List Item). first ++ z) (carried-more l xs ys) ∙ sym (append_assoc first (carried l xs) (carried l ys))
 
 none-carried : (l : Channel) (es : List Envelope) → indexes l es ≡ [] → carried l es ≡ []
-none-carried l es none = carried-joined l es ∙ ap joined (empty (carried_list l es) (as-many l es ∙ ap length none))
-  where
-    empty : (xs : List (List Item)) → length xs ≡ 0 → xs ≡ []
-    empty [] e = refl
-    empty (x ∷ xs) e = absurd (omega (arith, e))
+none-carried l es none = carried-joined l es ∙ ap joined (no-elements (carried_list l es) (as-many l es ∙ ap length none))
 
 left-nil : (xs ys : List Item) → xs ++ ys ≡ [] → (xs ≡ []) × (ys ≡ [])
 left-nil [] ys e = (refl, e)
@@ -148,12 +138,8 @@ source-sent-after w (e ∷ events) l v items role same =
     let next = happens w e in
     let role_next : role_of next.plan l.sender ≡ IsSource v = ap (λ (p : Plan). role_of p l.sender) grows.plan ∙ role in
     let up_next : is_up next l.sender ≡ true = ap (λ (z : Role). role_up next l.sender z) role_next in
-    let stays : goes_down l w next ≡ false = ap (λ (b : Bool). is_up w l.sender && not b) up_next ∙ and-false (is_up w l.sender) in
+    let stays : goes_down l w next ≡ false = ap (λ (b : Bool). is_up w l.sender && not b) up_next ∙ and-none (is_up w l.sender) in
     source-sent-after next events l v (cond (goes_down l w next) [] items ++ carried l (drop (length w.envelopes) next.envelopes)) role_next (past-is l items w next grows.more grows.envelopes stays same)
-  where
-    and-false : (b : Bool) → (b && false) ≡ false
-    and-false true = refl
-    and-false false = refl
 
 -- ---- a node's slot after an event
 
@@ -177,10 +163,7 @@ module _ (w : World) (most a f r : ℕ) (fine : IsFine w most) (role_a : role_of
       ]
 
   node-goes : (slot : Slot) (n m : PlainNode) → slot.node ≡ Some n → m.grants.inc ≡ n.grants.inc → SlotGoes slot (record slot { node = Some m })
-  node-goes slot n m up inc = record { last = omega arith; up = λ z e. let it : m ≡ z = some-node m z e in inl (n, up, ap (λ (y : PlainNode). y.grants.inc) (sym it) ∙ inc) }
-    where
-      some-node : (y z : PlainNode) → ◌≡◌ {A = Option PlainNode} (Some y) (Some z) → y ≡ z
-      some-node y z e = cc
+  node-goes slot n m up inc = record { last = omega arith; up = λ z e. let it : m ≡ z = some-same m z e in inl (n, up, ap (λ (y : PlainNode). y.grants.inc) (sym it) ∙ inc) }
 
   restart-goes : (home : Home) (i : ℕ) (slot : Slot) → SlotGoes slot (restart_slot home i slot)
   restart-goes home i slot = by-node slot.node refl
@@ -266,14 +249,10 @@ node-sent-after w most (e ∷ events) a x f r k i s items fine asking line h tol
         let asking_next = event-asking w most e fine asking in
         let role_next : role_of (happens w e).plan a ≡ IsNode f r = ap (λ (p : Plan). role_of p a) grows.plan ∙ line.role in
         let up_next : is_up (happens w e) a ≡ true = ap (λ (z : Role). role_up (happens w e) a z) role_next ∙ ap (λ (o : Option PlainNode). is_some o) up in
-        let stays : goes_down line_l w (happens w e) ≡ false = ap (λ (b : Bool). is_up w a && not b) up_next ∙ and-false (is_up w a) in
+        let stays : goes_down line_l w (happens w e) ≡ false = ap (λ (b : Bool). is_up w a && not b) up_next ∙ and-none (is_up w a) in
         let known : m.grants.inc ≡ (slot_of (happens w e) a).last_inc = (asking_next.nodes a f r m role_next up).inc in
         past-is line_l items w (happens w e) grows.more grows.envelopes stays (same (before (slots.up m up) known))
       where
-        and-false : (b : Bool) → (b && false) ≡ false
-        and-false true = refl
-        and-false false = refl
-
         before : ((n : PlainNode) × ((slot_of w a).node ≡ Some n) × (m.grants.inc ≡ n.grants.inc)) ⊎ ((slot_of w a).last_inc < (slot_of (happens w e) a).last_inc) → m.grants.inc ≡ (slot_of (happens w e) a).last_inc → IsWithin w a i
         before (inl (n, was, one)) known = inl (n, was, sym one ∙ inc)
         before (inr less) known = inr (omega (arith, less, known, inc))

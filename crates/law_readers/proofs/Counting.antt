@@ -18,7 +18,8 @@ use Rattle.dpc_lists.proofs.Elements.{length-changed}
 use Rattle.node_model.specs.Mails.{Snap, Packet, Plain, SnapFor, Mail, mail}
 use Rattle.node_model.specs.Nodes.{Home, PlainNode, streams_of, own_readers, shown}
 use Rattle.node_model.specs.NodeSteps.{packet_step, mill_step, tick_step}
-use Rattle.law_granting.proofs.Each.{Each, each-subscription}
+use Rattle.dpc_lists.proofs.Each.{Each}
+use Rattle.law_granting.proofs.Each.{each-subscription}
 use Rattle.law_granting.proofs.Keys.{nth-changed}
 use Rattle.law_readers.proofs.Passing.{At, Passed, Obliges, Takes, packet-passed, mill-passed, tick-passed}
 

@@ -18,11 +18,12 @@ use Rattle.node_model.specs.Mails.{Packet, Plain, SnapFor, Mail, mails, Stepped}
 use Rattle.node_model.specs.Nodes.{Home, PlainNode, streams_of}
 use Rattle.node_model.specs.NodeSteps.{then_do, with_port, after_taking, on_batch, with_marks_ended, packet_step, mill_step, after_clock, may_start_afresh, choice_step, ask_step, announcing_step, serving_step, snapshot_ask_step, with_fresh_start, rest_of_tick, tick_step}
 use Rattle.node_model.specs.Clients.{ClientState, client_stream, client_after_batch, client_message, client_packet, client_marks_ended, client_after_packet, client_tick_step}
-use Rattle.law_safety.proofs.Tests.{eq-of, not-lt}
-use Rattle.law_granting.proofs.Each.{Each, each-append}
+use Rattle.dpc_lists.proofs.Truths.{eq-of, not-lt, not-first}
+use Rattle.node_model.proofs.Mailed.{kept-port}
+use Rattle.dpc_lists.proofs.Each.{Each, each-append}
 use Rattle.law_granting.proofs.Asked.{each-unit}
 use Rattle.law_granting.proofs.Moves.{get-mapped, get-was, stamped-ports, processing-ports, reconciling-ports}
-use Rattle.law_readers.proofs.Sessions.{kept-port, each-acked, ticked-port}
+use Rattle.law_readers.proofs.Sessions.{each-acked, ticked-port}
 use Rattle.law_readers.proofs.Passing.{Obliges, Takes, Kept, kept-inlet, kept-self, KeepPorts, keep-ports-then, beat-kept, packet-passed, mill-passed}
 
 -- the next batch of the port's session was read
@@ -231,12 +232,8 @@ pub chosen-ticks : (q : Port) → TicksTo q (port_after_choice q)
 chosen-ticks q =
     (elim (must_reopen q) as (λ b. must_reopen q ≡ b → TicksTo q (record q { inlet = cond b (with_next_session q.inlet) q.inlet; chosen = choice_at q; ticks = cond b 0 q.ticks })) [
       | true ↦ λ e. inr refl
-      | false ↦ λ e. inl (refl, eq-of (choice_at q) q.chosen (first (choice_at q == q.chosen) q.inlet.broken (not q.inlet.answered && nat_le 3 q.ticks) e))
+      | false ↦ λ e. inl (refl, eq-of (choice_at q) q.chosen (not-first (choice_at q == q.chosen) q.inlet.broken (not q.inlet.answered && nat_le 3 q.ticks) e))
     ]) refl
-  where
-    first : (a b c : Bool) → (not a || b || c) ≡ false → a ≡ true
-    first true b c e = refl
-    first false b c e = cc
 
 abbrev pub PortsTick : List Port → List Port → Type 0
 PortsTick ps rs = (p : ℕ) (r : Port) → slice_get rs p ≡ Some r → (q : Port) × (slice_get ps p ≡ Some q) × TicksTo q r

@@ -22,23 +22,29 @@ use Rattle.node_model.specs.Clients.{ClientState, client_stream, new_client, cli
 use Rattle.world_model.specs.Worlds.{World, Envelope, Slot, home_of, node_place, slot_of, source_at, client_at, from, node_stepped, restart_slot, happens, run, new_world}
 use Rattle.world_model.specs.Orderly.{is_fitting, packet_way, carries_fitting}
 use Rattle.law_safety.specs.Plans.{IsCheckedPlan}
-use Rattle.law_safety.proofs.Tests.{both, eq-of, eq-test}
+use Rattle.dpc_lists.proofs.Truths.{both, eq-of, eq-test}
+use Rattle.dpc_lists.proofs.Elements.{none-there}
+use Rattle.dpc_lists.proofs.Somes.{some-same}
+use Rattle.node_model.proofs.Mailed.{kept-port}
 use Rattle.law_safety.proofs.Numbering.{all-at}
 use Rattle.law_safety.proofs.EventCases.{AreCases, by-event}
 use Rattle.law_safety.proofs.Happening.{IsFine}
 use Rattle.law_safety.proofs.Law.{run-good}
 use Rattle.law_safety.proofs.Promises.{slot-here}
 use Rattle.law_safety.proofs.ClientHolds.{held_at-beat}
-use Rattle.law_granting.proofs.Each.{Each, each-append, each-subscription}
+use Rattle.dpc_lists.proofs.Each.{Each, each-append}
+use Rattle.world_model.proofs.Running.{new_world-none}
+use Rattle.law_safety.proofs.Growing.{run-plan}
+use Rattle.law_granting.proofs.Each.{each-subscription}
 use Rattle.law_granting.proofs.Keys.{nth-changed}
 use Rattle.law_granting.proofs.Slots.{slot-there, got-sent}
 use Rattle.law_granting.proofs.Asked.{same-or, each-unit}
 use Rattle.law_granting.proofs.Prefix.{IsReader, reader-found}
 use Rattle.law_granting.proofs.Running.{new-slot}
 use Rattle.law_readers.specs.Counts.{count_at, ReadsOf, ClientsAreKeptFor}
-use Rattle.law_readers.proofs.Running.{every-run, run-of}
+use Rattle.law_readers.proofs.Running.{every-run}
 use Rattle.law_readers.proofs.Passing.{Passed}
-use Rattle.law_readers.proofs.Sessions.{kept-port, each-acked}
+use Rattle.law_readers.proofs.Sessions.{each-acked}
 use Rattle.law_readers.proofs.Counting.{none-acked, IsLow, Low, LowPacket, LowMail, TellsLow, delivered-low, milled-low, ticked-low, took-longer}
 
 -- ---- a client
@@ -96,7 +102,7 @@ ticked-tells plan c now x =
 
 -- ---- a world
 
-low-more : (home : Home) (x b d : ℕ) (acks : List Acked) (base : ℕ) → b ≤ d → IsLow home x b acks base → IsLow home x d acks base
+pub low-more : (home : Home) (x b d : ℕ) (acks : List Acked) (base : ℕ) → b ≤ d → IsLow home x b acks base → IsLow home x d acks base
 low-more home x b d acks base more h = let low = h.base in record { base = omega (arith, low, more); many = h.many; acks = λ k e. let own = h.acks k e in omega (arith, own, more) }
 
 low-packet-more : (b d : ℕ) (p : Packet) → b ≤ d → LowPacket b p → LowPacket d p
@@ -188,9 +194,6 @@ module _ (w : World) (most x c f : ℕ) (fine : IsFine w most) (reads : ReadsOf 
 
   -- ---- nodes
 
-  some-node : (y z : PlainNode) → ◌≡◌ {A = Option PlainNode} (Some y) (Some z) → y ≡ z
-  some-node y z e = cc
-
   -- one slot is changed, and nothing is sent
   slot-low : (y g q : ℕ) (change : Slot → Slot) → role_of w.plan y ≡ IsNode g q → ((n : PlainNode) → (change (slot_of w y)).node ≡ Some n → ((slot_of w y).node ≡ Some n) ⊎ IsLow (home_of w.plan (g, q)) x count n.acks n.base) →
       After (record w { nodes = changed (node_place w.plan y) change w.nodes })
@@ -248,7 +251,7 @@ module _ (w : World) (most x c f : ℕ) (fine : IsFine w most) (reads : ReadsOf 
               IsLow (home_of w.plan (f, q)) x count s.after.acks s.after.base → (a ≡ y) ⊎ (a ≡ y → ⊥) → ((slot_of w a).node ≡ Some m) ⊎ IsLow (home_of w.plan (f, r)) x count m.acks m.base
           inr-or a r m is now role_f here low (inr other) = inl (sym (ap (λ (z : Slot). z.node) (slot-there w y a f q f r change role_f is other)) ∙ now)
           inr-or a r m is now role_f here low (inl same) =
-              let it : s.after ≡ m = some-node s.after m (sym (ap (λ (z : Slot). z.node) (ap (λ (z : ℕ). slot_of (node_stepped y s w) z) same ∙ here)) ∙ now) in
+              let it : s.after ≡ m = some-same s.after m (sym (ap (λ (z : Slot). z.node) (ap (λ (z : ℕ). slot_of (node_stepped y s w) z) same ∙ here)) ∙ now) in
               let whole : IsNode f q ≡ IsNode f r = sym role_f ∙ ap (λ (z : ℕ). role_of w.plan z) (sym same) ∙ is in
               let two : q ≡ r = cc in
               inr (subst (λ (z : PlainNode). IsLow (home_of w.plan (f, r)) x count z.acks z.base) it (subst (λ (z : ℕ). IsLow (home_of w.plan (f, z)) x count s.after.acks s.after.base) two low))
@@ -274,7 +277,7 @@ module _ (w : World) (most x c f : ℕ) (fine : IsFine w most) (reads : ReadsOf 
       by-node (Some m) up d = inl d
       by-node None up d =
           elim (nat_lt slot.last_inc i) as (λ b. (cond {A = Slot} b (record { last_inc = i; node = Some (restarted_node home i) }) slot).node ≡ Some n → (slot.node ≡ Some n) ⊎ IsLow home x count n.acks n.base) [
-            | true ↦ λ g. inr (subst (λ (z : PlainNode). IsLow home x count z.acks z.base) (some-node (restarted_node home i) n g) (restarted-low home i))
+            | true ↦ λ g. inr (subst (λ (z : PlainNode). IsLow home x count z.acks z.base) (some-same (restarted_node home i) n g) (restarted-low home i))
             | false ↦ λ g. inl g
           ] d
 
@@ -351,32 +354,21 @@ module _ (w : World) (most x c f : ℕ) (fine : IsFine w most) (reads : ReadsOf 
 
 -- ---- a run
 
-new-node-low : (home : Home) (x b : ℕ) → IsLow home x b (new_node home).acks (new_node home).base
+pub new-node-low : (home : Home) (x b : ℕ) → IsLow home x b (new_node home).acks (new_node home).base
 unfolding new_node
 new-node-low home x b =
     record { base = omega arith; many = length-map (own_readers home) (λ (_ : ℕ). (0, 0)); acks = λ k e. let none = none-acked (own_readers home) k in omega (arith, none) }
-
-new-empty : (plan : Plan) → (new_world plan).envelopes ≡ []
-unfolding new_world
-new-empty plan = refl
 
 new-low : (plan : Plan) (x c f : ℕ) → LowWorld plan x c f (new_world plan)
 new-low plan x c f =
     record {
       nodes = λ a r n role up.
           let slot = new-slot plan a f r role in
-          let it = some-node (new_node (home_of plan (f, r))) n (sym (ap (λ (z : Slot). z.node) slot) ∙ up) in
+          let it = some-same (new_node (home_of plan (f, r))) n (sym (ap (λ (z : Slot). z.node) slot) ∙ up) in
           subst (λ (z : PlainNode). IsLow (home_of plan (f, r)) x (count_at (new_world plan) c) z.acks z.base) it (new-node-low (home_of plan (f, r)) x (count_at (new_world plan) c));
-      snapshots = λ k r e there role. absurd (none-there k e (new_world plan).envelopes (new-empty plan) there);
-      told = λ k e there role. absurd (none-there k e (new_world plan).envelopes (new-empty plan) there);
+      snapshots = λ k r e there role. absurd (none-there k e (new_world plan).envelopes (new_world-none plan) there);
+      told = λ k e there role. absurd (none-there k e (new_world plan).envelopes (new_world-none plan) there);
     }
-  where
-    some-node : (y z : PlainNode) → ◌≡◌ {A = Option PlainNode} (Some y) (Some z) → y ≡ z
-    some-node y z e = cc
-
-    none-there : (k : ℕ) (e : Envelope) (es : List Envelope) → es ≡ [] → slice_get es k ≡ Some e → ⊥
-    none-there k e [] same d = cc
-    none-there k e (y ∷ es) same d = cc
 
 -- a client reads its stream
 client-reads : (plan : Plan) (x c f : ℕ) → ReadsOf plan x c f → IsReader plan (Frag f) x
@@ -395,7 +387,7 @@ run-low plan events x c f checked reads =
     (λ before e h.
     let w = run plan before in
     let g = run-good plan before checked in
-    let same = run-of plan before in
+    let same = run-plan plan before in
     subst (λ (p : Plan). LowWorld p x c f (happens w e)) same
     (by-event w (λ e next. LowWorld w.plan x c f next)
     (low-cases w (1 + length before) x c f g.fine (subst (λ (p : Plan). ReadsOf p x c f) (sym same) reads) (subst (λ (p : Plan). IsReader p (Frag f) x) (sym same) (client-reads plan x c f reads))

@@ -21,7 +21,7 @@ use Rattle.dpc_model.specs.declared.messages.Message.TheVariants as message
 use Rattle.dpc_model.specs.declared.plans.Plan.{Plan}
 use Rattle.dpc_model.specs.declared.plans.StreamRef.{StreamRef}
 use Rattle.dpc_model.specs.declared.plans.StreamRef.TheVariants.{Source, Frag}
-use Rattle.dpc_lists.proofs.Elements.{length-changed}
+use Rattle.dpc_lists.proofs.Elements.{length-changed, none-there}
 use Rattle.node_model.specs.Mails.{Packet, Plain, SnapFor, Mail, Stepped}
 use Rattle.node_model.specs.Nodes.{Home, PlainNode, streams_of, own_readers, first_session, new_node, restarted_node}
 use Rattle.node_model.specs.NodeSteps.{packet_step, mill_step, tick_step}
@@ -30,9 +30,10 @@ use Rattle.node_model.specs.Clients.{ClientState, new_client, client_after_packe
 use Rattle.world_model.specs.Orderly.{is_port_sound}
 use Rattle.world_model.specs.Worlds.{World, Envelope, Slot, no_source, home_of, node_place, slot_of, source_at, client_at, from, node_stepped, source_stepped, client_stepped, restart_slot, happens, run, new_world}
 use Rattle.law_safety.specs.Plans.{IsCheckedPlan}
-use Rattle.law_safety.proofs.Runs.{run-push}
-use Rattle.law_safety.proofs.Tests.{lt-of, eq-test}
-use Rattle.law_safety.proofs.Senders.{same_stream-eq}
+use Rattle.world_model.proofs.Running.{run-push, new_world-none}
+use Rattle.dpc_lists.proofs.Truths.{lt-of, eq-test}
+use Rattle.dpc_model.proofs.Alike.{same_stream-eq}
+use Rattle.dpc_lists.proofs.Somes.{some-same}
 use Rattle.law_safety.proofs.SoundPorts.{port-of}
 use Rattle.law_safety.proofs.Pointwise.{port-at as sound-port}
 use Rattle.law_safety.proofs.Numbering.{actors-pass, all-nth, home-inputs, source-at as source-number}
@@ -42,15 +43,16 @@ use Rattle.law_safety.proofs.Worlding.{client-below}
 use Rattle.law_safety.proofs.Happening.{IsFine, happens-next, node-here}
 use Rattle.law_safety.proofs.Law.{run-good}
 use Rattle.law_safety.proofs.Promises.{slot-here}
+use Rattle.dpc_lists.proofs.Each.{Each}
+use Rattle.law_safety.proofs.Growing.{run-plan}
 use Rattle.law_granting.specs.Asking.{AreAsksInOrder}
-use Rattle.law_granting.proofs.Each.{Each}
 use Rattle.law_granting.proofs.Keys.{nth-changed}
 use Rattle.law_granting.proofs.Slots.{slot-there, got-sent}
 use Rattle.law_granting.proofs.Asked.{same-or}
 use Rattle.law_granting.proofs.Moves.{get-mapped}
 use Rattle.law_granting.proofs.Running.{new-slot, run-order}
 use Rattle.law_readers.specs.Newest.{IsReachedAt, IsReached, node_subs, subs_of, IsPortOf, NoneIsNewer}
-use Rattle.law_readers.proofs.Running.{every-run, run-of}
+use Rattle.law_readers.proofs.Running.{every-run}
 use Rattle.law_readers.proofs.Passing.{Passed}
 use Rattle.law_readers.proofs.Sessions.{KeptOk, SentOk, SentTo, Keeps, delivered-keeps, milled-keeps, ticked-keeps, newer-never, newer-not-then, AsksAs, AsksOf, ReaderSteps, delivered-reader, milled-reader, ticked-reader, client-session, client-ticked, AsksFor, client-asks, SourceKeeps, emits-keeps, releases-keeps, source-ticks-keeps, source-takes-keeps}
 
@@ -162,9 +164,6 @@ HasPort w next x p = (f r : ℕ) (n : PlainNode) → role_of w.plan x ≡ IsNode
 
 -- ---- whom a port asks
 
-some-port : (y z : Port) → ◌≡◌ {A = Option Port} (Some y) (Some z) → y ≡ z
-some-port y z d = cc
-
 -- a subscription of a reader to a sender of the stream is of the port of that stream
 pub asks-place : (w : World) (most x p : ℕ) (s : StreamRef) → IsFine w most → IsPortOf w.plan x p s → (y g q : ℕ) (n : PlainNode) (rs : List Port) (to : ℕ) (asks : Subscribe) → role_of w.plan y ≡ IsNode g q → (slot_of w y).node ≡ Some n → x ≡ y →
     sends_stream s (role_of w.plan to) ≡ true → (a : AsksAs (home_of w.plan (g, q)) n.ports rs to asks) → a.place ≡ p
@@ -173,7 +172,7 @@ asks-place w most x p s fine port y g q n rs to asks role up same sends a =
     let role_x : role_of w.plan x ≡ IsNode g q = ap (λ (z : ℕ). role_of w.plan z) same ∙ role in
     let good = node-here w most y g q n fine role up in
     let found = sound-port w.plan n.grants.inc most a.place a.stream (streams_of home) n.ports good.orderly.ports a.reads in
-    let it : found.0 ≡ a.port = some-port found.0 a.port (sym found.1 ∙ a.there) in
+    let it : found.0 ≡ a.port = some-same found.0 a.port (sym found.1 ∙ a.there) in
     let sound = port-of w.plan a.stream n.grants.inc most a.port (subst (λ (z : Port). is_port_sound w.plan a.stream n.grants.inc most z ≡ true) it found.2) in
     let ticked = port_after_tick (without_ended_marks a.port) in
     let watches : length ticked.watches ≡ length a.port.watches = length-map (map (after_count (length a.port.inlet.held.stable)) a.port.watches) after_tick ∙ length-map a.port.watches (after_count (length a.port.inlet.held.stable)) in
@@ -539,10 +538,6 @@ opened-source-world : (plan : Plan) (v k : ℕ) (sub : Sub) → slice_get (sourc
 unfolding new_world
 opened-source-world plan v k sub e = opened-source plan v k sub (range_with_len 0 (length plan.sources)) v e
 
-pub new-empty : (plan : Plan) → (new_world plan).envelopes ≡ []
-unfolding new_world
-new-empty plan = refl
-
 pub new-clients : (plan : Plan) → length (new_world plan).clients ≡ length plan.clients
 unfolding new_world
 new-clients plan = length-map (range_with_len 0 (length plan.clients)) (new_client plan) ∙ length-range_with_len 0 (length plan.clients)
@@ -569,13 +564,9 @@ new-known plan x p s =
     record {
       first = opened-reached plan x p (role_of plan x) refl;
       kept = λ a sends k sub u there it kept. subst (λ (v : Sess). IsReached (new_world plan) x p (role_of plan x) v) (sym (opened-subs plan a k sub u (role_of plan a) refl there kept)) (opened-reached plan x p (role_of plan x) refl);
-      asked = λ k e asks there me to packet. absurd (none-there k e (new_world plan).envelopes (new-empty plan) there);
-      sent = λ k e there to sends. absurd (none-there k e (new_world plan).envelopes (new-empty plan) there);
+      asked = λ k e asks there me to packet. absurd (none-there k e (new_world plan).envelopes (new_world-none plan) there);
+      sent = λ k e there to sends. absurd (none-there k e (new_world plan).envelopes (new_world-none plan) there);
     }
-  where
-    none-there : (k : ℕ) (e : Envelope) (es : List Envelope) → es ≡ [] → slice_get es k ≡ Some e → ⊥
-    none-there k e [] same d = cc
-    none-there k e (y ∷ es) same d = cc
 
 -- ---- a run
 
@@ -606,8 +597,8 @@ has-port plan before e x p s checked input f r n role up =
     let g = run-good plan before checked in
     let next = happens w e in
     let after = happens-next w (1 + length before) e g.fine in
-    let is : next.plan ≡ plan = after.plan ∙ run-of plan before in
-    let role_p : role_of plan x ≡ IsNode f r = ap (λ (z : Plan). role_of z x) (sym (run-of plan before)) ∙ role in
+    let is : next.plan ≡ plan = after.plan ∙ run-plan plan before in
+    let role_p : role_of plan x ≡ IsNode f r = ap (λ (z : Plan). role_of z x) (sym (run-plan plan before)) ∙ role in
     let role_n : role_of next.plan x ≡ IsNode f r = ap (λ (z : Plan). role_of z x) is ∙ role_p in
     let inputs : slice_get (streams_of (home_of plan (f, r))) p ≡ Some s = ap (λ (ss : List StreamRef). slice_get ss p) (sym (home-inputs (home_of plan (f, r)) r)) ∙ ap (λ (z : Role). slice_get (inputs_of plan z) p) (sym role_p) ∙ input in
     let good = node-here next (1 + length before + 1) x f r n after.fine role_n up in
@@ -624,7 +615,7 @@ run-known plan events x p s checked port =
     (λ before e h.
     let w = run plan before in
     let g = run-good plan before checked in
-    let same = run-of plan before in
+    let same = run-plan plan before in
     subst (λ (z : Plan). Known z x p s (happens w e)) same
     (by-event w (λ e next. HasPort w next x p → Known w.plan x p s next)
     (known-cases w (1 + length before) x p s g.fine (run-clients plan before ∙ ap (λ (z : Plan). length z.clients) (sym same)) (subst (λ (z : Plan). IsPortOf z x p s) (sym same) port) (subst (λ (z : Plan). Known z x p s w) (sym same) h)) e

@@ -1,9 +1,8 @@
 -- What one step of a node keeps of its ports, sessions, acknowledgements and base, and a fact of each of its mails.
-use Rattle.std.proofs.Common.{◌≡◌, ℕ, zero, suc, ◌+◌, ◌-◌, ◌*◌, min, Bool, true, false, cond, not, ◌&&◌, ◌||◌, ◌==◌, nat_lt, List, [], ◌∷◌, map, length, refl, sym, ap, subst, ◌∙◌, arith, Option, Some, None, slice_get, unwrap_or, inl, inr}
+use Rattle.std.proofs.Common.{◌≡◌, ℕ, zero, suc, ◌+◌, ◌-◌, ◌*◌, min, Bool, true, false, cond, not, ◌&&◌, ◌||◌, ◌==◌, nat_lt, List, [], ◌∷◌, map, length, refl, sym, ap, subst, ◌∙◌, arith, Option, Some, None, slice_get, inl, inr}
 use Rattle.std.specs.Prelude.{is_none}
 use Rattle.dpc_lists.specs.Lists.{nth, changed, list_all}
-use Rattle.dpc_model.specs.Reading.{Folded, fold_items}
-use Rattle.dpc_model.specs.Inlets.{InletState, same_sess, AfterBatch, is_old, after_missing_batch, after_next_batch, take_batch, after_tally, shows_loss}
+use Rattle.dpc_model.specs.Inlets.{InletState, same_sess, take_batch, after_tally, shows_loss}
 use Rattle.dpc_model.specs.Replicas.{is_absent}
 use Rattle.dpc_model.specs.Granting.{own_key, grants, with_promise, may_enter_by, with_ask}
 use Rattle.dpc_model.specs.Actors.{replicas_of}
@@ -25,9 +24,12 @@ use Rattle.dpc_model.specs.NodeStates.{is_up_failure, is_stabilization}
 use Rattle.node_model.specs.Mails.{Snap, Packet, Plain, SnapFor, Mail, mail, mails, in_actor_order, to_each, to_readers, Stepped}
 use Rattle.node_model.specs.Nodes.{Home, PlainNode, streams_of, own_readers, node_frontier, out_stable, complete_buckets, ready, due_at, wants_to_reconcile}
 use Rattle.node_model.specs.NodeSteps.{idle_step, then_do, peers_of, peer_watches, replica_number, reader_place, with_port, give, given_by, given_stable, enter_step, emptied_port, adopted_ports, after_loss, snapshot, after_adoption, after_taking, with_stamps_of, on_batch, on_subscribe, on_truncation, on_upstream_beat, on_peer_beat, on_ack, on_ask, on_grant, on_snap_ask, on_message, on_packet, with_marks_ended, packet_step, past_buckets, after_stable_buckets, after_last_correction, mill_step, after_clock, may_start_afresh, choice_step, ask_step, with_closed, with_failure, processing_upto, processing_step, acks_from, beat_of, beats, announcing_step, serving_step, snapshot_ask_step, rest_of_tick, with_fresh_start, tick_step}
-use Rattle.law_safety.proofs.Tests.{eq-of}
-use Rattle.law_safety.proofs.Delivered.{place-nth}
-use Rattle.law_granting.proofs.Each.{Each, each-append, each-sorted, each-to, each-acks, each-beats}
+use Rattle.dpc_lists.proofs.Truths.{eq-of}
+use Rattle.dpc_lists.proofs.Places.{place-nth}
+use Rattle.dpc_model.proofs.Subs.{nth-there}
+use Rattle.dpc_lists.proofs.Somes.{some-same}
+use Rattle.dpc_lists.proofs.Each.{Each, each-append}
+use Rattle.law_granting.proofs.Each.{each-sorted, each-to, each-acks, each-beats}
 use Rattle.law_granting.proofs.Moves.{get-mapped, get-was}
 
 -- ---- ports that keep their sessions
@@ -93,27 +95,8 @@ kept-emptied ts b q = record { sess = refl; chosen = refl; still = λ e. cc }
 keep-adopted : (b : ℕ) (tss : List (List Tuple)) (ps : List Port) → KeepPorts ps (adopted_ports b tss ps)
 keep-adopted b [] ps p r e = cc
 keep-adopted b (ts ∷ tss) [] p r e = cc
-keep-adopted b (ts ∷ tss) (q ∷ ps) zero r e = (q, refl, subst (λ (x : Port). Kept q x) (some-port (emptied_port ts b q) r e) (kept-emptied ts b q))
-  where
-    some-port : (x y : Port) → ◌≡◌ {A = Option Port} (Some x) (Some y) → x ≡ y
-    some-port x y f = cc
+keep-adopted b (ts ∷ tss) (q ∷ ps) zero r e = (q, refl, subst (λ (x : Port). Kept q x) (some-same (emptied_port ts b q) r e) (kept-emptied ts b q))
 keep-adopted b (ts ∷ tss) (q ∷ ps) (suc p) r e = keep-adopted b tss ps p r e
-
--- a batch leaves the session
-pub took-session : (inlet : InletState) (u : Sess) (index : ℕ) (items : List Item) → (take_batch inlet u index items).after.sess ≡ inlet.sess
-unfolding take_batch
-took-session inlet u index items =
-    elim (is_old inlet u index) as (λ b. (cond {A = AfterBatch} b (record { after = inlet; answer = Old }) (cond (inlet.broken || nat_lt inlet.next index) (after_missing_batch inlet) (after_next_batch inlet (fold_items inlet.held items)))).after.sess ≡ inlet.sess) [
-      | true ↦ refl
-      | false ↦ elim (inlet.broken || nat_lt inlet.next index) as (λ b. (cond {A = AfterBatch} b (after_missing_batch inlet) (after_next_batch inlet (fold_items inlet.held items))).after.sess ≡ inlet.sess) [
-        | true ↦ refl
-        | false ↦ by-folded (fold_items inlet.held items)
-      ]
-    ]
-  where
-    by-folded : (o : Option Folded) → (after_next_batch inlet o).after.sess ≡ inlet.sess
-    by-folded None = refl
-    by-folded (Some f) = refl
 
 -- an inlet that is whole after a beat was whole before it, and is the same
 pub beat-kept : (r : ℕ) (b : Beat) (q : Port) → Kept q (on_beat r b q)
@@ -132,9 +115,6 @@ beat-kept r b q =
 
 pub beat-session : (r : ℕ) (b : Beat) (q : Port) → (on_beat r b q).inlet.sess ≡ q.inlet.sess
 beat-session r b q = (beat-kept r b q).sess
-
-nth-is : (ps : List Port) (i : ℕ) (q : Port) → slice_get ps i ≡ Some q → nth no_port ps i ≡ q
-nth-is ps i q e = ap (λ (o : Option Port). unwrap_or o no_port) e
 
 -- ---- what a step is to keep
 
@@ -228,7 +208,7 @@ module _ (home : Home) (I : List Port → List Sub → List Acked → ℕ → Ty
       let old = nth no_port n.ports pr.0 in
       let port = on_truncated pr.1 u base old in
       let m = with_port pr.0 (λ _. port) n in
-      let k = changed-ok pr.0 (λ _. port) n (λ q there. kept-inlet q port (ap (λ (x : Port). x.inlet) (nth-is n.ports pr.0 q there)) (ap (λ (x : Port). x.chosen) (nth-is n.ports pr.0 q there))) h in
+      let k = changed-ok pr.0 (λ _. port) n (λ q there. kept-inlet q port (ap (λ (x : Port). x.inlet) (nth-there n.ports pr.0 q there)) (ap (λ (x : Port). x.chosen) (nth-there n.ports pr.0 q there))) h in
       elim (same_sess u old.inlet.sess && all_truncated port) as (λ b. At I (cond b (after_loss home m) m)) [ true ↦ lost-ok m k | false ↦ k ]
 
   beat-ok : (b : Beat) (r : Option ℕ) (pr : Option (ℕ × ℕ)) (n : PlainNode) → At I n → At I (on_peer_beat b r (on_upstream_beat b pr n))

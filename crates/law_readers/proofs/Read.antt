@@ -23,9 +23,11 @@ use Rattle.world_model.specs.Worlds.{World, Envelope, slot_of, client_at}
 use Rattle.world_model.specs.Safe.{HoldsOf}
 use Rattle.world_model.specs.Orderly.{items_carried}
 use Rattle.world_model.specs.SessionLaw.{Channel}
-use Rattle.law_safety.proofs.Tests.{eq-test}
+use Rattle.dpc_lists.proofs.Truths.{eq-test}
+use Rattle.dpc_lists.proofs.Somes.{some-same}
 use Rattle.law_safety.proofs.Clienting.{fold-append}
 use Rattle.law_granting.specs.Taken.{index_in, node_port, role_port, port_of, line_of}
+use Rattle.law_granting.proofs.Taking.{line-same}
 use Rattle.law_readers.specs.Newest.{IsReached}
 use Rattle.law_readers.specs.Held.{IsBatchOf, joined, HasRead}
 use Rattle.law_readers.proofs.Going.{Reads}
@@ -63,9 +65,6 @@ not-next u e = grind (arith, common_steps)
 never-newer : (v u : Sess) → is_newer v u ≡ false → same_sess v (record u { number = u.number + 1 }) ≡ true → ⊥
 never-newer v u h e = grind (arith, common_steps)
 
-some-port : (y z : Port) → ◌≡◌ {A = Option Port} (Some y) (Some z) → y ≡ z
-some-port y z d = cc
-
 -- what is reached is not newer than the port's session
 pub reached-port : (w : World) (x p : ℕ) (role : Role) (u : Sess) (q : Port) → IsReached w x p role u → role_port w x p role ≡ Some q → is_newer u q.inlet.sess ≡ false
 reached-port w x p (IsNode f r) u q h there = by-node (slot_of w x).node refl there
@@ -77,7 +76,7 @@ reached-port w x p (IsNode f r) u q h there = by-node (slot_of w x).node refl th
         subst (λ (o : Option Port). IfSome o (λ (b : Port). is_newer u b.inlet.sess ≡ false)) e at_node
 reached-port w x p (IsClient c) u q h there =
     elim (p == 0) as (λ b. cond {A = Option Port} b (Some (client_at w c).port) None ≡ Some q → is_newer u q.inlet.sess ≡ false) [
-      | true ↦ λ e. subst (λ (z : Port). is_newer u z.inlet.sess ≡ false) (some-port (client_at w c).port q e) h
+      | true ↦ λ e. subst (λ (z : Port). is_newer u z.inlet.sess ≡ false) (some-same (client_at w c).port q e) h
       | false ↦ λ e. cc
     ] there
 reached-port w x p (IsSource v) u q h there = cc
@@ -98,9 +97,6 @@ got-last [] v (suc j) y e = cc
 got-last (x ∷ xs) v zero y e = inl e
 got-last (x ∷ xs) v (suc j) y e = elim (got-last xs v j y e) [ inl before ↦ inl before | inr end ↦ inr (ap suc end.0, end.1) ]
 
-line-same : (plan : Plan) (x : ℕ) (s : StreamRef) (q r : Port) → r.inlet.sess ≡ q.inlet.sess → r.chosen ≡ q.chosen → line_of plan x s r ≡ line_of plan x s q
-line-same plan x s q r sess chosen = rw (sess, chosen) refl
-
 -- ---- what was read, an event later
 
 module _ (plan : Plan) (x p : ℕ) (s : StreamRef) (w next : World) (more : List Envelope) (grows : next.envelopes ≡ w.envelopes ++ more) (step : ReadStep plan x p s w next)
@@ -119,7 +115,7 @@ module _ (plan : Plan) (x p : ℕ) (s : StreamRef) (w next : World) (more : List
     where
       clash : (z : Port) → port_of w x p ≡ Some z → asked ≡ asked_by (with_next_session z.inlet) → ⊥
       clash z its by =
-          let one : z ≡ q = some-port z q (sym its ∙ was) in
+          let one : z ≡ q = some-same z q (sym its ∙ was) in
           let next_one : asked.sess ≡ (with_next_session q.inlet).sess = ap (λ (y : Subscribe). y.sess) by ∙ ap (λ (y : Port). (with_next_session y.inlet).sess) one in
           not-next q.inlet.sess (subst (λ (v : Sess). same_sess v q.inlet.sess ≡ true) next_one (subst (λ (v : Sess). same_sess asked.sess v ≡ true) sess same))
 
@@ -165,7 +161,7 @@ module _ (plan : Plan) (x p : ℕ) (s : StreamRef) (w next : World) (more : List
     where
       told : (asked : Subscribe) (z : Port) → port_of w x p ≡ Some z → asked ≡ asked_by (with_next_session z.inlet) → (asked.n ≡ length q.inlet.held.stable) × (asked.tentative ≡ not (is_sure q.inlet.held))
       told asked z its by =
-          let one : z ≡ q = some-port z q (sym its ∙ was) in
+          let one : z ≡ q = some-same z q (sym its ∙ was) in
           let all : asked ≡ asked_by (with_next_session q.inlet) = by ∙ ap (λ (y : Port). asked_by (with_next_session y.inlet)) one in
           (ap (λ (y : Subscribe). y.n) all, ap (λ (y : Subscribe). y.tentative) all)
 

@@ -1,12 +1,11 @@
 -- What the opening has and every event of a run keeps holds of every run; the laws of a run may be used at each event.
-use Rattle.std.proofs.Common.{◌≡◌, List, [], ◌∷◌, ◌++◌, sym, subst, ◌∙◌}
+use Rattle.std.proofs.Common.{List, [], ◌∷◌, ◌++◌, sym, subst}
 use Rattle.std.proofs.lemmas.List.{append-nil, append_assoc}
 use Rattle.dpc_model.specs.declared.messages.Event.{Event}
 use Rattle.dpc_model.specs.declared.plans.Plan.{Plan}
 use Rattle.world_model.specs.Worlds.{World, happens, run, new_world}
-use Rattle.law_safety.proofs.Runs.{run-push}
-use Rattle.law_safety.proofs.Law.{new_world-plan}
-use Rattle.law_safety.proofs.Growing.{event-grows}
+use Rattle.world_model.proofs.Running.{run-push}
+use Rattle.law_safety.proofs.Growing.{run-plan}
 
 start : (plan : Plan) (P : World → Type 0) → P (new_world plan) → P (run plan [])
 unfolding run
@@ -20,7 +19,3 @@ every-run plan P first step events = behind [] (start plan P first) events
     behind before h (e ∷ rest) =
         subst (λ (es : List Event). P (run plan es)) (append_assoc before (e ∷ []) rest)
         (behind (before ++ e ∷ []) (subst P (sym (run-push plan before e)) (step before e h)) rest)
-
--- a run is of its plan
-pub run-of : (plan : Plan) (events : List Event) → (run plan events).plan ≡ plan
-run-of plan events = every-run plan (λ (w : World). w.plan ≡ plan) (new_world-plan plan) (λ before e h. (event-grows (run plan before) e).plan ∙ h) events

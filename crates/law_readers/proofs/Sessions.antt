@@ -8,8 +8,6 @@ use Rattle.dpc_model.specs.Actors.{senders_of}
 use Rattle.dpc_model.specs.Ports.{Port, no_port, sender_at, without_ended_marks, port_after_tick, choice_at, must_reopen, port_after_choice, subscriptions, acks_to}
 use Rattle.dpc_model.specs.Sessions.{no_session, Shown, Answered, tally_of, first_batch, is_newer_than_kept, answer_to, batches_from, with_batch, with_session_shut, Acked, given_items}
 use Rattle.dpc_model.specs.declared.sessions.Sub.{Sub}
-use Rattle.dpc_model.specs.declared.batches.Taken.{Taken}
-use Rattle.dpc_model.specs.declared.batches.Taken.TheVariants.{Used, Old, Broken}
 use Rattle.dpc_model.specs.declared.tuples.Item.{Item}
 use Rattle.dpc_model.specs.declared.messages.Sess.{Sess}
 use Rattle.dpc_model.specs.declared.messages.Subscribe.{Subscribe}
@@ -17,15 +15,19 @@ use Rattle.dpc_model.specs.declared.messages.Message.{Message}
 use Rattle.dpc_model.specs.declared.messages.Message.TheVariants as message
 use Rattle.dpc_model.specs.declared.plans.Plan.{Plan}
 use Rattle.dpc_model.specs.declared.plans.StreamRef.{StreamRef}
+use Rattle.dpc_lists.proofs.Places.{place-nth}
+use Rattle.dpc_lists.proofs.Somes.{some-same}
 use Rattle.node_model.specs.Mails.{Packet, Plain, SnapFor, Mail, mail, mails, to_readers, to_sessions, to_subscriber, Stepped}
 use Rattle.node_model.specs.Nodes.{Home, PlainNode, streams_of, own_readers, shown}
 use Rattle.node_model.specs.NodeSteps.{with_marks_ended, packet_step, mill_step, after_clock, may_start_afresh, serving_step, with_fresh_start, snapshot_ask_step, announcing_step, then_do, rest_of_tick, tick_step}
-use Rattle.node_model.specs.Clients.{ClientState, client_stream, with_taken, client_after_batch, client_message, client_packet, client_marks_ended, client_after_packet, client_tick_step}
+use Rattle.node_model.specs.Clients.{ClientState, client_stream, client_after_batch, client_message, client_packet, client_marks_ended, client_after_packet, client_tick_step}
 use Rattle.node_model.specs.Sources.{SourceState, source_readers, bound_at, source_shown, source_given, source_gives, source_emits, source_releases, source_subscribed, source_message, source_packet_step, source_beat, source_tick_step}
-use Rattle.law_safety.proofs.Delivered.{place-nth}
-use Rattle.law_granting.proofs.Each.{Each, each-append, each-weaker, each-subscription, each-zipped}
+use Rattle.node_model.proofs.Mailed.{kept-port}
+use Rattle.dpc_lists.proofs.Each.{Each, each-append, each-weaker}
+use Rattle.dpc_model.proofs.Subs.{took-session}
+use Rattle.law_granting.proofs.Each.{each-subscription, each-zipped}
 use Rattle.law_granting.proofs.Moves.{get-mapped, get-was}
-use Rattle.law_readers.proofs.Passing.{At, Passed, is_told, Obliges, Takes, KeepSessions, keep-same, keep-then, keep-sessions, SameSession, ports-changed, took-session, beat-session, packet-passed, mill-passed, tick-passed, serving-passed, recovering-passed}
+use Rattle.law_readers.proofs.Passing.{At, Passed, is_told, Obliges, Takes, KeepSessions, keep-same, keep-then, keep-sessions, SameSession, ports-changed, beat-session, packet-passed, mill-passed, tick-passed, serving-passed, recovering-passed}
 
 -- ---- what a sender keeps and writes
 
@@ -110,12 +112,9 @@ module _ (Q : Sess → Type 0) (readers : List ℕ) (x : ℕ) where
           elim (nat_lt asked.n shows.base) as (λ b. (cond {A = Answered} b
           (record { after = record { kept = Some asked.sess; is_open = false; batches = 0 }; answer = Some (message.Truncated asked.sess shows.base) })
           (record { after = record { kept = Some asked.sess; is_open = true; batches = 1 }; answer = Some (message.Batch asked.sess 0 (first_batch shows asked)) })).after.kept ≡ Some u → ((nth no_session subs k).kept ≡ Some u) ⊎ (asked.sess ≡ u)) [
-            | true ↦ λ d. inr (some-sess asked.sess u d)
-            | false ↦ λ d. inr (some-sess asked.sess u d)
+            | true ↦ λ d. inr (some-same asked.sess u d)
+            | false ↦ λ d. inr (some-same asked.sess u d)
           ] e
-        where
-          some-sess : (v w : Sess) → ◌≡◌ {A = Option Sess} (Some v) (Some w) → v ≡ w
-          some-sess v w d = cc
 
       after : (j : ℕ) (sub : Sub) (u : Sess) → nth 0 readers j ≡ x → sub.kept ≡ Some u → (y : Sub) × (slice_get subs j ≡ Some y) × ((y ≡ sub) ⊎ ((j ≡ k) × ((answer_to shows (nth no_session subs k) asked).after ≡ sub))) → Q u
       after j sub u it kept (y, there, inl same) = h j y u there it (ap (λ (z : Sub). z.kept) same ∙ kept)
@@ -367,14 +366,11 @@ module _ (home : Home) where
             sender = ap (λ (z : Port). nth 0 (senders_of home.plan s) (choice_at z)) was.2;
             session = λ r e.
                 let k = get-mapped port_after_choice qs i r e in
-                let same : k.0 ≡ q = some-port k.0 q (sym k.1 ∙ there) in
+                let same : k.0 ≡ q = some-same k.0 q (sym k.1 ∙ there) in
                 let now : (port_after_choice q).inlet.sess ≡ (with_next_session q.inlet).sess = rw reopens refl in
                 sym now ∙ ap (λ (z : Port). (port_after_choice z).inlet.sess) (sym same) ∙ ap (λ (z : Port). z.inlet.sess) k.2;
             asks = ap (λ (z : Port). asked_by (with_next_session z.inlet)) was.2;
           }
-        where
-          some-port : (y z : Port) → ◌≡◌ {A = Option Port} (Some y) (Some z) → y ≡ z
-          some-port y z d = cc
 
   serving-reader : (n m : PlainNode) → m.ports ≡ map port_after_tick (map without_ended_marks n.ports) → ReaderSteps home n (serving_step home m)
   serving-reader n m ticked =
@@ -416,11 +412,6 @@ module _ (home : Home) where
           ]
 
 -- ---- a client
-
-pub kept-port : (t : Taken) (z : ClientState) → (with_taken t z).port ≡ z.port
-kept-port (Used items) z = refl
-kept-port Old z = refl
-kept-port Broken z = refl
 
 message-session : (r : ℕ) (m : Message) (z : ClientState) → (client_message r m z).port.inlet.sess ≡ z.port.inlet.sess
 message-session r (message.Batch u index items) z =

@@ -25,14 +25,17 @@ use Rattle.node_model.specs.Clients.{ClientState, client_stream, new_client, cli
 use Rattle.world_model.specs.Worlds.{World, Envelope, Slot, home_of, node_place, slot_of, source_at, client_at, from, node_stepped, source_stepped, client_stepped, restart_slot, happens, run, new_world}
 use Rattle.world_model.specs.Safe.{HoldsOf}
 use Rattle.law_safety.specs.Plans.{IsCheckedPlan}
-use Rattle.law_safety.proofs.Tests.{eq-test, eq-of}
+use Rattle.dpc_lists.proofs.Truths.{eq-test, eq-of}
+use Rattle.dpc_lists.proofs.Elements.{get-only, none-there}
+use Rattle.dpc_lists.proofs.Somes.{some-same}
 use Rattle.law_safety.proofs.Pointwise.{sender-of}
 use Rattle.law_safety.proofs.Pointwise.{port-at as sound-port, holds-at}
 use Rattle.law_safety.proofs.SoundPorts.{port-of}
 use Rattle.world_model.specs.Orderly.{is_port_sound}
+use Rattle.world_model.proofs.Running.{new_world-none}
 use Rattle.law_safety.proofs.Numbering.{actors-pass, all-nth, home-inputs}
 use Rattle.law_safety.proofs.EventCases.{AreCases, by-event}
-use Rattle.law_safety.proofs.Growing.{event-grows}
+use Rattle.law_safety.proofs.Growing.{event-grows, run-plan}
 use Rattle.law_safety.proofs.Worlding.{client-below, clients-at, reading-at}
 use Rattle.law_safety.proofs.Clienting.{IsGoodClient, new_client-good}
 use Rattle.law_safety.proofs.Happening.{IsFine, node-here}
@@ -47,15 +50,12 @@ use Rattle.law_granting.proofs.Taking.{sent-by, client-actor}
 use Rattle.law_granting.proofs.Running.{new-slot}
 use Rattle.law_readers.specs.Newest.{IsPortOf}
 use Rattle.law_readers.specs.Held.{HasRead, PortsHaveRead}
-use Rattle.law_readers.proofs.Running.{every-run, run-of}
+use Rattle.law_readers.proofs.Running.{every-run}
 use Rattle.law_readers.proofs.Passing.{Kept}
 use Rattle.law_readers.proofs.Sessions.{AsksAs, AsksOf, ReaderSteps, delivered-reader, milled-reader, ticked-reader}
-use Rattle.law_readers.proofs.Known.{asks-place, run-known, run-clients, new-clients, new-empty}
+use Rattle.law_readers.proofs.Known.{asks-place, run-known, run-clients, new-clients}
 use Rattle.law_readers.proofs.Going.{Goes, delivered-go, milled-go, ticked-go, TicksTo, client-go, client-ticks-to, AsksBy, client-asks-by}
 use Rattle.law_readers.proofs.Read.{WentTo, ReadStep, reached-port, read-next}
-
-some-port : (y z : Port) → ◌≡◌ {A = Option Port} (Some y) (Some z) → y ≡ z
-some-port y z d = cc
 
 -- ---- what a step tells as a step of the port
 
@@ -230,7 +230,7 @@ module _ (w : World) (most x p : ℕ) (s : StreamRef) (fine : IsFine w most) (ma
       by-role (IsClient c) is r there whole =
           (elim (p == 0) as (λ b. (p == 0) ≡ b → cond {A = Option Port} b (Some (client_at (record w { clients = changed d change w.clients; envelopes = es }) c).port) None ≡ Some r → (z : Port) × (cond {A = Option Port} b (Some (client_at w c).port) None ≡ Some z) × Went z r) [
             | false ↦ λ f e. cc
-            | true ↦ λ f e. ((client_at w c).port, refl, at-client (eq-of p 0 f) (nth-changed (new_client w.plan c) d change w.clients c) (some-port (client_at (record w { clients = changed d change w.clients; envelopes = es }) c).port r e))
+            | true ↦ λ f e. ((client_at w c).port, refl, at-client (eq-of p 0 f) (nth-changed (new_client w.plan c) d change w.clients c) (some-same (client_at (record w { clients = changed d change w.clients; envelopes = es }) c).port r e))
           ]) refl there
         where
           at-client : p ≡ 0 → (nth (new_client w.plan c) (changed d change w.clients) c ≡ client_at w c) ⊎ ((c ≡ d) × (nth (new_client w.plan c) (changed d change w.clients) c ≡ change (client_at w c))) →
@@ -260,12 +260,8 @@ module _ (w : World) (most x p : ℕ) (s : StreamRef) (fine : IsFine w most) (ma
       by-sender : role_of w.plan x ≡ IsClient d → p ≡ 0 → (j chosen : ℕ) → sender_at w.plan (client_stream w.plan d ∷ []) e.sender ≡ Some (j, chosen) → nth 0 (senders_of w.plan s) chosen ≡ e.sender
       by-sender is first j chosen place =
           let found = sender-of w.plan (client_stream w.plan d ∷ []) e.sender j chosen place in
-          let zero_place : j ≡ 0 = only (client_stream w.plan d) found.stream j found.at in
+          let zero_place : j ≡ 0 = get-only (client_stream w.plan d) found.stream j found.at in
           sent-by w.plan (client_stream w.plan d ∷ []) e.sender 0 chosen s (ap {B = Option StreamRef} Some (client-stream-is d is first)) (subst (λ (z : ℕ). sender_at w.plan (client_stream w.plan d ∷ []) e.sender ≡ Some (z, chosen)) zero_place place)
-        where
-          only : (a b : StreamRef) (i : ℕ) → slice_get (a ∷ []) i ≡ Some b → i ≡ 0
-          only a b zero e = refl
-          only a b (suc i) e = cc
 
   ticks-step : (a d now : ℕ) → role_of w.plan a ≡ IsClient d → After (client_stepped a d (client_tick_step w.plan d now (client_at w d)) w)
   ticks-step a d now role =
@@ -355,7 +351,7 @@ module _ (w : World) (most x p : ℕ) (s : StreamRef) (fine : IsFine w most) (ma
             | true ↦ λ f g.
                 let good = good-client c (client-below w.plan x c is) in
                 subst (λ (z : StreamRef). HoldsOf w.plan z q.inlet.held) (client-stream-is c is (eq-of p 0 f))
-                (subst (λ (z : Port). HoldsOf w.plan (client_stream w.plan c) z.inlet.held) (some-port (client_at w c).port q g) good.safe.holds)
+                (subst (λ (z : Port). HoldsOf w.plan (client_stream w.plan c) z.inlet.held) (some-same (client_at w c).port q g) good.safe.holds)
           ]) refl e
 
   sound-low : (u : StreamRef) (inc : ℕ) (q : Port) → is_port_sound w.plan u inc most q ≡ true → u ≡ s → q.chosen < length (senders_of w.plan s)
@@ -380,14 +376,14 @@ module _ (w : World) (most x p : ℕ) (s : StreamRef) (fine : IsFine w most) (ma
               let good = node-here w most x g r n fine is up in
               let stream : slice_get (streams_of (home_of w.plan (g, r))) p ≡ Some s = ap (λ (ss : List StreamRef). slice_get ss p) (sym (home-inputs (home_of w.plan (g, r)) r)) ∙ ap (λ (z : Role). slice_get (inputs_of w.plan z) p) (sym is) ∙ port.there in
               let found = sound-port w.plan n.grants.inc most p s (streams_of (home_of w.plan (g, r))) n.ports good.orderly.ports stream in
-              let it : found.0 ≡ q = some-port found.0 q (sym found.1 ∙ f) in
+              let it : found.0 ≡ q = some-same found.0 q (sym found.1 ∙ f) in
               sound-low s n.grants.inc q (subst (λ (z : Port). is_port_sound w.plan s n.grants.inc most z ≡ true) it found.2) refl
       by-role (IsClient c) is e =
           (elim (p == 0) as (λ b. (p == 0) ≡ b → cond {A = Option Port} b (Some (client_at w c).port) None ≡ Some q → q.chosen < length (senders_of w.plan s)) [
             | false ↦ λ f g. cc
             | true ↦ λ f g.
                 let good = good-client c (client-below w.plan x c is) in
-                let it : (client_at w c).port ≡ q = some-port (client_at w c).port q g in
+                let it : (client_at w c).port ≡ q = some-same (client_at w c).port q g in
                 sound-low (client_stream w.plan c) 1 q (subst (λ (z : Port). is_port_sound w.plan (client_stream w.plan c) 1 most z ≡ true) it good.sound) (client-stream-is c is (eq-of p 0 f))
           ]) refl e
 
@@ -415,7 +411,7 @@ new-port plan x p (IsNode f r) q is e =
     new-node-port (home_of plan (f, r)) p q (subst (λ (z : Slot). node_port p z.node ≡ Some q) (new-slot plan x f r is) e)
 new-port plan x p (IsClient c) q is e =
     elim (p == 0) as (λ b. cond {A = Option Port} b (Some (client_at (new_world plan) c).port) None ≡ Some q → q.inlet ≡ new_inlet 1) [
-      | true ↦ λ g. sym (ap (λ (z : Port). z.inlet) (some-port (client_at (new_world plan) c).port q g)) ∙ new-client-port plan c
+      | true ↦ λ g. sym (ap (λ (z : Port). z.inlet) (some-same (client_at (new_world plan) c).port q g)) ∙ new-client-port plan c
       | false ↦ λ g. cc
     ] e
 
@@ -440,13 +436,13 @@ run-read plan events x p s checked port =
       read = refl;
       held = held;
       holds = subst (λ z. HoldsOf plan s z) held holds;
-      asks = λ k e asked at me to packet same_one. absurd (none-there k e start.envelopes (new-empty plan) at);
+      asks = λ k e asked at me to packet same_one. absurd (none-there k e start.envelopes (new_world-none plan) at);
       opening = λ same_one. refl;
     })
     (λ before e h.
     let w = run plan before in
     let g = run-good plan before checked in
-    let same = run-of plan before in
+    let same = run-plan plan before in
     let many = run-clients plan before ∙ ap (λ (z : Plan). length z.clients) (sym same) in
     let port_w = subst (λ (z : Plan). IsPortOf z x p s) (sym same) port in
     let step = subst (λ (z : Plan). ReadStep z x p s w (happens w e)) same (by-event w (λ e next. ReadStep w.plan x p s w next) (read-cases w (1 + length before) x p s g.fine many port_w) e) in
@@ -457,10 +453,6 @@ run-read plan events x p s checked port =
     (λ q there. subst (λ (z : Plan). HoldsOf z s q.inlet.held) same (port-holds w (1 + length before) x p s g.fine many port_w q there))
     (λ k f asked q there me to packet at. reached-port w x p (role_of plan x) asked.sess q (known.asked k f asked there me to packet) (port_role q at))
     (λ q at. reached-port w x p (role_of plan x) (sess_of 1 1) q known.first (port_role q at)) h) events
-  where
-    none-there : (k : ℕ) (e : Envelope) (es : List Envelope) → es ≡ [] → slice_get es k ≡ Some e → ⊥
-    none-there k e [] same d = cc
-    none-there k e (y ∷ es) same d = cc
 
 pub ports-have-read : (plan : Plan) (events : List Event) → IsCheckedPlan plan → PortsHaveRead plan events
 ports-have-read plan events checked x p s q port there whole = run-read plan events x p s checked port q there whole
@@ -469,7 +461,7 @@ ports-have-read plan events checked x p s q port there whole = run-read plan eve
 pub reads-sender : (plan : Plan) (events : List Event) (x p : ℕ) (s : StreamRef) (q : Port) → IsCheckedPlan plan → IsPortOf plan x p s → port_of (run plan events) x p ≡ Some q → sends_stream s (role_of plan (nth 0 (senders_of plan s) q.chosen)) ≡ true
 reads-sender plan events x p s q checked port there =
     let w = run plan events in
-    let same = run-of plan events in
+    let same = run-plan plan events in
     let many = run-clients plan events ∙ ap (λ (z : Plan). length z.clients) (sym same) in
     let low = subst (λ (z : Plan). q.chosen < length (senders_of z s)) same (port-chosen w (1 + length events) x p s (run-good plan events checked).fine many (subst (λ (z : Plan). IsPortOf z x p s) (sym same) port) q there) in
     all-nth (λ (b : ℕ). sends_stream s (role_of plan b)) 0 (senders_of plan s) q.chosen low (actors-pass (sends_stream s) plan)

@@ -21,12 +21,14 @@ use Rattle.node_model.specs.NodeSteps.{packet_step, mill_step, tick_step}
 use Rattle.node_model.specs.Clients.{client_tick_step}
 use Rattle.world_model.specs.Worlds.{World, Envelope, home_of, source_at, client_at, from, run, new_world}
 use Rattle.law_safety.proofs.EventCases.{AreCases, by-event}
-use Rattle.law_safety.proofs.Delivered.{place-nth}
-use Rattle.law_safety.proofs.Tests.{all-append}
-use Rattle.law_granting.proofs.Each.{Each, each-weaker, each-batches, each-zipped}
+use Rattle.dpc_lists.proofs.Truths.{all-append}
+use Rattle.dpc_lists.proofs.Places.{place-nth}
+use Rattle.dpc_lists.proofs.Each.{Each, each-weaker}
+use Rattle.law_safety.proofs.Growing.{run-plan}
+use Rattle.law_granting.proofs.Each.{each-batches, each-zipped}
 use Rattle.law_granting.proofs.Slots.{got-sent}
 use Rattle.law_readers.specs.Sure.{is_sure_item, SendsSurely, SourcesSendSurely, SourcesAreSure}
-use Rattle.law_readers.proofs.Running.{every-run, run-of}
+use Rattle.law_readers.proofs.Running.{every-run}
 
 -- ---- items
 
@@ -228,5 +230,5 @@ new-surely plan k s e there role = cc
 
 pub sources-sure : (plan : Plan) (events : List Event) → SourcesAreSure plan events
 sources-sure plan events =
-    subst (λ (p : Plan). SourcesSendSurely p (run plan events).envelopes) (run-of plan events)
+    subst (λ (p : Plan). SourcesSendSurely p (run plan events).envelopes) (run-plan plan events)
     (every-run plan (λ w. SourcesSendSurely w.plan w.envelopes) (new-surely plan) (λ before e h. by-event (run plan before) (λ e next. SourcesSendSurely next.plan next.envelopes) (surely-cases (run plan before) h) e) events)

@@ -1,9 +1,8 @@
 -- A port that took all batches of its session holds the view of the sender that it reads.
 use Rattle.std.proofs.Common.{◌≡◌, ℕ, ◌+◌, ◌≤◌, Bool, true, false, cond, not, ◌&&◌, ◌==◌, List, [], ◌∷◌, length, take, drop, refl, sym, ap, subst, ◌∙◌, arith, Option, Some, None, slice_get, unwrap_or, ◌⊎◌, inl, inr}
 use Rattle.std.specs.Prelude.{IfSome}
-use Rattle.std.proofs.Math.Seq.{take-append_seam}
 use Rattle.std.proofs.lemmas.Option.{slice_get_within}
-use Rattle.dpc_lists.specs.Lists.{nth, range_with_len, IsPrefixOf}
+use Rattle.dpc_lists.specs.Lists.{nth, range_with_len}
 use Rattle.dpc_model.specs.Fragments.{ideal, ideal_upto}
 use Rattle.dpc_model.specs.Reading.{Reader, empty_reader, is_sure, Folded, fold_items}
 use Rattle.dpc_model.specs.Inlets.{same_sess, sess_of}
@@ -13,7 +12,6 @@ use Rattle.dpc_model.specs.declared.actors.Role.TheVariants.{Source as IsSource,
 use Rattle.dpc_model.specs.Ports.{Port}
 use Rattle.dpc_model.specs.Sessions.{no_session, Shown, tally_of}
 use Rattle.dpc_model.specs.declared.sessions.Sub.{Sub}
-use Rattle.dpc_model.specs.declared.tuples.Tuple.{Tuple}
 use Rattle.dpc_model.specs.declared.tuples.Item.{Item}
 use Rattle.dpc_model.specs.declared.messages.Event.{Event}
 use Rattle.dpc_model.specs.declared.messages.Sess.{Sess}
@@ -29,11 +27,15 @@ use Rattle.world_model.specs.Worlds.{World, Envelope, home_of, node_place, slot_
 use Rattle.world_model.specs.Safe.{HoldsOf}
 use Rattle.world_model.specs.SessionLaw.{Channel, sent_after, carried, Fits, LeavesView, taken_whole}
 use Rattle.law_safety.specs.Plans.{IsCheckedPlan}
-use Rattle.law_safety.proofs.Tests.{both, eq-of}
+use Rattle.dpc_lists.proofs.Truths.{both, eq-of, not-twice}
+use Rattle.dpc_model.proofs.Prefixes.{prefix-taken}
+use Rattle.dpc_model.proofs.Alike.{same_sess-self}
+use Rattle.dpc_lists.proofs.Somes.{some-same}
+use Rattle.world_model.proofs.Running.{new_world-none}
 use Rattle.law_safety.proofs.Emptied.{shape-of}
 use Rattle.law_safety.proofs.Distinct.{readers-distinct}
-use Rattle.law_safety.proofs.Histories.{HoldsSession, same-self}
-use Rattle.law_safety.proofs.Growing.{event-grows}
+use Rattle.law_safety.proofs.Histories.{HoldsSession}
+use Rattle.law_safety.proofs.Growing.{event-grows, run-plan}
 use Rattle.law_safety.proofs.Happening.{node-here, source-here}
 use Rattle.law_safety.proofs.Law.{new_world-fine, new_world-plan, run-good}
 use Rattle.law_sessions.specs.Openings.{first_subscription, asks_for, packet_asks, brings, has_first, asked_next, opened_by}
@@ -52,9 +54,8 @@ use Rattle.law_granting.proofs.Prefix.{sent-run, new-order}
 use Rattle.law_granting.proofs.First.{new-source-order}
 use Rattle.law_readers.specs.Newest.{subs_of, node_subs, IsPortOf}
 use Rattle.law_readers.specs.Held.{IsBatchOf, joined, HasRead, shown_by, node_shown, TookAll, HoldsView, ViewsAreHeld}
-use Rattle.law_readers.proofs.Running.{run-of}
 use Rattle.law_readers.proofs.Sessions.{tally-kept}
-use Rattle.law_readers.proofs.Known.{sends-source, sends-node, opened-subs, new-empty}
+use Rattle.law_readers.proofs.Known.{sends-source, sends-node, opened-subs}
 use Rattle.law_readers.proofs.Carried.{all-carried, source-sent-after, IsWithin, node-sent-after}
 use Rattle.law_readers.proofs.Steps.{ports-have-read, reads-sender}
 
@@ -137,12 +138,9 @@ asks-parts l e asked h =
     by-packet : (p : Packet) → packet_asks l p ≡ Some asked → (p ≡ Plain (message.Subscribe asked)) × (same_sess asked.sess l.sess ≡ true)
     by-packet (Plain (message.Subscribe other)) g =
         (elim (same_sess other.sess l.sess) as (λ b. same_sess other.sess l.sess ≡ b → cond {A = Option Subscribe} b (Some other) None ≡ Some asked → (Plain (message.Subscribe other) ≡ Plain (message.Subscribe asked)) × (same_sess asked.sess l.sess ≡ true)) [
-          | true ↦ λ f d. let same = some-sub other asked d in (ap (λ (z : Subscribe). Plain (message.Subscribe z)) same, subst (λ (z : Subscribe). same_sess z.sess l.sess ≡ true) same f)
+          | true ↦ λ f d. let same = some-same other asked d in (ap (λ (z : Subscribe). Plain (message.Subscribe z)) same, subst (λ (z : Subscribe). same_sess z.sess l.sess ≡ true) same f)
           | false ↦ λ f d. cc
         ]) refl g
-      where
-        some-sub : (v w : Subscribe) → ◌≡◌ {A = Option Subscribe} (Some v) (Some w) → v ≡ w
-        some-sub v w d = cc
     by-packet (Plain (message.Batch u index items)) g = cc
     by-packet (Plain (message.Truncated u base)) g = cc
     by-packet (Plain (message.Beat b)) g = cc
@@ -154,20 +152,13 @@ asks-parts l e asked h =
 
 -- ---- the start fits
 
-prefix-taken : (xs ys : List Tuple) → IsPrefixOf xs ys → xs ≡ take (length xs) ys
-prefix-taken xs ys p = sym (ap (λ (z : List Tuple). take (length xs) z) p.1 ∙ take-append_seam xs p.0)
-
-twice : (b c : Bool) → c ≡ not b → b ≡ not c
-twice true c e = ap not (sym e)
-twice false c e = ap not (sym e)
-
 fits-of : (plan : Plan) (s : StreamRef) (asked : Subscribe) (start : Reader) → HoldsOf plan s start → asked.n ≡ length start.stable → asked.tentative ≡ not (is_sure start) → Fits plan s asked start
 fits-of plan s asked start holds n tentative =
     record {
       stable = prefix-taken start.stable (ideal plan s) holds.stable ∙ ap (λ (z : ℕ). take z (ideal plan s)) (sym n);
       count = sym n;
       bound = subst (λ (z : ℕ). length (ideal_upto plan s start.bound) ≤ z) (sym n) holds.bound;
-      tentative = twice (is_sure start) asked.tentative tentative;
+      tentative = not-twice (is_sure start) asked.tentative tentative;
     }
 
 -- ---- a run
@@ -177,7 +168,7 @@ unfolding run
 run-told plan events start checked = run-held (new_world plan) 1 events (λ l. []) (λ l. told_by start l) (new_world-fine plan checked) (told-held plan start checked)
 
 none-yet : (plan : Plan) (l : Channel) → [] ≡ carried l (new_world plan).envelopes
-none-yet plan l = sym (ap (λ (es : List Envelope). carried l es) (new-empty plan))
+none-yet plan l = sym (ap (λ (es : List Envelope). carried l es) (new_world-none plan))
 
 -- what a node sent in a session that was answered in one incarnation
 pub node-order : (plan : Plan) (events : List Event) (a x f r k i : ℕ) (u : Sess) → IsCheckedPlan plan → IsNodeLine plan a x f r k → IsAnsweredIn plan events (record { sender = a; reader = x; sess = u }) i → SentOrder (run plan events) a x k i u
@@ -208,8 +199,8 @@ source-all plan events l v role = source-sent-after (new_world plan) events l v 
 pub counted : (u : Sess) (i many inc : ℕ) (sub : Sub) → SubHolds u i many inc sub → tally_of sub ≡ Some (u, sub.batches) → (inc ≡ i) × (sub.batches ≡ many)
 counted u i many inc sub h tally =
     elim (same-or inc i) [
-      | inl same ↦ (same, (h.0 same).open_one u sub.batches tally (same-self u))
-      | inr other ↦ let clash : true ≡ false = sym (same-self u) ∙ (h.1 other).other u sub.batches tally in cc
+      | inl same ↦ (same, (h.0 same).open_one u sub.batches tally (same_sess-self u))
+      | inr other ↦ let clash : true ≡ false = sym (same_sess-self u) ∙ (h.1 other).other u sub.batches tally in cc
     ]
 
 -- ---- the view
@@ -272,7 +263,7 @@ module _ (plan : Plan) (events : List Event) (x p a i : ℕ) (s : StreamRef) (q 
   -- ---- a node
 
   in_run : (run plan events).plan ≡ plan
-  in_run = run-of plan events
+  in_run = run-plan plan events
 
   node-view : (f r : ℕ) (n : PlainNode) → role_of plan a ≡ IsNode f r → (slot_of (run plan events) a).node ≡ Some n → IsAnsweredIn plan events line i → HoldsView plan s (shown (home_of plan (f, r)) n) q.inlet.held
   node-view f r n role up answered =
@@ -342,16 +333,13 @@ module _ (plan : Plan) (events : List Event) (x p a i : ℕ) (s : StreamRef) (q 
   any-view : (shows : Shown) → IsAnsweredIn plan events line i → shown_by plan (run plan events) a (role_of plan a) ≡ Some shows → HoldsView plan s shows q.inlet.held
   any-view shows answered is = by-role (role_of plan a) refl is
     where
-      some-shown : (y z : Shown) → ◌≡◌ {A = Option Shown} (Some y) (Some z) → y ≡ z
-      some-shown y z d = cc
-
       by-role : (role : Role) → role_of plan a ≡ role → shown_by plan (run plan events) a role ≡ Some shows → HoldsView plan s shows q.inlet.held
-      by-role (IsSource v) role e = subst (λ (z : Shown). HoldsView plan s z q.inlet.held) (some-shown (source_shown plan v (source_at (run plan events) v)) shows e) (source-view v role answered)
+      by-role (IsSource v) role e = subst (λ (z : Shown). HoldsView plan s z q.inlet.held) (some-same (source_shown plan v (source_at (run plan events) v)) shows e) (source-view v role answered)
       by-role (IsNode f r) role e = by-node (slot_of (run plan events) a).node refl e
         where
           by-node : (o : Option PlainNode) → (slot_of (run plan events) a).node ≡ o → node_shown plan f r o ≡ Some shows → HoldsView plan s shows q.inlet.held
           by-node None up g = cc
-          by-node (Some n) up g = subst (λ (z : Shown). HoldsView plan s z q.inlet.held) (some-shown (shown (home_of plan (f, r)) n) shows g) (node-view f r n role up answered)
+          by-node (Some n) up g = subst (λ (z : Shown). HoldsView plan s z q.inlet.held) (some-same (shown (home_of plan (f, r)) n) shows g) (node-view f r n role up answered)
       by-role (IsClient c) role e = cc
       by-role Nobody role e = cc
 

@@ -19,7 +19,8 @@ use Rattle.world_model.specs.Orderly.{is_port_sound, item_fits}
 use Rattle.law_safety.proofs.Milling.{IsSafeNode-same}
 use Rattle.law_safety.proofs.Holding.{take_batch-holds}
 use Rattle.law_safety.specs.Plans.{IsPlace}
-use Rattle.law_safety.proofs.Tests.{lt-of}
+use Rattle.dpc_lists.proofs.Truths.{lt-of}
+use Rattle.dpc_lists.proofs.Somes.{some-same}
 use Rattle.law_safety.proofs.SoundPorts.{port-of, port-test}
 use Rattle.law_safety.proofs.Frames.{IsGood}
 use Rattle.law_safety.proofs.Taking.{TookSoundly, take_batch-sound, stamps-taken, tuples-below}
@@ -170,6 +171,3 @@ took-good home most p s q u index items n place up at there truth fits sound g =
     (λ x e h. take_batch-holds home.plan s q.inlet u index items (rw (same x e) at h) truth)
     (λ x e. rw (same x e) (take_batch-bound q.inlet u index items))
     (λ x e h. rw (same x e) (took-sound home.plan s n.grants.inc most q t taken sound)) g)
-  where
-    some-same : (x y : Port) → Some x ≡ Some y → x ≡ y
-    some-same x y e = cc

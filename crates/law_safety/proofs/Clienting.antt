@@ -24,7 +24,7 @@ use Rattle.world_model.specs.Orderly.{is_port_sound, carries_fitting}
 use Rattle.law_safety.proofs.Senders.{sender_sends}
 use Rattle.law_safety.proofs.ClientHolds.{client_delivered-holds, held_at-beat}
 use Rattle.law_safety.specs.Plans.{IsChecked, has_senders}
-use Rattle.law_safety.proofs.Tests.{both, both-of}
+use Rattle.dpc_lists.proofs.Truths.{both, both-of}
 use Rattle.law_safety.proofs.SoundPorts.{port-of}
 use Rattle.law_safety.proofs.Frames.{marked-sound, ticked-sound}
 use Rattle.law_safety.proofs.Emptied.{empty-holds}

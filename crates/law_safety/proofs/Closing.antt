@@ -13,7 +13,7 @@ use Rattle.dpc_model.proofs.Serial.{serial-is}
 use Rattle.dpc_model.specs.Parts.{bucket_at}
 use Rattle.node_model.specs.Nodes.{Home, PlainNode, node_frontier, buckets_of}
 use Rattle.world_model.specs.Orderly.{fits_port, port_columns, closed_in_place}
-use Rattle.law_safety.proofs.Tests.{both, both-of, le-of, le-test}
+use Rattle.dpc_lists.proofs.Truths.{both, both-of, le-of, le-test}
 use Rattle.law_safety.proofs.Serials.{bucket-lies, AreColumns, bucket-columns}
 
 -- a numbered bucket lies behind the cursor by its number, in serial order, with the columns of the ports

@@ -23,7 +23,7 @@ use Rattle.dpc_model.specs.declared.plans.StreamRef.TheVariants.{Source, Frag}
 use Rattle.dpc_model.proofs.IdealCausality.{cut-ideal_upto}
 use Rattle.world_model.specs.Orderly.{has_columns, fits_port, fits_stream}
 use Rattle.law_safety.specs.Plans.{IsChecked, is_even, are_even_ops, are_even_frags}
-use Rattle.law_safety.proofs.Tests.{both, both-of, eq-of, eq-test, lt-of, lt-test, all-append, all-sort, all-part, all-filter, all-map, all-weaker}
+use Rattle.dpc_lists.proofs.Truths.{both, both-of, eq-of, eq-test, lt-of, lt-test, all-append, all-sort, all-part, all-filter, all-map, all-weaker}
 
 -- each of these lists has the columns that stand beside it
 abbrev pub AllColumns : List ℕ → List (List Tuple) → Type 0

@@ -22,7 +22,7 @@ use Rattle.node_model.specs.Nodes.{Home, PlainNode, no_fragment, spec_of, inputs
 use Rattle.world_model.specs.Safe.{IsSafeNode}
 use Rattle.world_model.specs.Orderly.{IsOrderlyNode, fits_port, port_columns}
 use Rattle.law_safety.specs.Plans.{IsPlace}
-use Rattle.law_safety.proofs.Tests.{both, le-of, le-test, lt-of, all-append, all-sort, all-weaker}
+use Rattle.dpc_lists.proofs.Truths.{both, le-of, le-test, lt-of, all-append, all-sort, all-weaker}
 use Rattle.law_safety.proofs.Closing.{is_placed, AreClosed}
 use Rattle.law_safety.proofs.OutFits.{frags-sound, filter-all, is_below_tag, view-lies, inputs-below}
 

@@ -1,7 +1,7 @@
 -- A node takes any packet that is true and fits.
 use Rattle.std.proofs.Common.{◌≡◌, ℕ, zero, suc, ◌+◌, Bool, true, false, cond, not, ◌&&◌, ◌==◌, List, [], ◌∷◌, map, length, refl, sym, ap, ◌∙◌, arith, Option, Some, None, slice_get, ◌⊎◌, inl, inr}
 use Rattle.std.proofs.lemmas.Grind.{common_steps}
-use Rattle.dpc_lists.specs.Lists.{nth, changed, list_all, place_of}
+use Rattle.dpc_lists.specs.Lists.{nth, changed, list_all}
 use Rattle.dpc_model.specs.Reading.{Reader}
 use Rattle.dpc_model.specs.Inlets.{same_sess, after_tally, take_batch}
 use Rattle.dpc_model.specs.Replicas.{with_mark, after_beat}
@@ -29,19 +29,22 @@ use Rattle.node_model.specs.NodeSteps.{idle_step, with_port, after_taking, on_ba
 use Rattle.world_model.specs.Safe.{IsTruePacket, IsTrueSnap}
 use Rattle.world_model.specs.Orderly.{is_port_sound, item_fits, packet_way, carries_fitting, recovers_empty}
 use Rattle.law_safety.proofs.Milling.{IsSafeNode-same}
-use Rattle.law_safety.proofs.Senders.{batch_items, sender_sends, same_stream-eq}
+use Rattle.law_safety.proofs.Senders.{batch_items, sender_sends}
 use Rattle.law_safety.specs.Plans.{IsPlace}
-use Rattle.law_safety.proofs.Tests.{both, both-of, eq-of}
+use Rattle.dpc_lists.proofs.Truths.{both, both-of, eq-of}
 use Rattle.law_safety.proofs.Processing.{base-follows}
 use Rattle.law_safety.proofs.Frames.{IsGood, IsSafeNode-held, out_stable-held, is_empty_port, marks-good}
 use Rattle.law_safety.proofs.Emptied.{shape-of, shape-test, emptied-of, emptied-test, later-good, recovering_again-good}
 use Rattle.law_safety.proofs.Starting.{adopted-good, snapshot-true}
 use Rattle.dpc_lists.proofs.Elements.{length-changed}
+use Rattle.dpc_lists.proofs.Somes.{some-same}
+use Rattle.dpc_lists.proofs.Places.{place-within, place-nth}
+use Rattle.dpc_model.proofs.Alike.{same_stream-eq}
 use Rattle.law_safety.proofs.Pointwise.{changed-same, port-at, ports-changed, IsSenderOf, sender-of}
 use Rattle.law_safety.proofs.Batches.{took-good, take_batch-broken}
 use Rattle.law_safety.proofs.Numbering.{all-at}
 use Rattle.law_safety.proofs.Mailing.{mails-weaker, IsActor, node-mail, node-snap}
-use Rattle.law_safety.proofs.Giving.{IsGoodStep, IsDoneNode, on_subscribe-good, entered-good, place-below}
+use Rattle.law_safety.proofs.Giving.{IsGoodStep, IsDoneNode, on_subscribe-good, entered-good}
 use Rattle.law_safety.proofs.ClientHolds.{held_at-beat}
 
 -- ---- one port is changed, and what is held stays
@@ -110,9 +113,6 @@ role-fits plan s (IsSource v) u index items e h = rw (same_stream-eq s (Source v
 role-fits plan s (IsNode f r) u index items e h = rw (same_stream-eq s (Frag f) e) h
 role-fits plan s (IsClient c) u index items e h = cc
 role-fits plan s Nobody u index items e h = cc
-
-some-same : {X : Type 0} (x y : X) → Some x ≡ Some y → x ≡ y
-some-same x y e = cc
 
 empty-broken : (q : Port) → is_empty_port q ≡ true → q.inlet.broken ≡ true
 empty-broken q h =
@@ -289,17 +289,6 @@ are_peers-sym (IsSource s) y h = cc
 are_peers-sym (IsClient c) y h = cc
 are_peers-sym Nobody y h = cc
 
-pub place-nth : (a : ℕ) (xs : List ℕ) (k : ℕ) → place_of (λ b. a == b) xs ≡ Some k → nth 0 xs k ≡ a
-place-nth a [] k e = cc
-place-nth a (x ∷ xs) k e =
-    (elim (a == x) as (λ b. (a == x) ≡ b → cond b (Some 0) (elim (place_of (λ b. a == b) xs) [ None ↦ None | Some i ↦ Some (suc i) ]) ≡ Some k → nth 0 (x ∷ xs) k ≡ a) [
-      | true ↦ λ same f. let first : k ≡ 0 = cc in rw first (sym (eq-of a x same))
-      | false ↦ λ other. (elim (place_of (λ b. a == b) xs) as (λ o. place_of (λ b. a == b) xs ≡ o → elim o [ None ↦ None | Some i ↦ Some (suc i) ] ≡ Some k → nth 0 (x ∷ xs) k ≡ a) [
-        | None ↦ λ g f. cc
-        | Some i ↦ λ g f. let next : k ≡ suc i = cc in rw next (place-nth a xs i g)
-      ]) refl
-    ]) refl e
-
 pub on_ask-good : (home : Home) (me most sender i ask : ℕ) (n : PlainNode) → IsActor home me → are_peers (role_of home.plan sender) (IsNode home.frag home.replica) ≡ true → IsGood home most n →
     IsGoodStep home me most ⊥ (on_ask home i ask (replica_number home sender) n)
 unfolding out_stable
@@ -354,7 +343,7 @@ on_snap_ask-good home me most sender i try n actor up way g =
       mails = (node-snap home me sender i try (snapshot home n) ⊥ actor (snapshot-true home n actor.place up g.safe) (are_peers-sym (role_of home.plan sender) (IsNode home.frag home.replica) way), tt);
     }
 
-peer-snap : (home : Home) (role : Role) (i try : ℕ) (s : Snap) → are_peers role (IsNode home.frag home.replica) ≡ true → IsTruePacket home.plan role (SnapFor i try s) → IsTrueSnap home.plan home.frag s
+pub peer-snap : (home : Home) (role : Role) (i try : ℕ) (s : Snap) → are_peers role (IsNode home.frag home.replica) ≡ true → IsTruePacket home.plan role (SnapFor i try s) → IsTrueSnap home.plan home.frag s
 peer-snap home (IsNode f r) i try s way truth = let same : f ≡ home.frag = eq-of f home.frag (both (f == home.frag) _ way).0 in rw same at truth
 peer-snap home (IsSource u) i try s way truth = cc
 peer-snap home (IsClient c) i try s way truth = cc
@@ -402,7 +391,7 @@ message-good home me most sender (message.Batch u index items) n actor way fits 
 message-good home me most sender (message.Subscribe asked) n actor way fits truth g =
     let f : PlainNode → Stepped PlainNode = λ x. on_subscribe home asked (reader_place home sender) x in
     step-later home me most (IsDoneNode home (cond n.recovering (idle_step n) (f n)).after) (cond n.recovering (idle_step n) (f n))
-    (unless-recovering home me most n f g (λ up. on_subscribe-good home me most asked (reader_place home sender) n actor up g (λ k e. place-below (λ b. sender == b) (own_readers home) k e)))
+    (unless-recovering home me most n f g (λ up. on_subscribe-good home me most asked (reader_place home sender) n actor up g (λ k e. place-within (λ b. sender == b) (own_readers home) k e)))
 message-good home me most sender (message.Truncated u base) n actor way fits truth g = step-silent home me (most + 1) _ _ (on_truncation-good home most sender u base n actor.place g)
 message-good home me most sender (message.Beat b) n actor way fits truth g =
     step-silent home me (most + 1) _ _ (later-good home most _ (on_peer_beat-good home most b (replica_number home sender) _ (on_upstream_beat-good home most sender b n g)))

@@ -1,24 +1,14 @@
 -- The readers of a stream are different actors.
 use Rattle.std.proofs.Common.{ℕ, zero, suc, ◌+◌, ◌<◌, ◌≤◌, Bool, true, false, cond, List, [], ◌∷◌, map, length, refl, arith}
 use Rattle.std.specs.List.{filter, enumerate_from}
-use Rattle.dpc_lists.specs.Lists.{nth, list_any}
+use Rattle.dpc_lists.specs.Lists.{nth, list_any, IsRising}
 use Rattle.dpc_model.specs.Actors.{roles_of, inputs_of, same_stream, readers_of}
 use Rattle.dpc_model.specs.declared.actors.Role.{Role}
 use Rattle.dpc_model.specs.declared.plans.Plan.{Plan}
 use Rattle.dpc_model.specs.declared.plans.StreamRef.{StreamRef}
+use Rattle.dpc_model.proofs.Roles.{numbers_where}
+use Rattle.dpc_model.proofs.Numbers.{rising-lower}
 use Rattle.law_safety.proofs.Histories.{AreDistinct}
-
-abbrev numbers_where : (Role → Bool) → ℕ → List Role → List ℕ
-numbers_where test k roles = map (λ (x : ℕ × Role). x.0) (filter (λ (x : ℕ × Role). test x.1) (enumerate_from k roles))
-
--- each number is at least this one, and below those behind it
-abbrev IsRising : ℕ → List ℕ → Type 0
-IsRising k [] = Unit {0}
-IsRising k (x ∷ xs) = (k ≤ x) × IsRising (x + 1) xs
-
-rising-lower : (j k : ℕ) (xs : List ℕ) → j ≤ k → IsRising k xs → IsRising j xs
-rising-lower j k [] low h = tt
-rising-lower j k (x ∷ xs) low h = let first = h.0 in (omega (arith, low, first), h.1)
 
 numbers-rising : (test : Role → Bool) (k : ℕ) (roles : List Role) → IsRising k (numbers_where test k roles)
 numbers-rising test k [] = tt

@@ -12,14 +12,11 @@ use Rattle.node_model.specs.Nodes.{Home, PlainNode, held_by, node_frontier, buck
 use Rattle.node_model.specs.NodeSteps.{stably, after_stable_buckets, with_closed, with_failure, processing_upto}
 use Rattle.world_model.specs.Safe.{EachReaches}
 use Rattle.law_safety.specs.Plans.{IsPlace}
-use Rattle.law_safety.proofs.Tests.{both, le-of, le-test}
+use Rattle.dpc_lists.proofs.Truths.{both, le-of, le-test}
+use Rattle.dpc_lists.proofs.Places.{last-none}
 use Rattle.law_safety.proofs.Processing.{least-reached}
 
 -- ---- the last number that passes a test
-
-pub all_fail-none : (test : ℕ → Bool) (n : ℕ) → ((k : ℕ) → k < n → test k ≡ false) → last_below test n ≡ None
-all_fail-none test zero h = refl
-all_fail-none test (suc m) h = rw (h m (omega arith)) (all_fail-none test m (λ k l. h k (omega arith)))
 
 -- it passes, and none behind it does
 pub record IsLast (test : ℕ → Bool) (n last : ℕ) : Type 0 where
@@ -129,7 +126,7 @@ pub processed-none : (home : Home) (n m : PlainNode) (now last : ℕ) → IsPlac
 processed-none home n m now last place some low e h =
     let w = due_inputs home n in
     let l = last_below-last (λ k. is_overdue w now k || is_reached w k) (buckets_of home.plan) last e in
-    all_fail-none (λ k. is_overdue (due_inputs home m) now k || is_reached (due_inputs home m) k) (buckets_of home.plan) (λ k below. by-place l k below (nat_le k last) refl)
+    last-none (λ k. is_overdue (due_inputs home m) now k || is_reached (due_inputs home m) k) (buckets_of home.plan) (λ k below. by-place l k below (nat_le k last) refl)
   where
     cases : (k : ℕ) → last < k → (not (is_nil n.closed) ≡ true) ⊎ ((not (is_nil m.closed) ≡ false) ⊎ (complete_upto home n ≤ last)) →
         (not (is_nil n.closed) ≡ true) ⊎ ((not (is_nil m.closed) ≡ false) ⊎ (is_complete home.plan.width (held_by n) k ≡ false))

@@ -1,5 +1,5 @@
 -- Nodes that hold nothing: begun to recover, restarted, new, started afresh, or with a snapshot.
-use Rattle.std.proofs.Common.{◌≡◌, ℕ, ◌+◌, ◌≤◌, Bool, true, false, cond, not, ◌&&◌, ◌||◌, ◌==◌, nat_le, List, [], ◌∷◌, map, length, refl, ◌∙◌, arith}
+use Rattle.std.proofs.Common.{◌≡◌, ℕ, ◌+◌, ◌≤◌, Bool, true, false, cond, not, ◌&&◌, ◌==◌, nat_le, List, [], ◌∷◌, map, length, refl, ◌∙◌, arith}
 use Rattle.std.proofs.lemmas.List.{length-map}
 use Rattle.dpc_lists.specs.Lists.{list_all, is_nil}
 use Rattle.dpc_model.specs.Streams.{is_below}
@@ -18,7 +18,7 @@ use Rattle.node_model.specs.NodeSteps.{emptied_port, after_loss}
 use Rattle.world_model.specs.Safe.{HoldsOf, EachHolds}
 use Rattle.world_model.specs.Orderly.{is_port_sound, are_ports_sound, recovers_empty, has_shape}
 use Rattle.law_safety.specs.Plans.{IsChecked, IsPlace}
-use Rattle.law_safety.proofs.Tests.{both, both-of, le-of, le-test, lt-of, eq-of, eq-test, not-of, all-map}
+use Rattle.dpc_lists.proofs.Truths.{both, both-of, le-of, le-test, lt-of, eq-of, eq-test, not-of, all-map, or-right}
 use Rattle.law_safety.proofs.Columns.{ideal_upto-below}
 use Rattle.law_safety.proofs.SoundPorts.{port-of, port-test}
 use Rattle.law_safety.proofs.Closing.{closed-test, none-closed}
@@ -115,10 +115,6 @@ emptied-test n h =
     (both-of _ (is_nil n.closed)
     (both-of _ (is_nil n.stamps)
     (both-of (is_stabilization n.state) (list_all is_empty_port n.ports) h.state h.ports) h.stamps) h.closed) (eq-test _ _ h.cursor)) (eq-test _ _ h.base)) h.acks) h.subs) (rw h.running refl))
-  where
-    or-right : (x y : Bool) → y ≡ true → (x || y) ≡ true
-    or-right true y f = refl
-    or-right false y f = f
 
 -- ---- nothing is held
 

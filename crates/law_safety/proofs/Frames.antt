@@ -16,7 +16,7 @@ use Rattle.node_model.specs.Nodes.{Home, PlainNode, spec_of, streams_of, held_by
 use Rattle.node_model.specs.NodeSteps.{after_clock, with_marks_ended}
 use Rattle.world_model.specs.Safe.{IsSafeNode}
 use Rattle.world_model.specs.Orderly.{IsOrderlyNode, is_port_sound, are_ports_sound, waits_to_ask, holds_nothing}
-use Rattle.law_safety.proofs.Tests.{both, both-of}
+use Rattle.dpc_lists.proofs.Truths.{both, both-of}
 
 -- a node that is safe and orderly
 pub record IsGood (home : Home) (most : ℕ) (n : PlainNode) : Type 0 where

@@ -1,9 +1,9 @@
 -- Steps of a node that give items: processing, entering, milling, and the answer to a subscription.
-use Rattle.std.proofs.Common.{◌≡◌, ℕ, suc, ◌+◌, ◌-◌, ◌*◌, ◌<◌, ◌≤◌, Bool, true, false, cond, not, ◌&&◌, ◌==◌, nat_lt, List, [], ◌∷◌, ◌++◌, length, drop, refl, sym, ap, ◌∙◌, arith, Option, Some, None}
+use Rattle.std.proofs.Common.{◌≡◌, ℕ, ◌+◌, ◌-◌, ◌*◌, ◌<◌, ◌≤◌, Bool, true, false, cond, not, ◌&&◌, ◌==◌, nat_lt, List, [], ◌∷◌, ◌++◌, length, drop, refl, sym, ap, ◌∙◌, arith, Option, Some, None}
 use Rattle.std.specs.Prelude.{IsTrue}
 use Rattle.std.proofs.lemmas.List.{append-nil}
 use Rattle.std.proofs.Math.Nat.{le-div_iff_mul-le}
-use Rattle.dpc_lists.specs.Lists.{nth, changed, list_all, is_nil, place_of}
+use Rattle.dpc_lists.specs.Lists.{nth, changed, list_all, is_nil}
 use Rattle.dpc_model.specs.Operators.{all_of}
 use Rattle.dpc_model.specs.Fragments.{serial, fragment_value}
 use Rattle.dpc_model.specs.Granting.{with_ask}
@@ -30,13 +30,14 @@ use Rattle.world_model.specs.Orderly.{fits_stream, item_fits, has_state_of_close
 use Rattle.law_safety.proofs.Milling.{advanced-safe, IsSafeNode-same, upto-items-true}
 use Rattle.law_safety.proofs.Truth.{given_items-true, AreTrueItems-append, tentative_items-true, passed_item-true, done_item-true}
 use Rattle.law_safety.specs.Plans.{IsPlace}
-use Rattle.law_safety.proofs.Tests.{all-append}
+use Rattle.dpc_lists.proofs.Truths.{all-append}
 use Rattle.law_safety.proofs.Closing.{AreClosed, closed-of, closed-test, none-closed, stamps-moved}
 use Rattle.law_safety.proofs.Processing.{stably-open, stably-complete, cursor-complete, processed-orderly, processed-safe, give-orderly, give-safe, given_by-true, base-follows}
 use Rattle.law_safety.proofs.SoundPorts.{node-columns}
 use Rattle.law_safety.proofs.Frames.{IsGood}
 use Rattle.law_safety.proofs.Emptied.{shape-of, shape-test, later-good, finished-over}
 use Rattle.dpc_lists.proofs.Elements.{length-changed}
+use Rattle.dpc_lists.proofs.Places.{place-within}
 use Rattle.law_safety.proofs.Numbering.{all-nth}
 use Rattle.law_safety.proofs.Dues.{due-range}
 use Rattle.law_safety.proofs.OutFits.{out_stable-fits, out_tentative-fits, drop-fits, cursor-within, view-within}
@@ -249,17 +250,6 @@ milled-good home a most r n actor up none few g =
         (bound-within home new place good.safe up) refl tt
 
 -- ---- the answer to a subscription
-
-pub place-below : {X : Type 0} (test : X → Bool) (xs : List X) (k : ℕ) → place_of test xs ≡ Some k → k < length xs
-place-below test [] k e = cc
-place-below test (x ∷ xs) k e =
-    (elim (test x) as (λ b. cond b (Some 0) (elim (place_of test xs) [ None ↦ None | Some i ↦ Some (suc i) ]) ≡ Some k → k < length (x ∷ xs)) [
-      | true ↦ λ f. let same : k ≡ 0 = cc in omega (arith, same)
-      | false ↦ (elim (place_of test xs) as (λ o. place_of test xs ≡ o → elim o [ None ↦ None | Some i ↦ Some (suc i) ] ≡ Some k → k < length (x ∷ xs)) [
-        | None ↦ λ g f. cc
-        | Some i ↦ λ g f. let same : k ≡ suc i = cc in let less = place-below test xs i g in omega (arith, same, less)
-      ]) refl
-    ]) e
 
 -- sessions of a node that does not recover are changed
 subs-good : (home : Home) (most : ℕ) (subs : List Sub) (n : PlainNode) → n.recovering ≡ false → length subs ≡ length n.subs → IsGood home most n → IsGood home most (record n { subs = subs })

@@ -1,7 +1,8 @@
--- Envelopes stay, and an event leaves the plan.
-use Rattle.std.proofs.Common.{◌≡◌, List, [], ◌++◌, refl, sym, ◌∙◌, append-nil}
+-- Envelopes stay, and an event leaves the plan, as does a run.
+use Rattle.std.proofs.Common.{◌≡◌, List, [], ◌++◌, refl, sym, ◌∙◌, append-nil, ◌∷◌}
 use Rattle.dpc_model.specs.declared.messages.Event.{Event}
-use Rattle.world_model.specs.Worlds.{World, Envelope, happens}
+use Rattle.dpc_model.specs.declared.plans.Plan.{Plan}
+use Rattle.world_model.specs.Worlds.{World, Envelope, happens, run_from, new_world, run}
 use Rattle.law_safety.proofs.EventCases.{AreCases, by-event}
 
 pub record Grows (w next : World) : Type 0 where
@@ -32,3 +33,11 @@ grows-cases w =
 
 pub event-grows : (w : World) (e : Event) → Grows w (happens w e)
 event-grows w e = by-event w (λ e next. Grows w next) (grows-cases w) e
+
+pub run_from-plan : (w : World) (es : List Event) → (run_from w es).plan ≡ w.plan
+run_from-plan w [] = refl
+run_from-plan w (e ∷ es) = run_from-plan (happens w e) es ∙ (event-grows w e).plan
+
+pub run-plan : (plan : Plan) (es : List Event) → (run plan es).plan ≡ plan
+unfolding run new_world
+run-plan plan es = run_from-plan (new_world plan) es

@@ -2,16 +2,13 @@
 use Rattle.std.proofs.Common.{◌≡◌, ℕ, ◌+◌, ◌-◌, ◌≤◌, Bool, true, false, cond, ◌&&◌, ◌==◌, nat_lt, nat_le, List, [], ◌∷◌, ◌++◌, map, length, drop, refl, sym, ap, subst, ◌∙◌, arith, Option, Some, None, slice_get, unwrap_or}
 use Rattle.std.specs.Prelude.{IsTrue, IfSome}
 use Rattle.std.proofs.Math.Seq.{drop-append_seam, drop-length}
-use Rattle.std.proofs.lemmas.Grind.{common_steps}
 use Rattle.dpc_lists.specs.Lists.{nth, changed, list_all, is_nil, push}
-use Rattle.dpc_model.specs.Streams.{count_below}
 use Rattle.dpc_model.specs.Fragments.{log_of}
 use Rattle.dpc_model.specs.Actors.{role_of, nodes_of}
 use Rattle.dpc_model.specs.declared.actors.Role.{Role}
 use Rattle.dpc_model.specs.declared.actors.Role.TheVariants.{Source as IsSource, Node as IsNode, Client as IsClient, Nobody}
 use Rattle.dpc_model.specs.declared.messages.Event.{Event}
 use Rattle.dpc_model.specs.declared.messages.Event.TheVariants.{Phase, Emit, Release, Cut, Heal, Crash, Restart, Deliver, Tick, Mill}
-use Rattle.dpc_model.specs.declared.tuples.Tuple.{Tuple}
 use Rattle.dpc_model.specs.declared.tuples.Tagged.{Tagged}
 use Rattle.dpc_model.specs.declared.plans.Plan.{Plan}
 use Rattle.node_model.specs.Mails.{Mail, Stepped}
@@ -25,11 +22,12 @@ use Rattle.world_model.specs.Safe.{AreTrue, IsTruePacket, IsDone, SendsDoneSurel
 use Rattle.world_model.specs.Orderly.{is_fitting, packet_way, carries_fitting, is_source_orderly, are_sources_orderly}
 use Rattle.law_safety.proofs.Truth.{AreTrue-append}
 use Rattle.law_safety.specs.Plans.{IsCheckedPlan, IsPlace}
-use Rattle.law_safety.proofs.Tests.{both, le-of, eq-of, all-append}
+use Rattle.dpc_lists.proofs.Truths.{both, le-of, eq-of, all-append}
+use Rattle.dpc_lists.proofs.Elements.{get-changed}
+use Rattle.dpc_model.proofs.Cuts.{none-counted}
 use Rattle.law_safety.proofs.Frames.{IsGood}
 use Rattle.law_safety.proofs.Emptied.{later-good}
 use Rattle.law_safety.proofs.Starting.{restarted-good}
-use Rattle.law_safety.proofs.Pointwise.{get-changed}
 use Rattle.law_safety.proofs.Numbering.{node-at, source-at, all-at}
 use Rattle.law_safety.proofs.Mailing.{AreMails, mails-true, mails-fit, mails-weaker}
 use Rattle.law_safety.proofs.Giving.{IsGoodStep, IsDoneNode, milled-good}
@@ -122,12 +120,8 @@ node-here w most a f r n h role e =
 
 -- ---- a source steps
 
-pub none-below : (ts : List Tuple) → count_below ts 0 ≡ 0
-none-below [] = refl
-none-below (t ∷ ts) = let out : nat_lt t.stime 0 ≡ false = grind (arith, common_steps) in rw out (none-below ts)
-
 no_source-fine : (plan : Plan) (s : ℕ) → IsFineSource plan s no_source
-no_source-fine plan s = record { within = omega arith; below = let none = none-below (log_of plan s) in omega (arith, none); few = omega arith; subs = omega arith }
+no_source-fine plan s = record { within = omega arith; below = let none = none-counted (log_of plan s) in omega (arith, none); few = omega arith; subs = omega arith }
 
 pub source-here : (w : World) (most s : ℕ) → IsFine w most → IsFineSource w.plan s (source_at w s)
 source-here w most s h =

@@ -16,7 +16,8 @@ use Rattle.dpc_model.specs.declared.plans.StreamRef.{StreamRef}
 use Rattle.node_model.specs.Mails.{to_readers}
 use Rattle.world_model.specs.Worlds.{from}
 use Rattle.world_model.specs.SessionLaw.{Channel, carried, LeavesView}
-use Rattle.law_safety.proofs.Tests.{both-of, eq-of, eq-test}
+use Rattle.dpc_lists.proofs.Truths.{eq-of, eq-test}
+use Rattle.dpc_model.proofs.Alike.{same_sess-self, newer-trans}
 
 -- a reader's session at a sender that shows x, where h tells what was sent in each session since the sender last went down,
 -- and q the subscription that opened it
@@ -92,12 +93,6 @@ carried-given readers a j (suc i) u items (s ∷ subs) sub distinct few e =
 
 -- ---- one event that gives
 
-pub same-self : (u : Sess) → same_sess u u ≡ true
-same-self u = both-of (u.inc == u.inc) (u.number == u.number) (eq-test u.inc u.inc refl) (eq-test u.number u.number refl)
-
-pub newer-trans : (u v w : Sess) → is_newer u v ≡ true → is_newer v w ≡ true → is_newer u w ≡ true
-newer-trans u v w e f = grind (arith, common_steps)
-
 pub newer-kept : (u v : Sess) (o : Option Sess) → is_newer u v ≡ true → is_newer_than_kept v o ≡ true → is_newer_than_kept u o ≡ true
 newer-kept u v None e f = refl
 newer-kept u v (Some w) e f = newer-trans u v w e f
@@ -136,7 +131,7 @@ gave-held plan s x y items h q readers a k subs sub distinct few at carries held
     record {
       open_one = λ l e.
           let old = counted-tally sub l e in
-          let all : given_in (tally_of sub) l.0 items ≡ items = rw (old.1, same-self l.0) refl in
+          let all : given_in (tally_of sub) l.0 items ≡ items = rw (old.1, same_sess-self l.0) refl in
           rw (given l.0, all) (carries (q l.0) (h l.0) (held.open_one (l.0, old.0) old.1));
       newer = λ u e.
           let kept : is_newer_than_kept u sub.kept ≡ true = kept-same (λ o. is_newer_than_kept u o) e in

@@ -15,12 +15,13 @@ use Rattle.world_model.specs.Safe.{IsSafeWorld, IsSafeStep, EachStep, IsSafe}
 use Rattle.world_model.specs.Orderly.{IsOrderlyWorld, are_sources_orderly, is_source_orderly}
 use Rattle.law_safety.specs.Plans.{IsCheckedPlan, IsPlace}
 use Rattle.law_safety.specs.Keeps.{IsFineWorld}
-use Rattle.law_safety.proofs.Tests.{both-of}
+use Rattle.dpc_lists.proofs.Truths.{both-of}
+use Rattle.dpc_model.proofs.Cuts.{none-counted}
 use Rattle.law_safety.proofs.Starting.{new-good}
 use Rattle.law_safety.proofs.Sourcing.{orderly-of}
 use Rattle.law_safety.proofs.Clienting.{new_client-good}
 use Rattle.law_safety.proofs.Worlding.{AreGoodSlots, slots-both, slots-safe, slots-orderly, AreGoodClients, clients-both, clients-safe, clients-orderly, place-of, reading-at}
-use Rattle.law_safety.proofs.Happening.{IsFine, happens-next, happens-safe, none-below}
+use Rattle.law_safety.proofs.Happening.{IsFine, happens-next, happens-safe}
 
 -- ---- the opening
 
@@ -30,7 +31,7 @@ new_source-orderly plan s =
     orderly-of plan s (new_source plan s)
     (record {
       within = omega arith;
-      below = let none = none-below (log_of plan s) in omega (arith, none);
+      below = let none = none-counted (log_of plan s) in omega (arith, none);
       few = omega arith;
       subs = let many = length-map (source_readers plan s) (λ _. opening_session) in omega (arith, many);
     })

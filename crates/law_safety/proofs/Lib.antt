@@ -1,4 +1,3 @@
-pub mod Runs
 pub mod Truth
 pub mod Holding
 pub mod Outputs
@@ -6,7 +5,6 @@ pub mod Milling
 pub mod Senders
 pub mod ClientHolds
 pub mod Snapshots
-pub mod Tests
 pub mod Columns
 pub mod Serials
 pub mod SoundPorts

@@ -21,7 +21,7 @@ use Rattle.world_model.specs.Worlds.{from}
 use Rattle.world_model.specs.Safe.{AreTrueItems, IsTrueMessage, IsTrueSnap, IsTrueEnvelope, AreTrue, has_done, packet_done}
 use Rattle.world_model.specs.Orderly.{message_way, fits_stream, item_fits, items_carried, is_fitting}
 use Rattle.law_safety.specs.Plans.{IsPlace}
-use Rattle.law_safety.proofs.Tests.{both, both-of, le-test, all-append}
+use Rattle.dpc_lists.proofs.Truths.{both, both-of, le-test, all-append}
 use Rattle.law_safety.proofs.Numbering.{source-sends-it, node-sends-it, readers-read, all-nth}
 
 pub record IsMail (plan : Plan) (a : ℕ) (done : Type 0) (m : Mail) : Type 0 where

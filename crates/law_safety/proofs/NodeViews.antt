@@ -20,7 +20,7 @@ use Rattle.node_model.specs.NodeSteps.{stably, given_by, given_stable, after_sta
 use Rattle.world_model.specs.SessionLaw.{bound_of}
 use Rattle.law_safety.proofs.Outputs.{ideal-InOrder}
 use Rattle.law_safety.specs.Plans.{IsChecked, IsPlace}
-use Rattle.law_safety.proofs.Tests.{lt-of, eq-of, not-lt}
+use Rattle.dpc_lists.proofs.Truths.{lt-of, eq-of, not-lt}
 use Rattle.law_safety.proofs.Closing.{closed-of}
 use Rattle.law_safety.proofs.Processing.{stably-open}
 use Rattle.law_safety.proofs.Frames.{IsGood, inputs_done-held, out_stable-held}

@@ -1,5 +1,5 @@
 -- The numbers of actors: which place a replica has among all nodes and among those of its fragment, and who passes a test.
-use Rattle.std.proofs.Common.{◌≡◌, ℕ, zero, suc, ◌+◌, ◌-◌, ◌<◌, ◌≤◌, Bool, true, false, cond, ◌||◌, ◌==◌, List, [], ◌∷◌, ◌++◌, map, length, refl, sym, ap, subst, append_assoc, ◌∙◌, arith, Option, Some, None, slice_get}
+use Rattle.std.proofs.Common.{◌≡◌, ℕ, zero, suc, ◌+◌, ◌-◌, ◌<◌, ◌≤◌, Bool, true, false, cond, ◌==◌, List, [], ◌∷◌, ◌++◌, map, length, refl, sym, ap, subst, append_assoc, ◌∙◌, arith, Option, Some, None, slice_get}
 use Rattle.std.proofs.lemmas.Grind.{common_steps}
 use Rattle.std.proofs.lemmas.List.FromFn.{length-range_with_len}
 use Rattle.std.specs.List.{filter, enumerate_from}
@@ -13,11 +13,8 @@ use Rattle.dpc_model.specs.declared.plans.StreamRef.{StreamRef}
 use Rattle.dpc_model.specs.declared.plans.StreamRef.TheVariants.{Source, Frag}
 use Rattle.node_model.specs.Nodes.{Home, no_fragment, streams_of}
 use Rattle.world_model.specs.Worlds.{node_place}
-use Rattle.law_safety.proofs.Tests.{both, both-of, eq-of, eq-test}
-
--- the actors that pass a test, of these roles from number k on
-abbrev numbers_where : (Role → Bool) → ℕ → List Role → List ℕ
-numbers_where test k roles = map (λ (x : ℕ × Role). x.0) (filter (λ (x : ℕ × Role). test x.1) (enumerate_from k roles))
+use Rattle.dpc_lists.proofs.Truths.{both, both-of, eq-of, eq-test, or-right, any-same}
+use Rattle.dpc_model.proofs.Roles.{numbers_where}
 
 -- ---- who passes a test
 
@@ -50,14 +47,6 @@ pub any-at : {X : Type 0} (q : X → Bool) (xs : List X) (i : ℕ) (x : X) → s
 any-at q [] i x e h = cc
 any-at q (y ∷ xs) zero x e h = let same : y ≡ x = cc in rw (same, h) refl
 any-at q (y ∷ xs) (suc i) x e h = or-right (q y) (list_any q xs) (any-at q xs i x e h)
-  where
-    or-right : (a b : Bool) → b ≡ true → (a || b) ≡ true
-    or-right true b f = refl
-    or-right false b f = f
-
-any-same : {X : Type 0} (p q : X → Bool) (xs : List X) → ((x : X) → p x ≡ q x) → list_any p xs ≡ list_any q xs
-any-same p q [] h = refl
-any-same p q (x ∷ xs) h = rw (h x) (ap (λ b. q x || b) (any-same p q xs h))
 
 -- ---- who reads whom
 

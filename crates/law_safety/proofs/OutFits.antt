@@ -23,7 +23,7 @@ use Rattle.world_model.specs.Safe.{IsSafeNode}
 use Rattle.world_model.specs.Orderly.{IsOrderlyNode, has_columns, fits_port, fits_stream, port_columns}
 use Rattle.law_safety.proofs.Milling.{reaches-end}
 use Rattle.law_safety.specs.Plans.{IsPlace, are_even_ops, are_even_frags}
-use Rattle.law_safety.proofs.Tests.{both, both-of, lt-of, lt-test, all-append, all-sort, all-part, all-filter, all-weaker}
+use Rattle.dpc_lists.proofs.Truths.{both, both-of, lt-of, lt-test, all-append, all-sort, all-part, all-filter, all-weaker, all-drop}
 use Rattle.law_safety.proofs.Columns.{AllColumns, fragment-columns, serial-columns, ideal_upto-fits, fits-of}
 use Rattle.law_safety.proofs.Serials.{AreColumns}
 use Rattle.law_safety.proofs.SoundPorts.{node-columns}
@@ -184,11 +184,6 @@ out_with_closed-fits home most n place safe o =
     let l = view-lies home most n place safe o in
     fits-of home.plan (Frag home.frag) b (fragment_value (spec_of home).ops xs b) (view-within home n place (closed-of home n o.closed))
     (value-below home xs b place l.below) (value-columns home xs b place l.columns)
-
-all-drop : {X : Type 0} (q : X → Bool) (k : ℕ) (xs : List X) → list_all q xs ≡ true → list_all q (drop k xs) ≡ true
-all-drop q zero xs h = h
-all-drop q (suc k) [] h = refl
-all-drop q (suc k) (x ∷ xs) h = all-drop q k xs (both (q x) (list_all q xs) h).1
 
 pub drop-fits : (plan : Plan) (s : StreamRef) (k : ℕ) (ts : List Tuple) → list_all (fits_stream plan s) ts ≡ true → list_all (fits_stream plan s) (drop k ts) ≡ true
 drop-fits plan s k ts h = all-drop (fits_stream plan s) k ts h

@@ -1,5 +1,5 @@
 -- One port of a node is changed.
-use Rattle.std.proofs.Common.{◌≡◌, ℕ, zero, suc, ◌+◌, ◌*◌, ◌≤◌, true, ◌==◌, List, [], ◌∷◌, map, length, refl, sym, ap, ◌∙◌, arith, Option, Some, None, slice_get}
+use Rattle.std.proofs.Common.{◌≡◌, ℕ, zero, suc, ◌+◌, ◌*◌, ◌≤◌, true, ◌==◌, List, [], ◌∷◌, map, length, refl, sym, ap, ◌∙◌, arith, Some, None, slice_get}
 use Rattle.dpc_lists.specs.Lists.{changed, place_of}
 use Rattle.dpc_model.specs.Actors.{senders_of}
 use Rattle.dpc_model.specs.Ports.{Port, held_at, sender_from, sender_at}
@@ -12,18 +12,14 @@ use Rattle.world_model.specs.Safe.{HoldsOf, EachHolds, EachReaches, IsSafeNode}
 use Rattle.world_model.specs.Orderly.{is_port_sound, are_ports_sound}
 use Rattle.law_safety.proofs.Outputs.{out_stable-ideal}
 use Rattle.law_safety.specs.Plans.{IsPlace}
-use Rattle.law_safety.proofs.Tests.{both, both-of}
+use Rattle.dpc_lists.proofs.Truths.{both, both-of}
+use Rattle.dpc_lists.proofs.Somes.{some-each}
 
 -- a change that changes nothing
 pub changed-same : {X : Type 0} (i : ℕ) (f : X → X) (xs : List X) → ((x : X) → slice_get xs i ≡ Some x → f x ≡ x) → changed i f xs ≡ xs
 changed-same i f [] h = refl
 changed-same zero f (x ∷ xs) h = ap (λ y. y ∷ xs) (h x refl)
 changed-same (suc i) f (x ∷ xs) h = ap (λ ys. x ∷ ys) (changed-same i f xs h)
-
-pub get-changed : {X : Type 0} (i : ℕ) (f : X → X) (xs : List X) (x : X) → slice_get xs i ≡ Some x → slice_get (changed i f xs) i ≡ Some (f x)
-get-changed i f [] x e = cc
-get-changed zero f (y ∷ xs) x e = let same : y ≡ x = cc in rw same refl
-get-changed (suc i) f (y ∷ xs) x e = get-changed i f xs x e
 
 -- an element of as many as the others
 pub port-at : (plan : Plan) (i most p : ℕ) (s : StreamRef) (ss : List StreamRef) (ports : List Port) → are_ports_sound plan i most ss ports ≡ true → slice_get ss p ≡ Some s →
@@ -91,9 +87,6 @@ pub record IsSenderOf (plan : Plan) (ss : List StreamRef) (a p r : ℕ) : Type 0
   pub at : slice_get ss p ≡ Some stream
   pub place : place_of (λ b. a == b) (senders_of plan stream) ≡ Some r
 
-some-pair : (k q p r : ℕ) → ◌≡◌ {A = Option (ℕ × ℕ)} (Some (k, q)) (Some (p, r)) → (k ≡ p) × (q ≡ r)
-some-pair k q p r e = let same : ◌≡◌ {A = ℕ × ℕ} (k, q) (p, r) = cc in (ap (λ (x : ℕ × ℕ). x.0) same, ap (λ (x : ℕ × ℕ). x.1) same)
-
 sender-from : (plan : Plan) (k a p r : ℕ) (ss : List StreamRef) → sender_from k plan ss a ≡ Some (p, r) → (j : ℕ) × (p ≡ k + j) × IsSenderOf plan ss a j r
 sender-from plan k a p r [] e = cc
 sender-from plan k a p r (s ∷ ss) e =
@@ -103,7 +96,7 @@ sender-from plan k a p r (s ∷ ss) e =
           let rest = sender-from plan (k + 1) a p r ss g in
           let far = rest.1 in (suc rest.0, omega (arith, far), record { stream = rest.2.stream; at = rest.2.at; place = rest.2.place })
       | Some q ↦ λ f g.
-          let pair = some-pair k q p r g in
+          let pair = some-each k q p r g in
           let same = pair.0 in
           let place = pair.1 in
           (0, omega (arith, same), record { stream = s; at = refl; place = rw place at f })

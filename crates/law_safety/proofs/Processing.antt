@@ -1,11 +1,9 @@
 -- The step of a tick that processes buckets: first some stably, then others as they stand.
 use Rattle.std.proofs.Common.{◌≡◌, ℕ, suc, ◌+◌, ◌-◌, ◌*◌, ◌/◌, ◌<◌, ◌≤◌, min, max, Bool, true, false, cond, ◌==◌, nat_le, List, [], ◌∷◌, ◌++◌, map, length, refl, ap, arith, ◌⊎◌, inl, inr, Some, None, not}
-use Rattle.std.proofs.lemmas.List.{length-map}
 use Rattle.std.proofs.Math.Nat.{le-div_iff_mul-le}
 use Rattle.dpc_lists.specs.Lists.{least, range_with_len, is_nil}
 use Rattle.dpc_model.specs.Reading.{Reader}
-use Rattle.dpc_model.specs.Sessions.{given_items, boundary_item, with_batch, with_batches}
-use Rattle.dpc_model.specs.declared.sessions.Sub.{Sub}
+use Rattle.dpc_model.specs.Sessions.{given_items, boundary_item, with_batches}
 use Rattle.dpc_model.specs.declared.tuples.Item.{Item}
 use Rattle.dpc_model.specs.declared.tuples.Tagged.{Tagged}
 use Rattle.dpc_model.specs.declared.messages.NodeState.TheVariants.{UpFailure}
@@ -20,7 +18,8 @@ use Rattle.world_model.specs.Orderly.{IsOrderlyNode, closed_in_place, stamps_in_
 use Rattle.law_safety.proofs.Milling.{advanced-safe, IsSafeNode-same, reaches-end, upto-items-true}
 use Rattle.law_safety.proofs.Truth.{given_items-true}
 use Rattle.law_safety.specs.Plans.{IsPlace}
-use Rattle.law_safety.proofs.Tests.{le-test, not-of}
+use Rattle.dpc_lists.proofs.Truths.{le-test, not-of}
+use Rattle.dpc_model.proofs.Subs.{length-counted}
 use Rattle.law_safety.proofs.Serials.{AreColumns}
 use Rattle.law_safety.proofs.Closing.{AreClosed, closed-of, closed-test, closed-more, none-closed, stamps-moved}
 
@@ -112,10 +111,6 @@ processed-orderly home most r extra n fits o up calm none few =
     (base-follows n.base _ _) o.shape
 
 -- ---- giving items
-
-pub length-counted : (items : List Item) (subs : List Sub) → length (with_batches items subs) ≡ length subs
-length-counted [] subs = refl
-length-counted (i ∷ items) subs = length-map subs with_batch
 
 -- a node whose sessions were counted is orderly
 pub give-orderly : (home : Home) (most : ℕ) (items : List Item) (n : PlainNode) → n.recovering ≡ false → IsOrderlyNode home most n → IsOrderlyNode home most (give home items n).after

@@ -23,11 +23,12 @@ use Rattle.world_model.specs.Safe.{IsTrueEnvelope, HoldsOf, packet_done, IsDone,
 use Rattle.law_safety.specs.Plans.{IsCheckedPlan}
 use Rattle.law_safety.specs.Holders.{Holder, AtClient, AtPort, client_holds, port_holds, node_holds, role_holds, holding}
 use Rattle.law_safety.specs.Promises.{AllSentIsTrue, ReadersAreRight, OutputsAreRight, DoneLeavesNothing, DoneIsSurelySent, NoneWaits}
-use Rattle.law_safety.proofs.Runs.{run-push}
-use Rattle.dpc_lists.proofs.Elements.{get-drop}
+use Rattle.world_model.proofs.Running.{run-push}
+use Rattle.dpc_lists.proofs.Elements.{get-drop, get-changed}
+use Rattle.dpc_lists.proofs.Somes.{some-same}
 use Rattle.law_safety.proofs.Outputs.{cut-held}
 use Rattle.law_safety.proofs.Frames.{IsGood}
-use Rattle.law_safety.proofs.Pointwise.{holds-at, get-changed}
+use Rattle.law_safety.proofs.Pointwise.{holds-at}
 use Rattle.law_safety.proofs.Numbering.{node-at}
 use Rattle.law_safety.proofs.Clienting.{IsGoodClient}
 use Rattle.law_safety.proofs.Worlding.{AreGoodClients, slots-at, true-at}
@@ -189,9 +190,6 @@ none-due w most a now f r old new fine role up clock after calm =
     let serves = subst (λ (o : Option PlainNode). IfSome o (λ n. is_clock n.clock now ≡ true → is_stabilization (tick_step home now n).after.state ≡ false → Serves home now n (tick_step home now n))) up
     (subst (λ (x : Role). ServesAt w a now x) role (happens-serves w most (Tick a now) fine)) in
     rw same (serves clock (rw same at calm)).nothing_due
-  where
-    some-same : (x y : PlainNode) → ◌≡◌ {A = Option PlainNode} (Some x) (Some y) → x ≡ y
-    some-same x y e = cc
 
 pub none-waits : (plan : Plan) (events : List Event) → IsCheckedPlan plan → NoneWaits plan events
 none-waits plan events checked a now f r old new role up clock after calm =

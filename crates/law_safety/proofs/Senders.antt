@@ -1,9 +1,9 @@
 -- What comes from a sender that a port names is of the port's stream.
-use Rattle.std.proofs.Common.{◌≡◌, ℕ, suc, ◌+◌, ◌-◌, ◌≤◌, Bool, true, false, cond, ◌==◌, nat_eq, List, [], ◌∷◌, map, refl, ap, arith, Option, Some, None}
+use Rattle.std.proofs.Common.{◌≡◌, ℕ, suc, ◌+◌, ◌-◌, ◌≤◌, Bool, true, false, cond, ◌==◌, nat_eq, List, [], ◌∷◌, map, refl, arith, Option, Some, None}
 use Rattle.std.proofs.lemmas.Grind.{common_steps}
 use Rattle.std.specs.List.{filter, enumerate_from}
 use Rattle.dpc_lists.specs.Lists.{nth, place_of}
-use Rattle.dpc_model.specs.Actors.{role_of, roles_of, sends_stream, same_stream, senders_of}
+use Rattle.dpc_model.specs.Actors.{role_of, roles_of, sends_stream, senders_of}
 use Rattle.dpc_model.specs.declared.actors.Role.{Role}
 use Rattle.dpc_model.specs.declared.actors.Role.TheVariants.{Source as IsSource, Node as IsNode, Client as IsClient, Nobody}
 use Rattle.dpc_model.specs.declared.tuples.Item.{Item}
@@ -12,18 +12,10 @@ use Rattle.dpc_model.specs.declared.messages.Message.TheVariants as message
 use Rattle.dpc_model.specs.declared.plans.Plan.{Plan}
 use Rattle.dpc_model.specs.declared.plans.StreamRef.{StreamRef}
 use Rattle.dpc_model.specs.declared.plans.StreamRef.TheVariants.{Source, Frag}
+use Rattle.dpc_model.proofs.Alike.{same_stream-eq}
+use Rattle.dpc_model.proofs.Roles.{numbers_where}
 use Rattle.node_model.specs.Mails.{Plain}
 use Rattle.world_model.specs.Safe.{AreTrueItems, IsTruePacket}
-
-pub same_stream-eq : (s u : StreamRef) → same_stream s u ≡ true → s ≡ u
-same_stream-eq (Source a) (Source b) e = ap Source (grind (arith, common_steps))
-same_stream-eq (Source a) (Frag b) e = cc
-same_stream-eq (Frag a) (Source b) e = cc
-same_stream-eq (Frag a) (Frag b) e = ap Frag (grind (arith, common_steps))
-
--- the actors that pass a test, of these roles from number k on
-abbrev numbers_where : (Role → Bool) → ℕ → List Role → List ℕ
-numbers_where test k roles = map (λ (x : ℕ × Role). x.0) (filter (λ (x : ℕ × Role). test x.1) (enumerate_from k roles))
 
 -- the role of an actor behind the first
 behind : (k a : ℕ) (role : Role) (roles : List Role) → k + 1 ≤ a → nth Nobody (role ∷ roles) (a - k) ≡ nth Nobody roles (a - (k + 1))

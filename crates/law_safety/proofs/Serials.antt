@@ -10,7 +10,7 @@ use Rattle.dpc_model.specs.declared.tuples.Tuple.{Tuple}
 use Rattle.dpc_model.proofs.Order.{tagged_time}
 use Rattle.dpc_model.specs.Parts.{bucket_at}
 use Rattle.world_model.specs.Orderly.{has_columns, fits_port}
-use Rattle.law_safety.proofs.Tests.{both-of, all-append, all-sort, all-part}
+use Rattle.dpc_lists.proofs.Truths.{both-of, all-append, all-sort, all-part}
 use Rattle.law_safety.proofs.Columns.{AllColumns, serial-columns}
 
 -- ---- time

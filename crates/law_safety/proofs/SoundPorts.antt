@@ -12,7 +12,7 @@ use Rattle.node_model.specs.Nodes.{Home, PlainNode, streams_of, held_by}
 use Rattle.world_model.specs.Safe.{EachHolds, IsSafeNode}
 use Rattle.world_model.specs.Orderly.{is_port_sound, are_ports_sound, is_tentative_past, fits_stream, has_columns, port_columns, IsOrderlyNode}
 use Rattle.law_safety.specs.Plans.{IsChecked}
-use Rattle.law_safety.proofs.Tests.{both, both-of, le-of, le-test, lt-of, lt-test, eq-of, eq-test, all-append, all-weaker}
+use Rattle.dpc_lists.proofs.Truths.{both, both-of, le-of, le-test, lt-of, lt-test, eq-of, eq-test, all-append, all-weaker}
 use Rattle.law_safety.proofs.Columns.{ideal-fits}
 use Rattle.law_safety.proofs.Serials.{AreColumns}
 

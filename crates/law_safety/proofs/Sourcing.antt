@@ -19,14 +19,15 @@ use Rattle.world_model.specs.Safe.{AreTrueItems}
 use Rattle.world_model.specs.Orderly.{fits_stream, is_source_orderly}
 use Rattle.law_safety.proofs.Truth.{stable_items-true, given_items-true, ideal-source}
 use Rattle.law_safety.specs.Plans.{IsChecked}
-use Rattle.law_safety.proofs.Tests.{both, both-of, le-of, le-test, eq-of, eq-test, lt-of, all-weaker}
-use Rattle.law_safety.proofs.Processing.{length-counted}
+use Rattle.dpc_lists.proofs.Truths.{both, both-of, le-of, le-test, eq-of, eq-test, lt-of, all-weaker, or-left}
 use Rattle.law_safety.proofs.OutFits.{drop-fits}
 use Rattle.law_safety.proofs.Numbering.{readers-read, source-sends-it}
 use Rattle.law_safety.proofs.Mailing.{AreMails, source-sender, batches-mails, given-fit, IsBoundWithin, mails-weaker}
-use Rattle.law_safety.proofs.Giving.{IsShown, answer-mails, place-below}
-use Rattle.law_safety.proofs.Ticked.{zipped-mails, or-left}
+use Rattle.law_safety.proofs.Giving.{IsShown, answer-mails}
+use Rattle.law_safety.proofs.Ticked.{zipped-mails}
 use Rattle.dpc_lists.proofs.Elements.{get-take, get-drop, length-changed}
+use Rattle.dpc_lists.proofs.Places.{place-within}
+use Rattle.dpc_model.proofs.Subs.{length-counted}
 
 -- what is kept of a source
 pub record IsFineSource (plan : Plan) (s : ℕ) (x : SourceState) : Type 0 where
@@ -162,7 +163,7 @@ source-message plan a s sender (message.Subscribe asked) x checked role h =
             fine = record { within = h.within; below = h.below; few = h.few; subs = omega (arith, same, subs) };
             subs = same;
             mails = answer-mails plan a (Source s) (Unit {0}) k (source_shown plan s x) sub asked (source-sender plan a s role) (shown-fine plan s x checked h)
-                (place-below (λ b. sender == b) (source_readers plan s) k e) (λ _. tt);
+                (place-within (λ b. sender == b) (source_readers plan s) k e) (λ _. tt);
           }
     ]) refl
 source-message plan a s sender (message.Batch u index items) x checked role h = source-silent plan a s x h

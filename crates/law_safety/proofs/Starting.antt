@@ -24,7 +24,7 @@ use Rattle.world_model.specs.Orderly.{is_port_sound, are_ports_sound}
 use Rattle.law_safety.proofs.Outputs.{out_stable-ideal, ideal-InOrder, inputs-held}
 use Rattle.law_safety.proofs.Milling.{reaches-end}
 use Rattle.law_safety.specs.Plans.{IsChecked, IsPlace, has_senders}
-use Rattle.law_safety.proofs.Tests.{both, both-of, le-test, lt-of, eq-of, all-map}
+use Rattle.dpc_lists.proofs.Truths.{both, both-of, le-test, lt-of, eq-of, all-map}
 use Rattle.law_safety.proofs.SoundPorts.{port-test}
 use Rattle.law_safety.proofs.Closing.{closed-test, none-closed}
 use Rattle.law_safety.proofs.Processing.{holds-length}

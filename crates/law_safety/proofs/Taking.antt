@@ -1,5 +1,5 @@
 -- A reader that takes items which fit its stream stays sound, and the tuples taken stamp buckets of the run.
-use Rattle.std.proofs.Common.{◌≡◌, ℕ, ◌/◌, ◌<◌, ◌≤◌, Bool, true, false, cond, ◌&&◌, ◌||◌, ◌==◌, nat_lt, nat_le, nat_eq as eqb, List, [], ◌∷◌, ◌++◌, length, refl, arith, Option, Some, None, is_some}
+use Rattle.std.proofs.Common.{◌≡◌, ℕ, ◌/◌, ◌<◌, ◌≤◌, true, false, cond, ◌&&◌, ◌||◌, ◌==◌, nat_lt, nat_le, nat_eq as eqb, List, [], ◌∷◌, ◌++◌, length, refl, arith, Option, Some, None, is_some}
 use Rattle.std.proofs.lemmas.Grind.{common_steps}
 use Rattle.std.proofs.Math.Nat.{le-div_iff_mul-le}
 use Rattle.dpc_lists.specs.Lists.{list_all, push, is_nil}
@@ -16,7 +16,7 @@ use Rattle.dpc_model.specs.declared.plans.StreamRef.{StreamRef}
 use Rattle.node_model.specs.Nodes.{buckets_of}
 use Rattle.world_model.specs.Orderly.{is_passed_mark, is_tentative_past, fits_stream, item_fits}
 use Rattle.law_safety.specs.Plans.{IsChecked}
-use Rattle.law_safety.proofs.Tests.{both, both-of, le-test, lt-of, lt-test, all-append}
+use Rattle.dpc_lists.proofs.Truths.{both, both-of, le-test, lt-of, lt-test, all-append, or-right}
 use Rattle.law_safety.proofs.Closing.{is_stamp_in}
 
 -- what is kept of a reader: its tentative tuples lie past its bound, and fit the stream
@@ -66,10 +66,6 @@ reading-sound plan s r r' (Passed b) h fit e =
       ]
       | false ↦ λ g f. cc
     ]) refl e
-  where
-    or-right : (x y : Bool) → y ≡ true → (x || y) ≡ true
-    or-right true y f = refl
-    or-right false y f = f
 reading-sound plan s r r' (Boundary b m) h fit e =
     (elim (nat_le m (length r.stable)) as (λ c. cond (c && is_sure r) (cond (nat_lt r.bound b) (Taken (record r { bound = b })) Skipped) NoReading ≡ Taken r' → IsSoundReader plan s r') [
       | false ↦ λ f. cc

@@ -1,11 +1,11 @@
 -- A tick of a node.
-use Rattle.std.proofs.Common.{◌≡◌, ℕ, suc, ◌+◌, ◌<◌, Bool, true, false, cond, not, ◌&&◌, ◌||◌, ◌==◌, List, [], ◌∷◌, ◌++◌, map, length, refl, sym, ap, ◌∙◌, arith, Some, None, slice_get, unwrap_or}
+use Rattle.std.proofs.Common.{◌≡◌, ℕ, suc, ◌+◌, ◌<◌, true, false, cond, not, ◌&&◌, ◌==◌, List, [], ◌∷◌, ◌++◌, map, length, refl, sym, ap, ◌∙◌, arith, Some, None, slice_get}
 use Rattle.std.specs.Prelude.{zip, is_none}
 use Rattle.std.proofs.lemmas.List.{length-map}
 use Rattle.std.specs.List.{filter}
-use Rattle.dpc_lists.specs.Lists.{nth, list_all, least, place_of}
+use Rattle.dpc_lists.specs.Lists.{nth, list_all}
 use Rattle.dpc_model.specs.Inlets.{with_next_session, asked_by}
-use Rattle.dpc_model.specs.Replicas.{rank_of, rank_order, choose, is_absent}
+use Rattle.dpc_model.specs.Replicas.{rank_of, is_absent}
 use Rattle.dpc_model.specs.Granting.{with_ask, own_key}
 use Rattle.dpc_model.specs.Actors.{role_of, are_peers, reads_from, senders_of, replicas_of, is_replica_of}
 use Rattle.dpc_model.specs.declared.actors.Role.{Role}
@@ -13,7 +13,6 @@ use Rattle.dpc_model.specs.declared.actors.Role.TheVariants.{Source as IsSource,
 use Rattle.dpc_model.specs.Ports.{Port, held_at, choice_at, must_reopen, port_after_choice, subscriptions, acks_to}
 use Rattle.dpc_model.specs.Sessions.{tally_of}
 use Rattle.dpc_model.specs.declared.sessions.Sub.{Sub}
-use Rattle.dpc_model.specs.declared.messages.Rank.{Rank}
 use Rattle.dpc_model.specs.declared.messages.Message.{Message}
 use Rattle.dpc_model.specs.declared.messages.Message.TheVariants as message
 use Rattle.dpc_model.specs.declared.plans.Plan.{Plan}
@@ -24,32 +23,20 @@ use Rattle.node_model.specs.Nodes.{Home, PlainNode, streams_of, own_readers, hel
 use Rattle.node_model.specs.NodeSteps.{idle_step, then_do, peers_of, peer_watches, after_clock, may_start_afresh, choice_step, ask_step, enter_step, processing_step, done_at, acks_from, beat_of, beats, announcing_step, serving_step, snapshot_ask_step, rest_of_tick, with_fresh_start, with_marks_ended, tick_step}
 use Rattle.world_model.specs.Orderly.{is_port_sound, are_ports_sound}
 use Rattle.law_safety.proofs.Milling.{IsSafeNode-same}
-use Rattle.law_safety.proofs.Tests.{both, both-of, eq-of, eq-test}
+use Rattle.dpc_lists.proofs.Truths.{both, both-of, eq-of, eq-test, or-left, or-right}
+use Rattle.dpc_model.proofs.Choice.{choose-within}
 use Rattle.law_safety.proofs.SoundPorts.{port-of, port-test}
 use Rattle.law_safety.proofs.Frames.{IsGood, IsSafeNode-held, out_stable-held, held-map, ports-map, marks-good, clocked-good}
 use Rattle.law_safety.proofs.Emptied.{later-good}
 use Rattle.law_safety.proofs.Starting.{fresh-good}
 use Rattle.law_safety.proofs.Numbering.{actors-pass, all-nth, replica-at, home-inputs, senders-read, readers-read, node-sends-it}
 use Rattle.law_safety.proofs.Mailing.{IsMail, AreMails, mails-append, mails-sorted, IsActor, node-mail}
-use Rattle.law_safety.proofs.Giving.{IsGoodStep, processing-good, entered-good, place-below}
+use Rattle.law_safety.proofs.Giving.{IsGoodStep, processing-good, entered-good}
 
 -- ---- the choice of a replica
 
-chosen-below : (current : ℕ) (ranks : List Rank) → current < length ranks → choose current ranks < length ranks
-chosen-below current ranks low =
-    let orders = map rank_order ranks in
-    let best = least 3 orders in
-    let many = length-map ranks rank_order in
-    elim (nth 3 orders current == best) as (λ b. cond b current (unwrap_or (place_of (λ o. o == best) orders) current) < length ranks) [
-      | true ↦ low
-      | false ↦ (elim (place_of (λ o. o == best) orders) as (λ o. place_of (λ o. o == best) orders ≡ o → unwrap_or o current < length ranks) [
-        | None ↦ λ e. low
-        | Some i ↦ λ e. let less = place-below (λ o. o == best) orders i e in omega (arith, less, many)
-      ]) refl
-    ]
-
 pub choice-below : (p : Port) → p.chosen < length p.watches → choice_at p < length p.watches
-choice-below p low = let many = length-map p.watches rank_of in rw many at (chosen-below p.chosen (map rank_of p.watches) (rw many low))
+choice-below p low = let many = length-map p.watches rank_of in rw many at (choose-within p.chosen (map rank_of p.watches) (rw many low))
 
 pub chosen-sound : (plan : Plan) (s : StreamRef) (i most : ℕ) (p : Port) → is_port_sound plan s i most p ≡ true → is_port_sound plan s i (most + 1) (port_after_choice p) ≡ true
 chosen-sound plan s i most p h =
@@ -161,14 +148,6 @@ zipped-mails plan a role f [] (sub ∷ subs) sends h = tt
 zipped-mails plan a role f (b ∷ ids) [] sends h = tt
 zipped-mails plan a role f (b ∷ ids) (sub ∷ subs) sends h =
     let p = both (reads_from plan (role_of plan b) role) (list_all (λ b. reads_from plan (role_of plan b) role) ids) h in (sends b sub p.0, zipped-mails plan a role f ids subs sends p.1)
-
-pub or-left : (a b : Bool) → a ≡ true → (a || b) ≡ true
-or-left true b e = refl
-or-left false b e = cc
-
-pub or-right : (a b : Bool) → b ≡ true → (a || b) ≡ true
-or-right true b e = refl
-or-right false b e = e
 
 beats-mails : (home : Home) (me : ℕ) (n : PlainNode) → IsActor home me → AreMails home.plan me ⊥ (beats home n)
 beats-mails home me n actor =

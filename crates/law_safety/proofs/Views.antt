@@ -18,7 +18,7 @@ use Rattle.dpc_model.proofs.Prefixes.{get-prefix}
 use Rattle.dpc_lists.proofs.Elements.{get-drop}
 use Rattle.dpc_model.specs.Engines.{from_time}
 use Rattle.world_model.specs.SessionLaw.{Fits, bound_of, passed_of, taken_whole, LeavesView}
-use Rattle.law_safety.proofs.Tests.{both, le-test, lt-of, lt-test, eq-of, eq-test}
+use Rattle.dpc_lists.proofs.Truths.{both, le-test, lt-of, lt-test, eq-of, eq-test}
 use Rattle.law_safety.proofs.Clienting.{fold-append}
 
 -- items have a reading, which leaves this reader

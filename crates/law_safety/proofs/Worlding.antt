@@ -17,7 +17,8 @@ use Rattle.world_model.specs.Worlds.{World, Envelope, Slot, home_of, node_place,
 use Rattle.world_model.specs.Safe.{IsTrueEnvelope, AreTrue, IsSafeNode, AreSafeSlots, AreSafeClients, IsDone, SendsDoneSurely}
 use Rattle.world_model.specs.Orderly.{IsOrderlyNode, is_port_sound, is_source_orderly, are_sources_orderly, are_clients_orderly, AreOrderlySlots}
 use Rattle.law_safety.specs.Plans.{IsPlace, IsCheckedPlan}
-use Rattle.law_safety.proofs.Tests.{both, both-of}
+use Rattle.dpc_lists.proofs.Truths.{both, both-of}
+use Rattle.dpc_lists.proofs.Somes.{some-same}
 use Rattle.law_safety.proofs.Frames.{IsGood}
 use Rattle.law_safety.proofs.Emptied.{later-good, later-sound}
 use Rattle.law_safety.proofs.Numbering.{node-at, role-split}
@@ -79,9 +80,6 @@ pub slots-at : (plan : Plan) (most i : ℕ) (n : ℕ × ℕ) (ns : List (ℕ × 
 slots-at plan most i n [] slots e h = cc
 slots-at plan most i n (m ∷ ns) [] e h = absurd h
 slots-at plan most zero n (m ∷ ns) (slot ∷ slots) e h = (slot, refl, subst (λ (k : ℕ × ℕ). IsGoodSlot plan most k slot) (some-same m n e) h.0)
-  where
-    some-same : (x y : ℕ × ℕ) → Some x ≡ Some y → x ≡ y
-    some-same x y f = cc
 slots-at plan most (suc i) n (m ∷ ns) (slot ∷ slots) e h = slots-at plan most i n ns slots e h.1
 
 pub slots-changed : (plan : Plan) (most i : ℕ) (n : ℕ × ℕ) (f : Slot → Slot) (ns : List (ℕ × ℕ)) (slots : List Slot) → slice_get ns i ≡ Some n →
@@ -91,9 +89,6 @@ slots-changed plan most i n f (m ∷ ns) [] e keeps h = absurd h
 slots-changed plan most zero n f (m ∷ ns) (slot ∷ slots) e keeps h =
     let same = some-same m n e in
     (subst (λ (k : ℕ × ℕ). IsGoodSlot plan (most + 1) k (f slot)) (sym same) (keeps slot refl (subst (λ (k : ℕ × ℕ). IsGoodSlot plan most k slot) same h.0)), slots-later plan most ns slots h.1)
-  where
-    some-same : (x y : ℕ × ℕ) → Some x ≡ Some y → x ≡ y
-    some-same x y p = cc
 slots-changed plan most (suc i) n f (m ∷ ns) (slot ∷ slots) e keeps h = (node-later (home_of plan m) most slot.node h.0, slots-changed plan most i n f ns slots e keeps h.1)
 
 -- ---- sources

@@ -15,7 +15,7 @@ use Rattle.node_model.specs.Sources.{source_emits, source_releases, source_packe
 use Rattle.node_model.specs.Clients.{ClientState, client_after_packet, client_tick_step}
 use Rattle.world_model.specs.Worlds.{World, Envelope, Slot, home_of, node_place, from, slot_of, source_at, client_at, node_stepped, source_stepped, client_stepped, is_release_time, is_clock, emits, releases, link_up, role_up, is_up, cuts_link, crashes, restart_slot, restarts, node_takes, taken_by, can_come, comes, node_ticks, ticks, can_mill, node_mills, mills, happens}
 use Rattle.world_model.specs.Schedules.{may_come}
-use Rattle.law_safety.proofs.Tests.{both, le-of}
+use Rattle.dpc_lists.proofs.Truths.{both, le-of}
 use Rattle.law_schedules.proofs.Nodes.{IsZeroed, IsCalmNode, still-calm, onward-calm, itself, delivered-calm, ticked-calm, milled-moves}
 
 -- ---- the nodes of a world

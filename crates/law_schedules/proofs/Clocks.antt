@@ -20,6 +20,7 @@ use Rattle.node_model.specs.NodeSteps.{packet_step, mill_step, tick_step}
 use Rattle.node_model.specs.Sources.{SourceState, new_source, source_readers, source_emits, source_releases, source_subscribed, source_message, source_packet_step, source_tick_step}
 use Rattle.node_model.specs.Clients.{ClientState, new_client, client_stream, with_taken, client_after_batch, client_message, client_packet, client_marks_ended, client_after_packet, client_tick_step}
 use Rattle.world_model.specs.Worlds.{World, Envelope, Slot, home_of, node_place, slot_of, source_at, client_at, no_source, node_stepped, source_stepped, client_stepped, is_release_time, is_clock, emits, releases, link_up, crashes, restart_slot, restarts, node_takes, taken_by, can_come, comes, node_ticks, ticks, can_mill, node_mills, mills, happens, new_world}
+use Rattle.dpc_lists.proofs.Each.{Each, each-weaker}
 use Rattle.law_schedules.proofs.Nodes.{delivered-clock, ticked-clock, milled-moves}
 
 -- ---- steps of sources and clients
@@ -89,10 +90,6 @@ client-ticked-clock plan c now x = refl
 
 -- ---- the clocks of a world
 
-abbrev Each : {X : Type 0} → (X → Type 0) → List X → Type 0
-Each P [] = Unit {0}
-Each P (x ∷ xs) = P x × Each P xs
-
 each-changed : {X : Type 0} (P : X → Type 0) (k : ℕ) (f : X → X) (xs : List X) → ((x : X) → P x → P (f x)) → Each P xs → Each P (changed k f xs)
 each-changed P k f [] h e = tt
 each-changed P zero f (x ∷ xs) h e = (h x e.0, e.1)
@@ -107,10 +104,6 @@ each-map : {X Y : Type 0} (P : X → Type 0) (f : Y → X) (ys : List Y) → ((y
 each-map P f [] h = tt
 each-map P f (y ∷ ys) h = (h y, each-map P f ys h)
 
-each-more : {X : Type 0} (P Q : X → Type 0) (xs : List X) → ((x : X) → P x → Q x) → Each P xs → Each Q xs
-each-more P Q [] h e = tt
-each-more P Q (x ∷ xs) h e = (h x e.0, each-more P Q xs h e.1)
-
 abbrev pub ClockWithin : ℕ → Option PlainNode → Type 0
 ClockWithin c None = Unit {0}
 ClockWithin c (Some n) = n.clock ≤ c
@@ -124,9 +117,9 @@ pub record IsTimely (c : ℕ) (w : World) : Type 0 where
 pub timely-later : (c d : ℕ) (w : World) → c ≤ d → IsTimely c w → IsTimely d w
 timely-later c d w h t =
     record {
-      sources = each-more (λ (x : SourceState). x.clock ≤ c) (λ (x : SourceState). x.clock ≤ d) w.sources (λ x k. omega (arith, k, h)) t.sources;
-      slots = each-more (λ (x : Slot). ClockWithin c x.node) (λ (x : Slot). ClockWithin d x.node) w.nodes (λ x k. by-node x.node k) t.slots;
-      clients = each-more (λ (x : ClientState). x.clock ≤ c) (λ (x : ClientState). x.clock ≤ d) w.clients (λ x k. omega (arith, k, h)) t.clients;
+      sources = each-weaker (λ (x : SourceState). x.clock ≤ c) (λ (x : SourceState). x.clock ≤ d) w.sources (λ x k. omega (arith, k, h)) t.sources;
+      slots = each-weaker (λ (x : Slot). ClockWithin c x.node) (λ (x : Slot). ClockWithin d x.node) w.nodes (λ x k. by-node x.node k) t.slots;
+      clients = each-weaker (λ (x : ClientState). x.clock ≤ c) (λ (x : ClientState). x.clock ≤ d) w.clients (λ x k. omega (arith, k, h)) t.clients;
     }
   where
     by-node : (o : Option PlainNode) → ClockWithin c o → ClockWithin d o

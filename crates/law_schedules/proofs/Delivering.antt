@@ -10,7 +10,7 @@ use Rattle.dpc_model.specs.declared.scripts.Directive.{Directive}
 use Rattle.dpc_model.specs.declared.scripts.Script.{Script}
 use Rattle.world_model.specs.Worlds.{World, Envelope, is_up, happens}
 use Rattle.world_model.specs.Schedules.{Undelivered, Progress, Told, tell_all, next_progress, delivery_made, may_come, may_deliver, is_first_of_its_way, deliveries_of, now_of, phase_of, pending_in, loses, repeats}
-use Rattle.law_safety.proofs.Tests.{both-of, all-append, lt-test, eq-of, eq-test}
+use Rattle.dpc_lists.proofs.Truths.{both-of, all-append, lt-test, eq-of, eq-test, true-not-false}
 use Rattle.law_schedules.proofs.Stages.{at, Follows, Reached, follows-next, reached, reached-then}
 use Rattle.law_schedules.proofs.Calm.{IsLike, like-itself, calm-like, deliver-calm, tick-calm}
 use Rattle.law_schedules.proofs.Targets.{AllMet, left-met, calm-meets}
@@ -177,11 +177,8 @@ tick-all script p start base now a (suc n) y es low clock f t =
       where
         by-own : (c : Bool) → (b == a) ≡ c → (not (is_up base b) || has y.ticked b) ≡ true ⊎ (b ≡ a)
         by-own true e = inr (eq-of b a e)
-        by-own false e = inl (t.done b (less (λ same. differ (sym (eq-test b a same) ∙ e))))
+        by-own false e = inl (t.done b (less (λ same. true-not-false (sym (eq-test b a same) ∙ e))))
           where
-            differ : true ≡ false → ⊥
-            differ x = cc
-
             less : (b ≡ a → ⊥) → b < a
             less other = omega (arith, h, other)
 

@@ -10,7 +10,7 @@ use Rattle.dpc_model.specs.declared.scripts.Directive.TheVariants as directive
 use Rattle.dpc_model.specs.declared.scripts.Script.{Script}
 use Rattle.world_model.specs.Worlds.{World, Envelope, slot_of, ready_at, happens}
 use Rattle.world_model.specs.Schedules.{Undelivered, Progress, tell_directive, next_progress, has_event, event_of, same_event, is_next, newly_sent, pending_in, targets_in, targets_left, node_actors, is_phase_complete, phase_left, phase_of}
-use Rattle.law_safety.proofs.Tests.{both-of, eq-of, eq-test}
+use Rattle.dpc_lists.proofs.Truths.{both-of, eq-of, eq-test}
 use Rattle.law_schedules.proofs.Stages.{at, Follows, Reached, follows-next, reached}
 use Rattle.law_schedules.proofs.Calm.{AreZeroed, IsGrown, grown-longer, happens-grown}
 use Rattle.law_schedules.proofs.Targets.{AllMet, targets-met, left-met}

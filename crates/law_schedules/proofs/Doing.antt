@@ -1,7 +1,6 @@
 -- The events of a phase behind its directives: milling, deliveries and ticks.
 use Rattle.std.proofs.Common.{◌≡◌, ℕ, zero, suc, ◌+◌, ◌-◌, ◌*◌, ◌/◌, ◌%◌, ◌≤◌, ◌<◌, Bool, true, false, not, cond, ◌&&◌, ◌==◌, nat_lt, nat_le, List, [], ◌∷◌, ◌++◌, length, refl, sym, ap, subst, ◌∙◌, arith}
 use Rattle.std.specs.Prelude.{replicate, flat_map}
-use Rattle.std.proofs.lemmas.Grind.{common_steps}
 use Rattle.std.proofs.lemmas.List.Sums.{fold-append}
 use Rattle.std.proofs.lemmas.Nat.{div-add-mod'}
 use Rattle.std.proofs.Math.Nat.{mod-lt}
@@ -11,7 +10,7 @@ use Rattle.dpc_model.specs.declared.messages.Event.TheVariants.{Mill}
 use Rattle.dpc_model.specs.declared.scripts.Script.{Script}
 use Rattle.world_model.specs.Worlds.{World, ready_at, happens}
 use Rattle.world_model.specs.Schedules.{Undelivered, Progress, Told, tell, tell_all, next_progress, targets_left, targets_in, newly_sent, may_mill, mill_events}
-use Rattle.law_safety.proofs.Tests.{both-of, le-test, lt-test, eq-of, eq-test}
+use Rattle.dpc_lists.proofs.Truths.{both-of, le-test, lt-test, eq-of, eq-test, not-zero, true-not-false}
 use Rattle.law_schedules.proofs.Stages.{at, Follows, Reached, follows-next, reached, reached-then}
 use Rattle.law_schedules.proofs.Calm.{AreZeroed, IsCalm, IsLike, calm-like, like-then, grown-longer, calm-grown}
 use Rattle.law_schedules.proofs.Targets.{AllMet, left-met, mill-at}
@@ -128,14 +127,11 @@ mills-of script p start base ws a r w y es low f m =
           | true ↦ λ e. reached script (IsMillingOf script p start base ws a 0 w) z fs g (subst (λ (n : ℕ). IsMillingOf script p start base ws a n w z) (eq-of (r % 16) 0 e) k)
           | false ↦ λ e.
               let few = rest-few r in
-              let some : 1 ≤ r % 16 = positive (r % 16) e in
+              let some : 1 ≤ r % 16 = not-zero (r % 16) e in
               let whole : r % 16 ≡ r % 16 + 0 = omega arith in
               let s = mill-next script p start base ws a (r % 16) 0 w z fs low some (omega (arith, few)) g (subst (λ (n : ℕ). IsMillingOf script p start base ws a n w z) whole k) in
               reached script (IsMillingOf script p start base ws a 0 w) (next_progress script z (Mill a (r % 16))) (Mill a (r % 16) ∷ fs) s.0 s.1
         ]) refl
-      where
-        positive : (n : ℕ) → (n == 0) ≡ false → 1 ≤ n
-        positive n e = grind (arith, common_steps)
 
 -- all nodes, from actor number a on
 pub record IsMilledUpto (script : Script) (p start : ℕ) (base : World) (ws : List Undelivered) (a : ℕ) (w : World) (y : Progress) : Type 0 where
@@ -164,11 +160,8 @@ mills-all script p start base ws a (suc n) w y es low f m =
     by-own : {z : Progress} (b : ℕ) → b < a + 1 → IsMillingOf script p start base ws a 0 y.world z → (t : Bool) → (b == a) ≡ t → ready_at z.world b ≡ 0
     by-own b h k true e = let same = eq-of b a e in rw same k.own
     by-own b h k false e =
-        let other : b ≡ a → ⊥ = λ same. differ (sym (eq-test b a same) ∙ e) in
+        let other : b ≡ a → ⊥ = λ same. true-not-false (sym (eq-test b a same) ∙ e) in
         k.others b other ∙ m.below b (less b h other)
       where
-        differ : true ≡ false → ⊥
-        differ x = cc
-
         less : (b : ℕ) → b < a + 1 → (b ≡ a → ⊥) → b < a
         less b h other = omega (arith, h, other)

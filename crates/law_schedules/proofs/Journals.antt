@@ -1,5 +1,5 @@
 -- Journals that are live so far: their prefixes, their phases, and which of their events are not void.
-use Rattle.std.proofs.Common.{◌≡◌, ℕ, ◌+◌, ◌-◌, ◌≤◌, Bool, true, false, not, cond, ◌&&◌, ◌||◌, ◌==◌, nat_lt, nat_le, List, [], ◌∷◌, ◌++◌, length, refl, sym, subst, ◌∙◌, arith, Option, Some, None, slice_get, ◌⊎◌, inl, inr}
+use Rattle.std.proofs.Common.{◌≡◌, ℕ, ◌+◌, ◌-◌, ◌≤◌, Bool, true, false, not, cond, ◌&&◌, ◌==◌, nat_lt, nat_le, List, [], ◌∷◌, ◌++◌, length, refl, sym, subst, ◌∙◌, arith, Option, Some, None, slice_get, ◌⊎◌, inl, inr}
 use Rattle.dpc_lists.specs.Lists.{is_nil}
 use Rattle.dpc_model.specs.Actors.{role_of}
 use Rattle.dpc_model.specs.declared.actors.Role.{Role}
@@ -10,7 +10,8 @@ use Rattle.dpc_model.specs.declared.scripts.Script.{Script}
 use Rattle.node_model.specs.Nodes.{PlainNode}
 use Rattle.world_model.specs.Worlds.{World, Envelope, home_of, slot_of, run, ready_role, ready_in, all_settled}
 use Rattle.world_model.specs.Schedules.{Progress, first_progress, next_progress, progress_from, progress, may, may_follow, follows_from, is_live_so_far, is_live, may_come, may_mill, may_deliver, is_phase_complete, phase_left, quiet_limit}
-use Rattle.law_safety.proofs.Tests.{both, both-of, eq-of, lt-of}
+use Rattle.dpc_lists.proofs.Truths.{both, both-of, eq-of, lt-of, or-of, true-not-false}
+use Rattle.world_model.proofs.Running.{follows-part}
 use Rattle.law_schedules.specs.Journals.{phases_in, most_phases, Comes, Mills}
 use Rattle.law_schedules.proofs.Stages.{follows-append}
 use Rattle.law_schedules.proofs.Targets.{none-mills}
@@ -21,13 +22,6 @@ use Rattle.law_schedules.proofs.Lockstep.{progress-world}
 pub none-live : (script : Script) → is_live_so_far script [] ≡ true
 unfolding is_live_so_far
 none-live script = refl
-
-follows-part : (script : Script) (x : Progress) (es fs : List Event) → follows_from script x (es ++ fs) ≡ true → (follows_from script x es ≡ true) × (follows_from script (progress_from script x es) fs ≡ true)
-follows-part script x [] fs h = (refl, h)
-follows-part script x (e ∷ es) fs h =
-    let p = both (may_follow script x e) (follows_from script (next_progress script x e) (es ++ fs)) h in
-    let q = follows-part script (next_progress script x e) es fs p.1 in
-    (both-of (may_follow script x e) (follows_from script (next_progress script x e) es) p.0 q.0, q.1)
 
 pub prefix-live : (script : Script) (es fs : List Event) → is_live_so_far script (es ++ fs) ≡ true → is_live_so_far script es ≡ true
 unfolding is_live_so_far
@@ -95,10 +89,6 @@ phases-counted script es h = let p = phases-from script (first_progress script) 
 left-few : (script : Script) (x : Progress) → phase_left script x ≡ true → x.phase + 1 ≤ most_phases script
 left-few script x h = by-settle script.settle refl (or-of (nat_lt x.phase (length script.phases)) _ h)
   where
-    or-of : (a b : Bool) → (a || b) ≡ true → (a ≡ true) ⊎ (b ≡ true)
-    or-of true b e = inl refl
-    or-of false b e = inr e
-
     by-settle : (s : Bool) → script.settle ≡ s →
         (nat_lt x.phase (length script.phases) ≡ true) ⊎ ((script.settle && not (all_settled x.world) && nat_lt (x.phase - length script.phases) (quiet_limit script.plan)) ≡ true) →
         x.phase + 1 ≤ cond script.settle (length script.phases + quiet_limit script.plan) (length script.phases)
@@ -108,10 +98,7 @@ left-few script x h = by-settle script.settle refl (or-of (nat_lt x.phase (lengt
     by-settle false e (inl k) = let less = lt-of x.phase (length script.phases) k in rw e (omega (arith, less))
     by-settle false e (inr k) =
         let on = (both script.settle (not (all_settled x.world)) (both (script.settle && not (all_settled x.world)) _ k).0).0 in
-        absurd (differ (sym on ∙ e))
-      where
-        differ : true ≡ false → ⊥
-        differ z = cc
+        absurd (true-not-false (sym on ∙ e))
 
 phase-few : (script : Script) (x : Progress) (e : Event) → may_follow script x e ≡ true → x.phase ≤ most_phases script → (next_progress script x e).phase ≤ most_phases script
 phase-few script x (Phase p) h k =

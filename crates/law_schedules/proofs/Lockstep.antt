@@ -1,5 +1,5 @@
 -- The one-thread journal of a script is live, and leads to the world of its one-thread run.
-use Rattle.std.proofs.Common.{◌≡◌, ℕ, zero, suc, ◌+◌, ◌-◌, ◌≤◌, Bool, true, false, not, cond, ◌&&◌, nat_lt, List, [], ◌∷◌, map, length, refl, sym, ap, subst, ◌∙◌, arith, Option, Some, slice_get, unwrap_or}
+use Rattle.std.proofs.Common.{◌≡◌, ℕ, zero, suc, ◌+◌, ◌-◌, ◌≤◌, true, false, not, cond, ◌&&◌, nat_lt, List, [], ◌∷◌, map, length, refl, sym, ap, subst, ◌∙◌, arith, Option, Some, slice_get, unwrap_or}
 use Rattle.std.specs.Prelude.{reverse}
 use Rattle.std.proofs.lemmas.Option.{slice_get_past}
 use Rattle.dpc_lists.specs.Lists.{nth}
@@ -11,13 +11,12 @@ use Rattle.dpc_model.specs.declared.scripts.Script.{Script}
 use Rattle.node_model.specs.Nodes.{Home, new_node}
 use Rattle.world_model.specs.Worlds.{home_of, new_world, run_from, run, all_settled}
 use Rattle.world_model.specs.Schedules.{Progress, Told, tell_phase, tell_phases, tell_quiet, lockstep, lockstep_journal, first_progress, next_progress, progress_from, progress, is_live_so_far, is_live, is_phase_complete, phase_left, phase_of, last_clock, quiet_limit}
-use Rattle.law_safety.proofs.Tests.{both-of, lt-test, lt-of}
+use Rattle.dpc_lists.proofs.Truths.{both-of, lt-test, not-less, or-left, or-right, and-false}
 use Rattle.law_schedules.proofs.Stages.{Reached, reached}
 use Rattle.law_schedules.proofs.Nodes.{IsZeroed}
 use Rattle.law_schedules.proofs.Calm.{IsZeroedAt, node_in}
 use Rattle.law_schedules.proofs.Directing.{IsBetween}
 use Rattle.law_schedules.proofs.Phases.{phase-told}
-use Rattle.law_safety.proofs.Ticked.{or-left, or-right}
 
 -- ---- the opening
 
@@ -73,15 +72,8 @@ record IsEnded (script : Script) (y : Progress) : Type 0 where
   complete : is_phase_complete y ≡ true
   ended : phase_left script y ≡ false
 
-not-below : (a b : ℕ) → b ≤ a → nat_lt a b ≡ false
-not-below a b h = by-test (nat_lt a b) refl
-  where
-    by-test : (t : Bool) → nat_lt a b ≡ t → t ≡ false
-    by-test true e = let less = lt-of a b e in absurd (omega (arith, h, less))
-    by-test false e = refl
-
 nothing-left : (script : Script) (y : Progress) → length script.phases ≤ y.phase → (script.settle && not (all_settled y.world) && nat_lt (y.phase - length script.phases) (quiet_limit script.plan)) ≡ false → phase_left script y ≡ false
-nothing-left script y h e = rw (not-below y.phase (length script.phases) h) e
+nothing-left script y h e = rw (not-less y.phase (length script.phases) h) e
 
 -- ---- the quiet phases
 
@@ -89,17 +81,13 @@ quiet-told : (script : Script) (most q p first now : ℕ) (x : Told) → script.
     Reached script (IsBetween script p first) x → Reached script (IsEnded script) (tell_quiet most p first now x)
 quiet-told script zero q p first now x settles number clock limit r =
     let stands = r.holds.phase in
-    let last : nat_lt (r.here.phase - length script.phases) (quiet_limit script.plan) ≡ false = not-below (r.here.phase - length script.phases) (quiet_limit script.plan) (omega (arith, stands, number, limit)) in
+    let last : nat_lt (r.here.phase - length script.phases) (quiet_limit script.plan) ≡ false = not-less (r.here.phase - length script.phases) (quiet_limit script.plan) (omega (arith, stands, number, limit)) in
     record {
       here = r.here;
       is_told = r.is_told;
       follows = r.follows;
       holds = record { complete = r.holds.complete; ended = nothing-left script r.here (omega (arith, stands, number)) (and-false (script.settle && not (all_settled r.here.world)) _ last) };
     }
-  where
-    and-false : (a b : Bool) → b ≡ false → (a && b) ≡ false
-    and-false true b e = e
-    and-false false b e = refl
 quiet-told script (suc most) q p first now x settles number clock limit r =
     (elim (all_settled x.world) as (λ b. all_settled x.world ≡ b →
     Reached script (IsEnded script) (elim b [ true ↦ x | false ↦ tell_quiet most (p + 1) (length x.world.envelopes) (now + 1) (tell_phase p first [] now x) ])) [

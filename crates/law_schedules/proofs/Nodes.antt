@@ -18,7 +18,7 @@ use Rattle.node_model.specs.Mails.{Snap, Packet, Plain, SnapFor, mail, to_each, 
 use Rattle.dpc_model.specs.NodeStates.{is_up_failure, is_stabilization}
 use Rattle.node_model.specs.Nodes.{Home, streams_of, PlainNode, due_at, wants_to_reconcile}
 use Rattle.node_model.specs.NodeSteps.{idle_step, then_do, on_snap_ask, snapshot_ask_step, announcing_step, peers_of, enter_step, after_loss, after_adoption, with_fresh_start, with_stamps_of, after_taking, on_batch, on_subscribe, with_port, on_truncation, on_upstream_beat, on_peer_beat, on_ack, on_ask, on_grant, on_message, on_snap, on_packet, with_marks_ended, packet_step, replica_number, reader_place, mill_step, after_clock, may_start_afresh, peer_watches, choice_step, ask_step, processing_upto, processing_step, serving_step, rest_of_tick, tick_step}
-use Rattle.law_safety.proofs.Tests.{both}
+use Rattle.dpc_lists.proofs.Truths.{both, true-not-false}
 
 -- a node that recovers has no bucket done
 abbrev pub IsZeroed : PlainNode → Type 0
@@ -46,22 +46,13 @@ still-calm n m s =
     let same = s.same in record { zeroed = λ z e. s.same ∙ z (sym s.also ∙ e); cursor = λ z e. omega (arith, same) }
 
 lost-calm : (n m : PlainNode) → m.recovering ≡ true → m.cursor ≡ 0 → IsCalmNode n m
-lost-calm n m e f = record { zeroed = λ z g. f; cursor = λ z g. absurd (differ (sym e ∙ g)) }
-  where
-    differ : true ≡ false → ⊥
-    differ h = cc
+lost-calm n m e f = record { zeroed = λ z g. f; cursor = λ z g. absurd (true-not-false (sym e ∙ g)) }
 
 anew-calm : (n m : PlainNode) → n.recovering ≡ true → m.recovering ≡ false → IsCalmNode n m
-anew-calm n m e f = record { zeroed = λ z g. absurd (differ (sym g ∙ f)); cursor = λ z g. let none = z e in omega (arith, none) }
-  where
-    differ : true ≡ false → ⊥
-    differ h = cc
+anew-calm n m e f = record { zeroed = λ z g. absurd (true-not-false (sym g ∙ f)); cursor = λ z g. let none = z e in omega (arith, none) }
 
 pub onward-calm : (n m : PlainNode) → m.recovering ≡ false → n.cursor ≤ m.cursor → IsCalmNode n m
-onward-calm n m f h = record { zeroed = λ z g. absurd (differ (sym g ∙ f)); cursor = λ z g. h }
-  where
-    differ : true ≡ false → ⊥
-    differ h = cc
+onward-calm n m f h = record { zeroed = λ z g. absurd (true-not-false (sym g ∙ f)); cursor = λ z g. h }
 
 pub itself : (n : PlainNode) → IsStill n n
 itself n = record { same = refl; also = refl; clock = refl }

@@ -13,11 +13,10 @@ use Rattle.dpc_model.specs.declared.scripts.Script.{Script}
 use Rattle.node_model.specs.Nodes.{PlainNode}
 use Rattle.world_model.specs.Worlds.{World, node_at, ready_at, is_up}
 use Rattle.world_model.specs.Schedules.{Undelivered, Progress, Told, tell_all, tell_directive, tell_phase, phase_events, mill_events, deliveries_of, next_progress, may_come, all_ticked, all_delivered, all_milled, phase_left, phase_of, pending_in, actors_of}
-use Rattle.law_safety.proofs.Tests.{both-of, le-test, lt-of, not-lt}
+use Rattle.dpc_lists.proofs.Truths.{both-of, le-test, lt-of, not-lt, or-right}
 use Rattle.law_schedules.proofs.Stages.{at, Follows, Reached, reached, reached-then}
 use Rattle.law_schedules.proofs.Calm.{like-itself}
 use Rattle.law_schedules.proofs.Targets.{Meets, AllMet}
-use Rattle.law_safety.proofs.Ticked.{or-right}
 use Rattle.law_schedules.proofs.Waits.{fresh_from, blocked-done, fresh-done, blocked-pending}
 use Rattle.law_schedules.proofs.Doing.{IsGoing, IsMilledUpto, mills-all, tell-append}
 use Rattle.law_schedules.proofs.Delivering.{IsDelivered, deliver-all, IsTicking, tick-all}

@@ -5,7 +5,8 @@ use Rattle.std.proofs.lemmas.Grind.{reverse_onto}
 use Rattle.dpc_model.specs.declared.messages.Event.{Event}
 use Rattle.dpc_model.specs.declared.scripts.Script.{Script}
 use Rattle.world_model.specs.Schedules.{Told, Progress, first_progress, next_progress, progress_from, may_follow, follows_from}
-use Rattle.law_safety.proofs.Tests.{both, both-of}
+use Rattle.dpc_lists.proofs.Truths.{both, both-of}
+use Rattle.world_model.proofs.Running.{progress-append}
 
 -- what is told where the run is as far as this
 abbrev pub at : Progress → List Event → Told
@@ -21,10 +22,6 @@ pub record Reached (script : Script) (P : Progress → Type 0) (x : Told) : Type
   pub is_told : x ≡ at here x.events
   pub follows : Follows script here x.events
   pub holds : P here
-
-progress-append : (script : Script) (x : Progress) (es fs : List Event) → progress_from script x (es ++ fs) ≡ progress_from script (progress_from script x es) fs
-progress-append script x [] fs = refl
-progress-append script x (e ∷ es) fs = progress-append script (next_progress script x e) es fs
 
 pub follows-append : (script : Script) (x : Progress) (es fs : List Event) → follows_from script x es ≡ true → follows_from script (progress_from script x es) fs ≡ true → follows_from script x (es ++ fs) ≡ true
 follows-append script x [] fs h k = k

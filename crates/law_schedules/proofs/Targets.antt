@@ -1,7 +1,7 @@
 -- The cursors that nodes must reach in a phase: milling its ready buckets, a node reaches its own, and no later event undoes that.
-use Rattle.std.proofs.Common.{◌≡◌, ℕ, zero, suc, ◌+◌, ◌-◌, ◌/◌, ◌≤◌, Bool, true, false, not, cond, ◌&&◌, ◌==◌, nat_le, List, [], ◌∷◌, ◌++◌, map, length, refl, sym, ap, subst, ◌∙◌, arith, Option, Some, None, slice_get, unwrap_or}
-use Rattle.dpc_lists.specs.Lists.{nth, changed, range_with_len, is_nil, least}
-use Rattle.dpc_model.specs.Actors.{role_of, nodes_of}
+use Rattle.std.proofs.Common.{◌≡◌, ℕ, zero, suc, ◌+◌, ◌-◌, ◌/◌, ◌≤◌, Bool, true, false, not, cond, ◌&&◌, ◌==◌, nat_le, List, [], ◌∷◌, map, refl, sym, ap, subst, ◌∙◌, arith, Option, Some, None, slice_get, unwrap_or}
+use Rattle.dpc_lists.specs.Lists.{nth, changed, is_nil, least}
+use Rattle.dpc_model.specs.Actors.{role_of}
 use Rattle.dpc_model.specs.declared.actors.Role.{Role}
 use Rattle.dpc_model.specs.declared.actors.Role.TheVariants.{Source as IsSource, Node as IsNode, Client as IsClient, Nobody}
 use Rattle.dpc_model.specs.Ports.{Port, held_at}
@@ -12,7 +12,8 @@ use Rattle.node_model.specs.Nodes.{Home, PlainNode, complete_upto, ready}
 use Rattle.node_model.specs.NodeSteps.{mill_step}
 use Rattle.world_model.specs.Worlds.{World, Slot, home_of, node_place, slot_of, node_role, node_at, node_stepped, node_mills, mills, ready_in, ready_role, ready_at, happens}
 use Rattle.world_model.specs.Schedules.{target_of, is_recovering, targets_left, may_mill}
-use Rattle.law_safety.proofs.Tests.{both, le-of, eq-of, eq-test}
+use Rattle.dpc_lists.proofs.Truths.{both, le-of, eq-of, eq-test, true-not-false}
+use Rattle.dpc_model.proofs.Roles.{node-past}
 use Rattle.law_schedules.proofs.Nodes.{IsMilled, milled-moves}
 use Rattle.law_schedules.proofs.Calm.{no_slot, node_in, IsZeroedAt, AreZeroed, IsCalmAt, IsCalm, mill-calm}
 
@@ -75,14 +76,6 @@ calm-meets w v z c b goal up h = by-nodes (node_at w b) (node_at v b) (calm-at w
     by-nodes (Some n) (Some m) k y e g = let more = k.cursor y e in omega (arith, more, g)
 
 -- ---- places
-
-node-past : (plan : Plan) (a f r : ℕ) → role_of plan a ≡ IsNode f r → length plan.sources ≤ a
-node-past plan a f r e = skip 0 (length plan.sources) a (map (λ (n : ℕ × ℕ). IsNode n.0 n.1) (nodes_of plan)) (map IsClient (range_with_len 0 (length plan.clients))) e
-  where
-    skip : (k n b : ℕ) (xs ys : List Role) → nth Nobody (map IsSource (range_with_len k n) ++ xs ++ ys) b ≡ IsNode f r → n ≤ b
-    skip k zero b xs ys h = omega arith
-    skip k (suc n) zero xs ys h = cc
-    skip k (suc n) (suc b) xs ys h = let rest = skip (k + 1) n b xs ys h in omega (arith, rest)
 
 changed-here : (k : ℕ) (f : Slot → Slot) (xs : List Slot) (x : Slot) → slice_get xs k ≡ Some x → nth no_slot (changed k f xs) k ≡ f x
 changed-here k f [] x e = cc
@@ -174,15 +167,12 @@ stepped-at w a f q r n role up calm = record { calm = calm; own = own; others = 
         by-role Nobody k = tt
         by-role (IsNode g p) k =
             (elim (node_place w.plan a == node_place w.plan b) as (λ t. (node_place w.plan a == node_place w.plan b) ≡ t → Meets (slot_of v b).node goal (ready_in other (slot_of v b).node)) [
-              | false ↦ λ e. subst (λ (slot : Slot). Meets slot.node goal (ready_in other slot.node)) (sym (apart b (λ same. differ (sym (eq-test _ _ same) ∙ e)))) k
+              | false ↦ λ e. subst (λ (slot : Slot). Meets slot.node goal (ready_in other slot.node)) (sym (apart b (λ same. true-not-false (sym (eq-test _ _ same) ∙ e)))) k
               | true ↦ λ e. same-place (eq-of (node_place w.plan a) (node_place w.plan b) e)
             ]) refl
           where
             other : Home
             other = home_of w.plan (g, p)
-
-            differ : true ≡ false → ⊥
-            differ x = cc
 
             same-place : node_place w.plan a ≡ node_place w.plan b → Meets (slot_of v b).node goal (ready_in other (slot_of v b).node)
             same-place same =

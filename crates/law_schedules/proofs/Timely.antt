@@ -1,5 +1,5 @@
 -- The clocks of a journal that is live so far, and how a live journal ends.
-use Rattle.std.proofs.Common.{◌≡◌, ℕ, zero, suc, ◌+◌, ◌-◌, ◌^◌, ◌≤◌, ◌<◌, Bool, true, false, not, cond, ◌&&◌, ◌||◌, ◌==◌, nat_lt, nat_le, List, [], ◌∷◌, map, length, refl, sym, ap, subst, ◌∙◌, arith, Option, Some, None, is_some, ◌⊎◌, inl, inr}
+use Rattle.std.proofs.Common.{◌≡◌, ℕ, zero, suc, ◌+◌, ◌-◌, ◌^◌, ◌≤◌, ◌<◌, Bool, true, false, not, cond, ◌&&◌, ◌==◌, nat_lt, nat_le, List, [], ◌∷◌, map, length, refl, sym, ap, subst, ◌∙◌, arith, Option, Some, None, is_some, ◌⊎◌, inl, inr}
 use Rattle.std.specs.Prelude.{fold}
 use Rattle.std.proofs.lemmas.Option.{slice_get_past}
 use Rattle.dpc_lists.specs.Lists.{nth, is_nil, has}
@@ -13,7 +13,7 @@ use Rattle.dpc_model.specs.declared.scripts.Script.{Script}
 use Rattle.node_model.specs.Nodes.{PlainNode}
 use Rattle.world_model.specs.Worlds.{World, slot_of, source_at, client_at, is_up, role_up, run, all_settled}
 use Rattle.world_model.specs.Schedules.{Progress, first_progress, next_progress, progress_from, progress, may, may_follow, follows_from, is_live_so_far, is_live, is_phase_complete, phase_left, phase_of, last_clock, now_of, quiet_limit}
-use Rattle.law_safety.proofs.Tests.{both, both-of, eq-of, le-of, le-test, lt-of, not-lt, not-of}
+use Rattle.dpc_lists.proofs.Truths.{both, both-of, eq-of, le-of, le-test, lt-of, not-lt, not-of, neither}
 use Rattle.law_schedules.specs.Journals.{phases_in, most_phases, Ticks, node_clock, clock_by, are_rising, IsClocked}
 use Rattle.law_schedules.proofs.Clocks.{IsTimely, ClockWithin, timely-later, new-timely, source-clock, client-clock, node-clock, happens-timely}
 use Rattle.law_schedules.proofs.Journals.{live-far, phases-counted, phases-few, few-from, progress-run}
@@ -194,14 +194,10 @@ live-ends script es h =
     let far = live-far script es h in
     ended-so x ended (phases-counted script es far) (progress-run script es) (phases-few script es far)
   where
-    or-false : (a b : Bool) → (a || b) ≡ false → (a ≡ false) × (b ≡ false)
-    or-false true b e = cc
-    or-false false b e = (refl, e)
-
     ended-so : (x : Progress) → phase_left script x ≡ false → x.phase ≡ phases_in es → x.world ≡ run script.plan es → phases_in es ≤ most_phases script →
         (length script.phases ≤ phases_in es) × (script.settle ≡ true → (all_settled (run script.plan es) ≡ true) ⊎ (phases_in es ≡ length script.phases + quiet_limit script.plan))
     ended-so x e count world most =
-        let p = or-false (nat_lt x.phase (length script.phases)) _ e in
+        let p = neither (nat_lt x.phase (length script.phases)) _ e in
         let all = not-lt x.phase (length script.phases) p.0 in
         (omega (arith, all, count), λ on. by-settled on (all_settled x.world) refl p.1)
       where
@@ -212,5 +208,5 @@ live-ends script es h =
             let last : nat_lt (x.phase - length script.phases) (quiet_limit script.plan) ≡ false = rw (on, g) at k in
             let gone = not-lt (x.phase - length script.phases) (quiet_limit script.plan) last in
             let few = settled-few script in
-            let whole = not-lt x.phase (length script.phases) (or-false (nat_lt x.phase (length script.phases)) _ e).0 in
+            let whole = not-lt x.phase (length script.phases) (neither (nat_lt x.phase (length script.phases)) _ e).0 in
             inr (omega (arith, gone, few, most, count, whole))

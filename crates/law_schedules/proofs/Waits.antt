@@ -4,9 +4,8 @@ use Rattle.dpc_lists.specs.Lists.{nth, list_all, range_with_len, place_of}
 use Rattle.dpc_model.specs.declared.scripts.Directive.{Directive}
 use Rattle.world_model.specs.Worlds.{World, Envelope}
 use Rattle.world_model.specs.Schedules.{Undelivered, is_lost, pending_in, delivery_made, same_way, is_first_of_its_way, may_come}
-use Rattle.law_safety.proofs.Tests.{both, both-of, lt-of, lt-test, eq-of, eq-test, not-of}
+use Rattle.dpc_lists.proofs.Truths.{both, both-of, lt-of, lt-test, eq-of, eq-test, not-of, or-right, true-not-false}
 use Rattle.law_schedules.proofs.Calm.{IsLike, like-come}
-use Rattle.law_safety.proofs.Ticked.{or-right}
 
 -- ---- those sent in the phase
 
@@ -133,10 +132,7 @@ first-way w k l (x ∷ xs) ys h g =
     ∙ known
   where
     apart : (b : Bool) → same_way (slice_get w.envelopes k) (slice_get w.envelopes x.number) ≡ b → may_come w (slice_get w.envelopes x.number) ≡ false → b ≡ false
-    apart true e f = absurd (differ (sym (same-way-come w (slice_get w.envelopes k) (slice_get w.envelopes x.number) h e) ∙ f))
-      where
-        differ : true ≡ false → ⊥
-        differ z = cc
+    apart true e f = absurd (true-not-false (sym (same-way-come w (slice_get w.envelopes k) (slice_get w.envelopes x.number) h e) ∙ f))
     apart false e f = refl
 
     skip : (o : Option ℕ) → (elim o [ None ↦ false | Some i ↦ nth false (map (λ (x : Undelivered). x.number == k) (xs ++ pend k l ∷ ys)) i ]) ≡ true →

@@ -1,29 +1,29 @@
 -- A checked script refers to names.
 use Rattle.std.proofs.Common.{◌≡◌, ℕ, ◌+◌, ◌≤◌, Bool, true, false, List, [], ◌∷◌, map, length, refl, ap, subst, ◌∙◌, arith}
-use Rattle.std.specs.Prelude.{not, ◌&&◌, ◌||◌, nat_lt, nat_le, flat_map}
+use Rattle.std.specs.Prelude.{not, ◌&&◌, nat_lt, nat_le, flat_map}
 use Rattle.std.proofs.lemmas.Bool.{and_parts, ltb-true, ltb-false, lt-ltb}
 use Rattle.std.proofs.lemmas.List.{length-append, length-map}
-use Rattle.dpc_lists.specs.Lists.{list_all, list_any, is_nil, push}
-use Rattle.dpc_model.specs.Actors.{roles_of, role_of, reads_from, sends_stream, are_peers, inputs_of}
+use Rattle.dpc_lists.specs.Lists.{list_all, is_nil, push}
+use Rattle.dpc_model.specs.Actors.{roles_of, role_of, inputs_of}
 use Rattle.dpc_model.specs.Columns.{kind_columns, wire_columns, stream_columns}
 use Rattle.dpc_model.specs.declared.actors.Role.{Role}
-use Rattle.dpc_model.specs.declared.actors.Role.TheVariants.{Source as IsSource, Node as IsNode, Client as IsClient, Nobody}
+use Rattle.dpc_model.specs.declared.actors.Role.TheVariants.{Nobody}
 use Rattle.dpc_model.specs.declared.operators.Wire.{Wire}
 use Rattle.dpc_model.specs.declared.operators.Wire.TheVariants.{Port, Op}
 use Rattle.dpc_model.specs.declared.operators.OpSpec.{OpSpec}
 use Rattle.dpc_model.specs.declared.plans.FragSpec.{FragSpec}
 use Rattle.dpc_model.specs.declared.plans.ClientSpec.{ClientSpec}
 use Rattle.dpc_model.specs.declared.plans.Plan.{Plan}
-use Rattle.dpc_model.specs.declared.plans.StreamRef.{StreamRef}
 use Rattle.dpc_model.specs.declared.scripts.Directive.{Directive}
 use Rattle.dpc_model.specs.declared.scripts.Directive.TheVariants.{Emit, Release, Cut, Heal, Lose, Repeat, Crash, Restart}
 use Rattle.dpc_model.specs.declared.scripts.Phase.{Phase}
 use Rattle.dpc_model.specs.declared.scripts.Script.{Script}
+use Rattle.dpc_lists.proofs.Elements.{nth-past}
+use Rattle.dpc_model.proofs.Roles.{nothing_sent, no_peer, are_joined}
 use Rattle.script_rules.specs.Reasons.{fits_inputs, is_too_large, is_node}
 use Rattle.script_rules.specs.Checking.{IsChecked}
 use Rattle.script_rules.specs.Facts.{is_there, is_earlier, ops_fit, frag_fits, directive_fits}
 use Rattle.script_rules.specs.Laws.{is_actor, is_named_wire, has_named_wires, has_named_actors, refers_to_names}
-use Rattle.script_rules.proofs.Lasts.{nth-past}
 use Rattle.script_rules.proofs.SaysItself.{checked_has_facts}
 use Rattle.law_scripts.proofs.Fragments.{refers}
 
@@ -77,19 +77,6 @@ actor_there test plan a none h =
           let fails : test (role_of plan a) ≡ false = ap test nobody ∙ none in
           absurd cc
     ]) refl
-
-abbrev are_joined : Plan → Role → Role → Bool
-are_joined plan x y = reads_from plan x y || reads_from plan y x || are_peers x y
-
-nothing_sent : (ss : List StreamRef) → list_any (λ s. sends_stream s Nobody) ss ≡ false
-nothing_sent [] = refl
-nothing_sent (s ∷ ss) = nothing_sent ss
-
-no_peer : (x : Role) → are_peers x Nobody ≡ false
-no_peer (IsSource s) = refl
-no_peer (IsNode f r) = refl
-no_peer (IsClient c) = refl
-no_peer Nobody = refl
 
 nobody_first : (plan : Plan) (y : Role) → are_joined plan Nobody y ≡ false
 nobody_first plan y = rw (nothing_sent (inputs_of plan y)) refl

@@ -20,6 +20,7 @@ use Rattle.dpc_model.specs.declared.scripts.Directive.{Directive}
 use Rattle.dpc_model.specs.declared.scripts.Directive.TheVariants.{Emit, Release, Cut, Heal, Lose, Repeat, Crash, Restart}
 use Rattle.dpc_model.specs.declared.scripts.Phase.{Phase}
 use Rattle.dpc_model.specs.declared.scripts.Script.{Script}
+use Rattle.dpc_lists.proofs.Elements.{nil-of}
 use Rattle.script_rules.specs.Statements.{Statement, HeaderLine, SourceLine, LogLine, FragmentLine, OperatorLine, BeginLine, TickLine}
 use Rattle.script_rules.specs.Drafts.{Draft, is_wide, is_passing, has_header, plan_of, source_names, frag_names, op_names, script_of}
 use Rattle.script_rules.specs.Reasons.{lacks_end}
@@ -32,7 +33,7 @@ use Rattle.script_rules.proofs.Streams.{name_at}
 use Rattle.script_rules.proofs.ReadForms.{few_of}
 use Rattle.law_scripts.proofs.Scripts.{lines_from_begin, line_parts}
 use Rattle.law_scripts.proofs.Saying.{words_said}
-use Rattle.law_scripts.proofs.SaidSoFar.{op_said, frag_said, frag_said_at, client_said, heads, said_then, nil_is}
+use Rattle.law_scripts.proofs.SaidSoFar.{op_said, frag_said, frag_said_at, client_said, heads, said_then}
 use Rattle.law_scripts.proofs.FragsSaid.{all_ports}
 use Rattle.law_scripts.proofs.Growing.{IsFlag}
 
@@ -128,7 +129,7 @@ pub said_in_the_end : (d : Draft) → fault_of_end d ≡ None → (d.begun ≡ t
 said_in_the_end d end whole flag =
     let tests = or_parts (not d.begun) (not (is_nil d.directives)) (ended d end) in
     let begun : d.begun ≡ true = not-false d.begun tests.0 in
-    let none : d.directives ≡ [] = nil_is d.directives (not-false (is_nil d.directives) tests.1) in
+    let none : d.directives ≡ [] = nil-of d.directives (not-false (is_nil d.directives) tests.1) in
     let plan : Plan = plan_of d in
     let phases : List Statement = flat_map (phase_statements plan) d.phases in
     let run : List Statement = BeginLine ∷ (phases ++ said_at_last d.settle) in

@@ -19,13 +19,13 @@ use Rattle.script_rules.specs.Drafts.{Draft, plan_of, source_names, frag_names, 
 use Rattle.script_rules.specs.Checking.{source_statements, patience_statements}
 use Rattle.script_rules.specs.Facts.{ops_fit}
 use Rattle.script_rules.specs.Laws.{is_named_wire}
+use Rattle.script_rules.proofs.Called.{named}
 use Rattle.script_rules.proofs.Lasts.{nth-first}
 use Rattle.script_rules.proofs.Streams.{name_at, stream_at, is_within}
 use Rattle.script_rules.proofs.Recalled.{wire_at, wire_name}
 use Rattle.script_rules.proofs.Found.{IsPlaceOf, place_is, found, found_is}
 use Rattle.script_rules.proofs.Fitting.{FragsFit, columns_of, columns_behind, ports_in, columns_in, fits-split, last_one, change-last}
 use Rattle.script_rules.proofs.Headers.{declared}
-use Rattle.script_rules.proofs.Inputs.{named}
 use Rattle.law_scripts.proofs.Checked.{ops_named}
 use Rattle.law_scripts.proofs.SaidSoFar.{op_said, frag_said_at, frag_said, heads, said_then, Grows, flat-push, map-push, split}
 

@@ -10,6 +10,8 @@ use Rattle.dpc_model.specs.declared.plans.ClientSpec.{ClientSpec}
 use Rattle.dpc_model.specs.declared.plans.StreamRef.{StreamRef}
 use Rattle.dpc_model.specs.declared.plans.StreamRef.TheVariants.{Source, Frag}
 use Rattle.dpc_model.specs.declared.scripts.Directive.TheVariants as directive
+use Rattle.dpc_lists.proofs.Truths.{not-both}
+use Rattle.dpc_lists.proofs.Elements.{nil-of}
 use Rattle.script_rules.specs.declared.keywords.Keyword.{Keyword}
 use Rattle.script_rules.specs.declared.keywords.Keyword.TheVariants as key
 use Rattle.script_rules.specs.declared.places.Sort.TheVariants.{Range}
@@ -21,7 +23,6 @@ use Rattle.script_rules.specs.Reasons.{declares, is_fresh, runs, is_its_part, ha
 use Rattle.script_rules.specs.Canonical.{logs_follow}
 use Rattle.script_rules.proofs.Passing.{IsFine}
 use Rattle.script_rules.proofs.Apart.{same_word}
-use Rattle.script_rules.proofs.Names.{not_both}
 use Rattle.script_rules.proofs.Ranges.{between}
 use Rattle.script_rules.proofs.Headers.{declared}
 use Rattle.script_rules.proofs.Inputs.{EachReads}
@@ -30,7 +31,7 @@ use Rattle.script_rules.proofs.Formed.{IsPlaced, is_declaring}
 use Rattle.script_rules.proofs.Fitted.{IsFitted, fitted}
 use Rattle.law_scripts.proofs.Filling.{Fills}
 use Rattle.law_scripts.proofs.Saying.{keyword_word, is_keyword}
-use Rattle.law_scripts.proofs.SaidSoFar.{Grows, nil_is, IsEarly, as_declared, header_grows, source_grows, last_name, last_name-push, last_name-changed, log_grows, client_grows, begin_grows}
+use Rattle.law_scripts.proofs.SaidSoFar.{Grows, IsEarly, as_declared, header_grows, source_grows, last_name, last_name-push, last_name-changed, log_grows, client_grows, begin_grows}
 use Rattle.law_scripts.proofs.FragsSaid.{are_within, fragment_grows, patience_grows, operator_grows}
 use Rattle.law_scripts.proofs.RunSaid.{IsRunning, in_running, send_grows, link_grows, crash_grows, restart_grows, tick_grows, settle_grows}
 
@@ -128,7 +129,7 @@ last_kept d key.Settle ws last h = h
 -- ---- before `begin`
 
 late : (d : Draft) → d.begun ≡ true → d.begun ≡ false → ⊥
-late d h k = not_both d.begun h k
+late d h k = not-both d.begun h k
 
 pub early_kept : (d : Draft) (s : Statement) → IsPlaced d s → (d.begun ≡ false → IsEarly d) → (and_then d s).begun ≡ false → IsEarly (and_then d s)
 early_kept d (HeaderLine place n) p e yet = let k = e yet in record { begun = yet; phases = k.phases; directives = k.directives; settle = k.settle }
@@ -226,23 +227,23 @@ module _ (last : Word) (d : Draft) where
       subst (λ e. Grows e (HeaderLine place n)) (sym same) (header_grows d.header place n (eqb-true place (length d.header) here))
     where
       not_yet : (b : Bool) → d.begun ≡ b → b ≡ false
-      not_yet true is = absurd (not_both (has_header d) (u.fitted.form.parts.whole is).header none)
+      not_yet true is = absurd (not-both (has_header d) (u.fitted.form.parts.whole is).header none)
       not_yet false is = refl
 
   source_line_grows : (name : Word) (columns : ℕ) → IsUnderWay last d → IsPlaced d (SourceLine name columns) → Grows d (SourceLine name columns)
   source_line_grows name columns u p =
-      let same = with_frags d [] [] (early_of u p.0) (nil_is d.frags p.1) (nil_is d.clients p.2) in
+      let same = with_frags d [] [] (early_of u p.0) (nil-of d.frags p.1) (nil-of d.clients p.2) in
       subst (λ e. Grows e (SourceLine name columns)) (sym same) (source_grows d.header d.sources name columns)
 
   log_line_grows : (source : Word) (time : ℕ) (vals : List ℤ) → IsUnderWay last d → IsPlaced d (LogLine source time vals) → IsFine d (LogLine source time vals) → source ≡ last → Grows d (LogLine source time vals)
   log_line_grows source time vals u p fine is =
-      let same = with_frags d [] [] (early_of u p.0) (nil_is d.frags p.1) (nil_is d.clients p.2) in
+      let same = with_frags d [] [] (early_of u p.0) (nil-of d.frags p.1) (nil-of d.clients p.2) in
       let apart : has_twice (names (declared d.header d.sources [] [])) ≡ false = subst (λ e. has_twice (names e) ≡ false) same u.fitted.form.distinct in
       subst (λ e. Grows e (LogLine source time vals)) (sym same) (log_grows d.header d.sources source time vals fine.known apart (is ∙ u.named))
 
   frag_line_grows : (name : Word) (replicas : ℕ) (streams : List Word) → IsUnderWay last d → IsPlaced d (FragmentLine name replicas streams) → IsFine d (FragmentLine name replicas streams) → Grows d (FragmentLine name replicas streams)
   frag_line_grows name replicas streams u p fine =
-      let same = with_clients d [] (early_of u p.0) (nil_is d.clients p.1) in
+      let same = with_clients d [] (early_of u p.0) (nil-of d.clients p.1) in
       let within : are_within (length d.sources) (length d.frags) d.frags ≡ true = each_within (length d.sources) 0 (length d.frags) d.frags (omega arith) u.fitted.form.frags.reads in
       subst (λ e. Grows e (FragmentLine name replicas streams)) (sym same) (fragment_grows d.header d.sources d.frags name replicas streams within fine.stream)
 
@@ -257,13 +258,13 @@ module _ (last : Word) (d : Draft) where
   patience_line_grows n u part =
       let p = and_parts (declares d && not (is_nil d.frags) && is_nil d.clients) (is_fresh d) part in
       let q = in_frag p.0 in
-      let same = with_clients d [] (early_of u q.0) (nil_is d.clients q.2) in
+      let same = with_clients d [] (early_of u q.0) (nil-of d.clients q.2) in
       subst (λ e. Grows e (PatienceLine n)) (sym same) (patience_grows d.header d.sources n d.frags q.1 p.1)
 
   operator_line_grows : (name : Word) (inputs : List Word) (kind : OpKind) → IsUnderWay last d → (declares d && not (is_nil d.frags) && is_nil d.clients) ≡ true → IsFine d (OperatorLine name inputs kind) → Grows d (OperatorLine name inputs kind)
   operator_line_grows name inputs kind u part fine =
       let q = in_frag part in
-      let same = with_clients d [] (early_of u q.0) (nil_is d.clients q.2) in
+      let same = with_clients d [] (early_of u q.0) (nil-of d.clients q.2) in
       let known : list_any (λ w. is_none (wire_named (declared d.header d.sources d.frags []) w)) inputs ≡ false = subst (λ e. list_any (λ w. is_none (wire_named e w)) inputs ≡ false) same fine.known in
       subst (λ e. Grows e (OperatorLine name inputs kind)) (sym same) (operator_grows d.header d.sources name inputs kind d.frags q.1 u.fitted.frags known)
 

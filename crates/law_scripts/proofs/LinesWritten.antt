@@ -22,7 +22,7 @@ use Rattle.script_rules.specs.Statements.{word, number_at, pairs, statement_of}
 use Rattle.script_rules.specs.Places.{must, may, is_between, places_of}
 use Rattle.script_rules.specs.Drafts.{Draft, has_header, greatest_end, end_of, is_wide}
 use Rattle.script_rules.specs.Reasons.{is_its_part, declares, fits_inputs, input_columns}
-use Rattle.script_rules.proofs.Passing.{IsFine}
+use Rattle.script_rules.proofs.Passing.{IsFine, greatest_end-fits}
 use Rattle.script_rules.proofs.Ranges.{between}
 use Rattle.law_scripts.proofs.Aggregates.{key_words}
 use Rattle.law_scripts.proofs.Filling.{Fills, numeral_back, range_back}
@@ -79,9 +79,6 @@ loosened sort places (w ∷ ws) h = h
 
 -- ---- line by line
 
-low_end : (d : Draft) → greatest_end d < 2 ^ 64
-low_end d = elim (is_wide d) as (λ t. (if t then 2 ^ 62 - 1 else 2 ^ 40 - 1) < 2 ^ 64) [ true ↦ omega arith | false ↦ omega arith ]
-
 low_width : (d : Draft) → (if is_wide d then 2 ^ 50 else 1000000) < 2 ^ 64
 low_width d = elim (is_wide d) as (λ t. (if t then 2 ^ 50 else 1000000) < 2 ^ 64) [ true ↦ omega arith | false ↦ omega arith ]
 
@@ -92,7 +89,7 @@ header_written : (d : Draft) (place : ℕ) (ws : List Word) → nat_lt place 5 �
 header_written d zero ws low h = range_alone 1 3 _ ws (omega arith) h
 header_written d (suc zero) ws low h = range_alone 1 _ _ ws (low_width d) h
 header_written d (suc (suc zero)) ws low h = range_alone 0 (10 ^ 12) _ ws (omega arith) h
-header_written d (suc (suc (suc zero))) ws low h = multiple_alone _ (greatest_end d) _ _ ws (low_end d) h
+header_written d (suc (suc (suc zero))) ws low h = multiple_alone _ (greatest_end d) _ _ ws (greatest_end-fits d) h
 header_written d (suc (suc (suc (suc zero)))) ws low h = range_alone 0 1 _ ws (omega arith) h
 header_written d (suc (suc (suc (suc (suc place))))) ws low h = let few = ltb-true (suc (suc (suc (suc (suc place))))) 5 low in absurd (omega (arith, few))
 
@@ -139,7 +136,7 @@ join_written d (n ∷ i ∷ j ∷ w ∷ ws) h fine =
     let columns = input_columns d (i ∷ j ∷ []) in
     let tests = or_parts (not (fits_inputs k columns)) (nat_lt 8 (kind_columns k columns)) fine.columns in
     let few = ltb-false 8 (nth 0 columns 0 + nth 0 columns 1) tests.1 in
-    let within : w ≡ decimal (number w) = range_back 0 (greatest_end d) w (low_end d) h.1.1.1.0 in
+    let within : w ≡ decimal (number w) = range_back 0 (greatest_end d) w (greatest_end-fits d) h.1.1.1.0 in
     let back : flat_map key_words keys ≡ ws = keys_written 8 (nth 0 columns 0) (nth 0 columns 1) ws (omega (arith, few)) (omega (arith, few)) h.1.1.1.1 (not-false (fits_inputs k columns) tests.0) in
     ap (λ v. codes "join" ∷ n ∷ i ∷ j ∷ v ∷ ws) within ∙ ap (λ l. codes "join" ∷ n ∷ i ∷ j ∷ decimal (number w) ∷ l) (sym back)
 
@@ -150,8 +147,8 @@ aggregate_written d (n ∷ i ∷ []) h = absurd cc
 aggregate_written d (n ∷ i ∷ x ∷ []) h = absurd cc
 aggregate_written d (n ∷ i ∷ x ∷ y ∷ []) h = absurd cc
 aggregate_written d (n ∷ i ∷ x ∷ y ∷ g ∷ ws) h =
-    let size : x ≡ decimal (number x) = range_back 1 (greatest_end d) x (low_end d) h.1.1.0 in
-    let step : y ≡ decimal (number y) = range_back 1 (greatest_end d) y (low_end d) h.1.1.1.0 in
+    let size : x ≡ decimal (number x) = range_back 1 (greatest_end d) x (greatest_end-fits d) h.1.1.0 in
+    let step : y ≡ decimal (number y) = range_back 1 (greatest_end d) y (greatest_end-fits d) h.1.1.1.0 in
     let group : group_word (column_of g) ≡ g = group_written g h.1.1.1.1.0 in
     let aggs : flat_map agg_words (aggs_of ws) ≡ ws = aggs_written 8 ws (loosened Aggregate (replicate 7 (may Aggregate)) ws h.1.1.1.1.1) in
     ap (λ v. codes "aggregate" ∷ n ∷ i ∷ v ∷ y ∷ g ∷ ws) size ∙ ap (λ v. codes "aggregate" ∷ n ∷ i ∷ decimal (number x) ∷ v ∷ g ∷ ws) step

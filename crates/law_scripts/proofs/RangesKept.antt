@@ -14,12 +14,12 @@ use Rattle.dpc_model.specs.declared.plans.FragSpec.{FragSpec}
 use Rattle.dpc_model.specs.declared.plans.Plan.{Plan}
 use Rattle.dpc_model.specs.declared.plans.StreamRef.TheVariants.{Source}
 use Rattle.dpc_model.specs.declared.scripts.Directive.{Directive}
+use Rattle.dpc_lists.proofs.Truths.{not-both}
 use Rattle.script_rules.specs.Spelling.{is_name}
 use Rattle.script_rules.specs.Places.{is_between}
 use Rattle.script_rules.specs.Statements.{Statement, HeaderLine, SourceLine, LogLine, FragmentLine, PatienceLine, OperatorLine, ClientLine, BeginLine, SendLine, LinkLine, NodeLine, TickLine, SettleLine}
 use Rattle.script_rules.specs.Drafts.{Draft, nothing_yet, stream_named, wire_named, and_then, is_wide, has_header, with_log, with_delay, with_op, script_of}
 use Rattle.script_rules.specs.Checking.{top, is_in_range, is_header_in_range, is_log_in_range, is_source_in_range, are_inputs_in_range, is_kind_in_range, is_op_in_range, is_delay_in_range, is_frag_in_range, is_client_in_range, is_directive_in_range, is_phase_in_range}
-use Rattle.script_rules.proofs.Names.{not_both}
 use Rattle.script_rules.proofs.Growing.{all-push}
 use Rattle.script_rules.proofs.Ranges.{between}
 use Rattle.script_rules.proofs.Headers.{declared}
@@ -147,7 +147,7 @@ header_kept last d place n u none h k =
     }
   where
     not_yet : (b : Bool) → d.begun ≡ b → b ≡ false
-    not_yet true is = absurd (not_both (has_header d) (u.fitted.form.parts.whole is).header none)
+    not_yet true is = absurd (not-both (has_header d) (u.fitted.form.parts.whole is).header none)
     not_yet false is = refl
 
 fragment_kept : (d : Draft) (name : Word) (replicas : ℕ) (streams : List Word) → IsSaidInRange d.header (FragmentLine name replicas streams) → HasRangesSoFar d → HasRangesSoFar (and_then d (FragmentLine name replicas streams))

@@ -1,5 +1,5 @@
 -- What a script in range refers to by number has a name that can be written.
-use Rattle.std.proofs.Common.{◌≡◌, ℕ, suc, zero, ◌+◌, ◌^◌, ◌<◌, ◌≤◌, Bool, true, false, List, [], ◌∷◌, ◌++◌, map, length, refl, ap, subst, ◌∙◌, arith}
+use Rattle.std.proofs.Common.{◌≡◌, ℕ, suc, zero, ◌+◌, ◌^◌, ◌<◌, ◌≤◌, Bool, true, List, [], ◌∷◌, ◌++◌, map, length, refl, ap, subst, ◌∙◌, arith}
 use Rattle.std.specs.Prelude.{not, ◌&&◌, ◌||◌, ◌==◌, nat_lt, nat_le}
 use Rattle.std.specs.Fmt.{decimal}
 use Rattle.std.proofs.lemmas.Bool.{and_parts, ltb-true, leb-true, ne_eqb, false_from_ne_true, eqb-true}
@@ -19,15 +19,16 @@ use Rattle.dpc_model.specs.declared.plans.Plan.{Plan}
 use Rattle.dpc_model.specs.declared.plans.StreamRef.{StreamRef}
 use Rattle.dpc_model.specs.declared.plans.StreamRef.TheVariants.{Source, Frag}
 use Rattle.dpc_model.specs.declared.scripts.Script.{Script}
+use Rattle.dpc_lists.proofs.Truths.{or-right}
 use Rattle.script_rules.specs.Lines.{pieces}
 use Rattle.script_rules.specs.Spelling.{is_digit, is_numeral, may_stand_in_name, is_name, are_name_and_numeral, is_node_name}
 use Rattle.script_rules.specs.Places.{is_between}
 use Rattle.script_rules.specs.Facts.{is_there, has_sizes}
 use Rattle.script_rules.specs.Laws.{is_actor, is_named_wire}
+use Rattle.script_rules.proofs.Called.{named_sources, named}
 use Rattle.script_rules.proofs.Numerals.{is_numeral-decimal}
 use Rattle.script_rules.proofs.Ranges.{HasRanges, between, frag_sizes}
 use Rattle.script_rules.proofs.Names.{source_names_in_range, frag_names_in_range, client_names_in_range}
-use Rattle.script_rules.proofs.Inputs.{named_sources, named}
 use Rattle.script_rules.proofs.Distinct.{named_clients}
 use Rattle.script_rules.proofs.Roles.{dots, dotted, letters, actor_names, roles_named, nth-map}
 use Rattle.law_scripts.proofs.Lines.{is_plain, NoneIs, pieces-first, pieces-last}
@@ -130,15 +131,11 @@ node_is_named f r h k =
     let parts : (is_name f && is_numeral r) ≡ true = rw (h, k) refl in
     ap are_name_and_numeral both ∙ parts
 
-or_right : (a b : Bool) → b ≡ true → (a || b) ≡ true
-or_right true b h = refl
-or_right false b h = h
-
 node_is_actor : (f : Word) (r : ℕ) → is_name f ≡ true → r < 2 ^ 63 → is_actor_word (f ++ 46 ∷ decimal r) ≡ true
 node_is_actor f r h low =
     let numeral : is_numeral (decimal r) ≡ true = is_numeral-decimal r (omega (arith, low)) in
     let w = f ++ 46 ∷ decimal r in
-    let actor : (is_name w || is_node_name w) ≡ true = or_right (is_name w) (is_node_name w) (node_is_named f (decimal r) h numeral) in
+    let actor : (is_name w || is_node_name w) ≡ true = or-right (is_name w) (is_node_name w) (node_is_named f (decimal r) h numeral) in
     rw (plain_node f (decimal r) h numeral, actor) refl
 
 dots_are_actors : (w : Word) (k n : ℕ) → is_name w ≡ true → k + n ≤ 2 ^ 63 → list_all is_actor_word (dots w k n) ≡ true

@@ -6,28 +6,24 @@ use Rattle.std.proofs.lemmas.List.{append-nil, append_assoc, length-append}
 use Rattle.dpc_model.specs.Words.{Word}
 use Rattle.dpc_model.specs.declared.plans.SourceSpec.{SourceSpec}
 use Rattle.dpc_model.specs.declared.scripts.PlanFault.{PlanFault}
-use Rattle.dpc_lists.proofs.Elements.{length-changed}
+use Rattle.dpc_lists.proofs.Elements.{length-changed, nil-of}
 use Rattle.script_rules.specs.declared.keywords.Keyword.{Keyword}
 use Rattle.script_rules.specs.declared.keywords.Keyword.TheVariants as key
 use Rattle.script_rules.specs.Statements.{Statement, statement_of, word, number_at, HeaderLine, SourceLine, LogLine, FragmentLine, PatienceLine, OperatorLine, ClientLine, BeginLine, SendLine, LinkLine, NodeLine, TickLine, SettleLine}
 use Rattle.script_rules.specs.Drafts.{Draft, nothing_yet, plan_of, source_names, frag_names, and_then}
-use Rattle.script_rules.specs.Reasons.{first_of_tests, tests_said}
 use Rattle.script_rules.specs.Checking.{source_statements, phase_statements, directive_statement, check_from}
 use Rattle.script_rules.proofs.Apart.{twice-first}
-use Rattle.script_rules.proofs.Passing.{IsFine, Passes, passes_first, all_said, said-append}
+use Rattle.script_rules.proofs.Passing.{IsFine, Passes, passes_first, all_said, said-append, fine_tests}
 use Rattle.script_rules.proofs.Parts.{said_at_last}
 use Rattle.script_rules.proofs.Headers.{declared}
 use Rattle.script_rules.proofs.Sources.{names_in}
 use Rattle.script_rules.proofs.Formed.{IsPlaced, is_declaring}
 use Rattle.script_rules.proofs.Fitted.{IsFitted, fitted}
 use Rattle.law_scripts.proofs.SourcesPass.{passes_both, MayFollow, sources_pass}
-use Rattle.law_scripts.proofs.SaidSoFar.{frag_said, client_said, heads, begun_said, said_then, Grows, nil_is, as_declared, last_name}
+use Rattle.law_scripts.proofs.SaidSoFar.{frag_said, client_said, heads, begun_said, said_then, Grows, as_declared, last_name}
 use Rattle.law_scripts.proofs.Growing.{IsUnderWay, IsLine, early_kept, flag_kept, line_grows}
 
 -- ---- what passes has no fault
-
-fine_tests : (d : Draft) (s : Statement) → IsFine d s → first_of_tests (tests_said d s) ≡ None
-fine_tests d s f = rw (f.name, f.known, f.time, f.columns, f.stream, f.parts, f.state, f.limit) refl
 
 pub no_fault : (n : ℕ) (d : Draft) (ss : List Statement) → Passes d ss → check_from n d ss ≡ None
 no_fault n d [] h = refl
@@ -113,7 +109,7 @@ retold_sources h ss header k few =
 only_sources : (d : Draft) → (IsUnderWay (last_name d.sources) d) → IsPlaced d (LogLine [] 0 []) → d ≡ declared d.header d.sources [] []
 only_sources d u p =
     let early = u.early (is_declaring d p.0).1 in
-    as_declared d early ∙ ap (λ l. declared d.header d.sources d.frags l) (nil_is d.clients p.2) ∙ ap (λ l. declared d.header d.sources l []) (nil_is d.frags p.1)
+    as_declared d early ∙ ap (λ l. declared d.header d.sources d.frags l) (nil-of d.clients p.2) ∙ ap (λ l. declared d.header d.sources l []) (nil-of d.frags p.1)
 
 abbrev LogRetold : Word → ℕ → List ℤ → Draft → Type 0
 LogRetold source time vals d = IsFitted (and_then d (LogLine source time vals)) → length d.sources ≤ 16 → IsRetold d → IsRetold (and_then d (LogLine source time vals))

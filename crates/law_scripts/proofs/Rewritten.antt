@@ -1,10 +1,10 @@
 -- What is read of the words of aggregates, groups, keys and values is written by these words.
 use Rattle.std.proofs.Common.{◌≡◌, ℕ, zero, suc, ◌≤◌, Bool, true, false, List, [], ◌∷◌, ◌++◌, map, Option, Some, None, refl, sym, ap, subst, ◌∙◌, arith, inl, inr, ◌⊎◌}
-use Rattle.std.specs.Prelude.{if◌then◌else◌, ◌&&◌, ◌||◌, nat_lt, flat_map, codes, bytes_eq, is_some, unwrap_or, option_map, option_to_list}
+use Rattle.std.specs.Prelude.{if◌then◌else◌, ◌||◌, nat_lt, flat_map, codes, bytes_eq, is_some, unwrap_or, option_map, option_to_list}
 use Rattle.std.specs.Fmt.{decimal, signed_decimal}
 use Rattle.std.proofs.Math.ListN.{replicate}
 use Rattle.std.proofs.lemmas.Bool.{not-false, and_parts, ltb-true}
-use Rattle.dpc_lists.specs.Lists.{list_all, nth}
+use Rattle.dpc_lists.specs.Lists.{list_all}
 use Rattle.dpc_model.specs.Words.{Word}
 use Rattle.dpc_model.specs.ScriptText.{column_word, agg_words, group_word}
 use Rattle.dpc_model.specs.declared.operators.Agg.{Agg}
@@ -18,7 +18,7 @@ use Rattle.script_rules.specs.Places.{must, may}
 use Rattle.script_rules.proofs.Apart.{same_word}
 use Rattle.law_scripts.proofs.Aggregates.{key_words, behind_column}
 use Rattle.law_scripts.proofs.Filling.{Keeps, Fills, numeral_back}
-use Rattle.law_scripts.proofs.Written.{EachRow, looked, value_back, IsColumn, column_back}
+use Rattle.law_scripts.proofs.Written.{EachRow, looked, value_back, IsColumn, column_back, low_key, column_behind}
 
 -- ---- columns and groups
 
@@ -50,10 +50,6 @@ values_written (suc n) (w ∷ ws) h =
 
 -- ---- keys
 
--- each number of a pair is low
-abbrev low_key : ℕ → ℕ → ℕ × ℕ → Bool
-low_key left right pair = nat_lt pair.0 left && nat_lt pair.1 right
-
 pub keys_written : (n left right : ℕ) (ws : List Word) → left ≤ 8 → right ≤ 8 → Fills (replicate n (may LeftKey)) ws → list_all (low_key left right) (pairs (map number ws)) ≡ true → flat_map key_words (pairs (map number ws)) ≡ ws
 keys_written n left right [] a b h k = refl
 keys_written zero left right (w ∷ ws) a b h k = absurd h
@@ -80,10 +76,6 @@ each_aggregate = (inl (refl, λ c. refl), (inr (refl, λ c. refl), (inr (refl, �
 
 abbrev AreWritten : ℕ → Type 0
 AreWritten n = (ws : List Word) → Fills (replicate n (may Aggregate)) ws → flat_map agg_words (aggs_of ws) ≡ ws
-
--- the column that is named behind a word
-abbrev column_behind : List Word → ℕ
-column_behind ws = unwrap_or (column_of (nth [] ws 0)) 0
 
 with_column : (n : ℕ) → AreWritten n → (w : Word) (make : ℕ → Agg) (ws : List Word) → ((c : ℕ) → agg_words (make c) ≡ w ∷ column_word c ∷ []) → Fills (must Column ∷ replicate n (may Aggregate)) ws →
     flat_map agg_words (make (column_behind ws) ∷ aggs_of ws) ≡ w ∷ ws

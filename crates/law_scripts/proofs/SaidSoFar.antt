@@ -1,5 +1,5 @@
 -- What a script under way says so far, in the order of its canonical text, and how sources and clients add to it.
-use Rattle.std.proofs.Common.{◌≡◌, ℕ, zero, suc, ◌+◌, Bool, true, false, List, [], ◌∷◌, ◌++◌, map, length, Some, refl, sym, ap, subst, ◌∙◌, arith}
+use Rattle.std.proofs.Common.{◌≡◌, ℕ, zero, suc, ◌+◌, Bool, false, List, [], ◌∷◌, ◌++◌, map, length, Some, refl, sym, ap, subst, ◌∙◌, arith}
 use Rattle.std.specs.Prelude.{ℤ, flat_map, is_none, unwrap_or, if◌then◌else◌}
 use Rattle.std.proofs.lemmas.List.{append-nil, append_assoc, map-append, length-map}
 use Rattle.dpc_lists.specs.Lists.{is_nil, changed}
@@ -9,6 +9,7 @@ use Rattle.dpc_model.specs.declared.operators.OpSpec.{OpSpec}
 use Rattle.dpc_model.specs.declared.plans.SourceSpec.{SourceSpec}
 use Rattle.dpc_model.specs.declared.plans.FragSpec.{FragSpec}
 use Rattle.dpc_model.specs.declared.plans.ClientSpec.{ClientSpec}
+use Rattle.dpc_lists.proofs.Elements.{nil-of}
 use Rattle.script_rules.specs.Statements.{Statement, HeaderLine, SourceLine, LogLine, FragmentLine, OperatorLine, ClientLine, BeginLine}
 use Rattle.script_rules.specs.Drafts.{Draft, plan_of, names, source_names, frag_names, op_names, place_of_name, source_named, and_then, with_log}
 use Rattle.script_rules.specs.Reasons.{is_among, has_twice}
@@ -62,10 +63,6 @@ flat-push f (y ∷ xs) x rest = append_assoc (f y) (flat_map f (xs ++ x ∷ []))
 pub map-push : {X Y : Type 0} (f : X → Y) (xs : List X) (x : X) (rest : List Y) → map f (xs ++ x ∷ []) ++ rest ≡ map f xs ++ (f x ∷ rest)
 map-push f [] x rest = refl
 map-push f (y ∷ xs) x rest = ap (λ l. f y ∷ l) (map-push f xs x rest)
-
-pub nil_is : {X : Type 0} (xs : List X) → is_nil xs ≡ true → xs ≡ []
-nil_is [] h = refl
-nil_is (x ∷ xs) h = absurd cc
 
 -- a list that ends, its last element apart
 pub record Split {X : Type 0} (xs : List X) : Type 0 where

@@ -1,6 +1,6 @@
 -- Sources whose logs fit pass every test, each one followed by its log.
-use Rattle.std.proofs.Common.{◌≡◌, ℕ, ◌+◌, ◌≤◌, Bool, true, false, List, [], ◌∷◌, ◌++◌, map, length, Some, refl, sym, ap, subst, ◌∙◌, arith}
-use Rattle.std.specs.Prelude.{not, ◌&&◌, ◌==◌, nat_lt, is_none, unwrap_or, flat_map}
+use Rattle.std.proofs.Common.{◌≡◌, ℕ, ◌+◌, ◌≤◌, true, false, List, [], ◌∷◌, ◌++◌, map, length, Some, refl, sym, ap, subst, ◌∙◌, arith}
+use Rattle.std.specs.Prelude.{not, ◌==◌, nat_lt, is_none, unwrap_or, flat_map}
 use Rattle.std.proofs.lemmas.Bool.{and_parts, or_from, not_from_true, lt-ltb, le-ltb}
 use Rattle.std.proofs.lemmas.List.{append-nil, append_assoc, map_push, map-append, length-append, length-map}
 use Rattle.std.proofs.lemmas.List.Sums.{sum_by-append}
@@ -19,7 +19,8 @@ use Rattle.script_rules.proofs.Ordered.{itself, last_number}
 use Rattle.script_rules.proofs.Passing.{IsFine, Passes, all_said, said-append}
 use Rattle.script_rules.proofs.Headers.{declared}
 use Rattle.script_rules.proofs.Growing.{AreInTime}
-use Rattle.script_rules.proofs.Sources.{names_in, log_statement, ends_in, last_named, last_at, with_logs, times_of, entries_of, end_in, LogsFit, logs_said}
+use Rattle.script_rules.proofs.Sources.{names_in, log_statement, ends_in, last_named, last_at, with_logs, times_of, entries_of, end_in, LogsFit, logs_said, one_log, fits}
+use Rattle.script_rules.proofs.AllSources.{emptied}
 
 -- ---- two parts
 
@@ -28,9 +29,6 @@ passes_both d [] b h k = k
 passes_both d (s ∷ a) b h k = (h.0, passes_both (and_then d s) a b h.1 k)
 
 -- ---- a log line of the last source
-
-one_log : (h : List ℕ) (done : List SourceSpec) (s : SourceSpec) (t : Tuple) → is_among s.name (names_in done) ≡ false → and_then (ends_in h done s) (log_statement s.name t) ≡ ends_in h done (with_log t s)
-one_log h done s t fresh = logs_said h done s (t ∷ []) fresh
 
 -- ---- times
 
@@ -45,9 +43,6 @@ last_low (m ∷ []) n rest h = h.0.0
 last_low (m ∷ k ∷ ns) n rest h = last_low (k ∷ ns) n rest h.1
 
 -- ---- a source's log
-
-abbrev fits : ℕ → ℕ → Tuple → Bool
-fits end columns t = nat_lt t.stime end && length t.vals == columns
 
 -- how many entries there are behind one more
 entries_then : (done : List SourceSpec) (s : SourceSpec) (log : List Tuple) → entries_of (done ++ with_logs s log ∷ []) ≡ entries_of done + length log
@@ -104,9 +99,6 @@ pub record MayFollow (h : List ℕ) (done rest : List SourceSpec) : Type 0 where
 pub record AreHeard (h : List ℕ) (done rest : List SourceSpec) : Type 0 where
   pub passes : Passes (declared h done [] []) (flat_map source_statements rest)
   pub said : all_said (declared h done [] []) (flat_map source_statements rest) ≡ declared h (done ++ rest) [] []
-
-abbrev emptied : SourceSpec → SourceSpec
-emptied s = with_logs s []
 
 -- a source's own name is that of none before it
 fresh_name : (done : List SourceSpec) (s : SourceSpec) (rest : List SourceSpec) → has_twice (names_in (done ++ s ∷ rest)) ≡ false → is_among s.name (names_in done) ≡ false

@@ -18,7 +18,7 @@ use Rattle.script_rules.specs.Checking.{is_u64, is_formula_in_range}
 use Rattle.script_rules.proofs.Stacks.{behind}
 use Rattle.law_scripts.proofs.Aggregates.{behind_column, is_key}
 use Rattle.law_scripts.proofs.Filling.{Keeps, Fills}
-use Rattle.law_scripts.proofs.Written.{EachRow, looked, column_back}
+use Rattle.law_scripts.proofs.Written.{EachRow, looked, column_back, low_key, column_behind}
 use Rattle.law_scripts.proofs.Rewritten.{kept_column}
 
 -- ---- expressions
@@ -114,9 +114,6 @@ values_in_range (suc n) (w ∷ ws) h =
 
 -- ---- keys
 
-abbrev low_key : ℕ → ℕ → ℕ × ℕ → Bool
-low_key left right pair = nat_lt pair.0 left && nat_lt pair.1 right
-
 pub low_keys : (left right : ℕ) (keys : List (ℕ × ℕ)) → left ≤ 8 → right ≤ 8 → list_all (λ (pair : ℕ × ℕ). nat_lt pair.0 left && nat_lt pair.1 right) keys ≡ true → list_all is_key keys ≡ true
 low_keys left right [] a b h = refl
 low_keys left right (k ∷ keys) a b h =
@@ -149,10 +146,6 @@ pub record AreAggregates (n : ℕ) (ws : List Word) : Type 0 where
 
 abbrev pub AllAggregates : ℕ → Type 0
 AllAggregates n = (ws : List Word) → Fills (replicate n (may Aggregate)) ws → AreAggregates n ws
-
--- the column that is named behind a word
-abbrev column_behind : List Word → ℕ
-column_behind ws = unwrap_or (column_of (nth [] ws 0)) 0
 
 low_column : (w : Word) (o : Option ℕ) → column_of w ≡ o → unwrap_or o 0 < 8
 low_column w None e = omega arith

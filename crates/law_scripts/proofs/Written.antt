@@ -1,6 +1,6 @@
 -- What is read of the words of expressions, aggregates and keys is written by these words.
-use Rattle.std.proofs.Common.{◌≡◌, ℕ, zero, suc, ◌+◌, ◌-◌, ◌^◌, ◌<◌, ◌≤◌, true, false, List, [], ◌∷◌, ◌++◌, map, length, Option, Some, None, refl, sym, ap, subst, ◌∙◌, arith}
-use Rattle.std.specs.Prelude.{⊤, pos, negsuc, not, ◌&&◌, ◌==◌, nat_le, flat_map, min, codes, bytes_eq, unwrap_or, option_map, find, if◌then◌else◌}
+use Rattle.std.proofs.Common.{◌≡◌, ℕ, zero, suc, ◌+◌, ◌-◌, ◌^◌, ◌<◌, ◌≤◌, Bool, true, false, List, [], ◌∷◌, ◌++◌, map, length, Option, Some, None, refl, sym, ap, subst, ◌∙◌, arith}
+use Rattle.std.specs.Prelude.{⊤, pos, negsuc, not, ◌&&◌, ◌==◌, nat_lt, nat_le, flat_map, min, codes, bytes_eq, unwrap_or, option_map, find, if◌then◌else◌}
 use Rattle.std.specs.Fmt.{decimal, signed_decimal}
 use Rattle.std.proofs.Math.ListN.{replicate}
 use Rattle.std.proofs.lemmas.Fmt.{decimal_digit}
@@ -198,3 +198,12 @@ count_places w ws k =
 
 pub count_back : (w : Word) (ws : List Word) → Keeps Count w → Fills (opened Count w ws ++ []) ws → IsCounted w ws
 count_back w ws k h = counted_words w ws (not-false (is_numeral w) k.number) k (subst (λ p. Fills p ws) (count_places w ws k) h)
+
+-- ---- what is said of words at their places
+
+abbrev pub low_key : ℕ → ℕ → ℕ × ℕ → Bool
+low_key left right pair = nat_lt pair.0 left && nat_lt pair.1 right
+
+-- the column that is named behind a word
+abbrev pub column_behind : List Word → ℕ
+column_behind ws = unwrap_or (column_of (nth [] ws 0)) 0

@@ -5,8 +5,6 @@ use Rattle.dpc_lists.specs.Lists.{nth, changed, list_all, range_with_len}
 use Rattle.dpc_model.specs.Actors.{nodes_of}
 use Rattle.dpc_model.specs.Inlets.{same_sess, sess_of, take_batch}
 use Rattle.dpc_model.specs.Ports.{Port, sender_at, on_beat, without_ended_marks, port_after_tick, port_after_choice}
-use Rattle.dpc_model.specs.declared.batches.Taken.{Taken}
-use Rattle.dpc_model.specs.declared.batches.Taken.TheVariants.{Used, Old, Broken}
 use Rattle.dpc_model.specs.declared.messages.Event.{Event}
 use Rattle.dpc_model.specs.declared.messages.Message.{Message}
 use Rattle.dpc_model.specs.declared.messages.Message.TheVariants as message
@@ -15,12 +13,13 @@ use Rattle.dpc_model.specs.declared.plans.Plan.{Plan}
 use Rattle.node_model.specs.Mails.{Packet, Plain, SnapFor, Mail, Stepped}
 use Rattle.node_model.specs.Nodes.{Home, PlainNode, new_node, restarted_node}
 use Rattle.node_model.specs.NodeSteps.{packet_step, mill_step, tick_step}
-use Rattle.node_model.specs.Clients.{ClientState, client_stream, new_client, with_taken, client_message, client_packet, client_marks_ended, client_after_packet, client_after_batch, client_tick_step}
+use Rattle.node_model.specs.Clients.{ClientState, client_stream, new_client, client_message, client_packet, client_marks_ended, client_after_packet, client_after_batch, client_tick_step}
 use Rattle.world_model.specs.Worlds.{World, Envelope, Slot, home_of, node_place, slot_of, client_at, source_at, from, node_stepped, restart_slot, happens, run_from, run, new_world}
-use Rattle.law_safety.proofs.Tests.{both, both-of}
+use Rattle.dpc_lists.proofs.Truths.{both, both-of}
+use Rattle.node_model.proofs.Mailed.{kept-port}
 use Rattle.law_safety.proofs.EventCases.{AreCases, by-event}
+use Rattle.dpc_lists.proofs.Each.{Each}
 use Rattle.law_granting.specs.Taken.{subscribes_packet}
-use Rattle.law_granting.proofs.Each.{Each}
 use Rattle.law_granting.proofs.Moves.{chosen-moves, took-moves, beat-moves}
 use Rattle.law_granting.proofs.Slots.{got-sent}
 use Rattle.law_session_origins.specs.FirstSession.{FirstIsNeverAsked}
@@ -34,15 +33,10 @@ AnyTaken r s i = Unit {0}
 client-message-past : (r : ℕ) (m : Message) (x : ClientState) → is_port_past x.port ≡ true → is_port_past (client_message r m x).port ≡ true
 client-message-past r (message.Batch s index items) x h =
     elim (x.port.chosen == r) as (λ b. is_port_past (cond b (client_after_batch (take_batch x.port.inlet s index items) x) x).port ≡ true) [
-      | true ↦ subst (λ (p : Port). is_port_past p ≡ true) (sym (kept (take_batch x.port.inlet s index items).answer (record x { port = record x.port { inlet = (take_batch x.port.inlet s index items).after } })))
+      | true ↦ subst (λ (p : Port). is_port_past p ≡ true) (sym (kept-port (take_batch x.port.inlet s index items).answer (record x { port = record x.port { inlet = (take_batch x.port.inlet s index items).after } })))
           (moves-past AnyTaken x.port (record x.port { inlet = (take_batch x.port.inlet s index items).after }) (took-moves AnyTaken x.port s index items (λ e i. tt)) h)
       | false ↦ h
     ]
-  where
-    kept : (t : Taken) (z : ClientState) → (with_taken t z).port ≡ z.port
-    kept (Used items) z = refl
-    kept Old z = refl
-    kept Broken z = refl
 client-message-past r (message.Truncated s base) x h = h
 client-message-past r (message.Beat b) x h = moves-past AnyTaken x.port (on_beat r b x.port) (beat-moves AnyTaken x.port r b) h
 client-message-past r (message.Subscribe asked) x h = h

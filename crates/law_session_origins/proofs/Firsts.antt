@@ -13,6 +13,7 @@ use Rattle.law_safety.proofs.Growing.{event-grows}
 use Rattle.law_sessions.proofs.Asked.{brought as was-sent}
 use Rattle.std.proofs.lemmas.Bool.{or_left, or_right}
 use Rattle.dpc_lists.proofs.Elements.{get-first}
+use Rattle.dpc_lists.proofs.Somes.{some-same}
 use Rattle.law_sessions.specs.Openings.{packet_asks, asks_for, brings, is_first_packet, has_first, asked_next}
 use Rattle.law_granting.specs.Taken.{index_in, index_of, subscribes_packet}
 use Rattle.law_granting.proofs.Sending.{indexes, is_zero}
@@ -23,12 +24,9 @@ use Rattle.law_session_origins.specs.Asking.{IsSentFor}
 first-packet : (l : Channel) (p : Packet) (v : ℕ) → index_in l.sess p ≡ Some v → is_zero v ≡ true → is_first_packet l p ≡ true
 first-packet l (Plain (message.Batch u index items)) v e z =
     (elim (same_sess u l.sess) as (λ b. cond {A = Option ℕ} b (Some index) None ≡ Some v → (b && index == 0) ≡ true) [
-      | true ↦ λ f. let same : index ≡ v = some-is index v f in ap (λ (x : ℕ). x == 0) same ∙ z
+      | true ↦ λ f. let same : index ≡ v = some-same index v f in ap (λ (x : ℕ). x == 0) same ∙ z
       | false ↦ λ f. cc
     ]) e
-  where
-    some-is : (x y : ℕ) → ◌≡◌ {A = Option ℕ} (Some x) (Some y) → x ≡ y
-    some-is x y f = cc
 first-packet l (Plain (message.Subscribe asked)) v e z = cc
 first-packet l (Plain (message.Truncated u base)) v e z = cc
 first-packet l (Plain (message.Beat b)) v e z = cc

@@ -14,17 +14,11 @@ use Rattle.dpc_model.specs.declared.plans.Plan.{Plan}
 use Rattle.dpc_model.specs.declared.plans.StreamRef.{StreamRef}
 use Rattle.dpc_model.specs.declared.plans.StreamRef.TheVariants.{Source}
 use Rattle.node_model.specs.Nodes.{no_fragment}
-use Rattle.law_safety.proofs.Tests.{eq-test, lt-of, not-lt}
+use Rattle.dpc_lists.proofs.Truths.{eq-test, lt-of, not-lt, or-none}
+use Rattle.dpc_model.proofs.Roles.{numbers_where, node_at}
 use Rattle.law_granting.proofs.Asked.{same-or}
 use Rattle.law_granting.proofs.Sent.{apart-test}
 use Rattle.law_session_origins.specs.Numbers.{replicas_before, first_replica, replicas_at, replicas_reading, clients_reading}
-
--- the actors that pass a test, of these roles from number k on
-abbrev pub numbers : (Role → Bool) → ℕ → List Role → List ℕ
-numbers test k roles = map (λ (x : ℕ × Role). x.0) (filter (λ (x : ℕ × Role). test x.1) (enumerate_from k roles))
-
-abbrev pub role_at : ℕ × ℕ → Role
-role_at n = IsNode n.0 n.1
 
 -- the replicas of the fragments whose numbers pass, where the first fragment has number f, and its first replica is actor k
 abbrev blocks : (ℕ → Bool) → ℕ → ℕ → List FragSpec → List ℕ
@@ -32,41 +26,41 @@ blocks t k f [] = []
 blocks t k f (frag ∷ frags) = cond (t f) (range_with_len k frag.replicas) [] ++ blocks t (k + frag.replicas) (f + 1) frags
 
 module _ (test : Role → Bool) where
-  numbers-append : (k : ℕ) (xs ys : List Role) → numbers test k (xs ++ ys) ≡ numbers test k xs ++ numbers test (k + length xs) ys
+  numbers-append : (k : ℕ) (xs ys : List Role) → numbers_where test k (xs ++ ys) ≡ numbers_where test k xs ++ numbers_where test (k + length xs) ys
   numbers-append k [] ys = let none : k + 0 ≡ k = omega arith in rw none refl
   numbers-append k (x ∷ xs) ys =
       let next : k + suc (length xs) ≡ k + 1 + length xs = omega arith in
       let rest = numbers-append (k + 1) xs ys in
       rw next (elim (test x) as (λ b. map (λ (y : ℕ × Role). y.0) (cond b ((k, x) ∷ filter (λ (y : ℕ × Role). test y.1) (enumerate_from (k + 1) (xs ++ ys))) (filter (λ (y : ℕ × Role). test y.1) (enumerate_from (k + 1) (xs ++ ys))))
-      ≡ map (λ (y : ℕ × Role). y.0) (cond b ((k, x) ∷ filter (λ (y : ℕ × Role). test y.1) (enumerate_from (k + 1) xs)) (filter (λ (y : ℕ × Role). test y.1) (enumerate_from (k + 1) xs))) ++ numbers test (k + 1 + length xs) ys) [
+      ≡ map (λ (y : ℕ × Role). y.0) (cond b ((k, x) ∷ filter (λ (y : ℕ × Role). test y.1) (enumerate_from (k + 1) xs)) (filter (λ (y : ℕ × Role). test y.1) (enumerate_from (k + 1) xs))) ++ numbers_where test (k + 1 + length xs) ys) [
         | true ↦ ap (λ (ns : List ℕ). k ∷ ns) rest
         | false ↦ rest
       ])
 
   -- nobody passes
-  none-pass : {X : Type 0} (f : X → Role) (k : ℕ) (xs : List X) → ((x : X) → test (f x) ≡ false) → numbers test k (map f xs) ≡ []
+  none-pass : {X : Type 0} (f : X → Role) (k : ℕ) (xs : List X) → ((x : X) → test (f x) ≡ false) → numbers_where test k (map f xs) ≡ []
   none-pass f k [] h = refl
   none-pass f k (x ∷ xs) h = rw (h x) (none-pass f (k + 1) xs h)
 
   -- all pass
-  all-pass : (f : ℕ → Role) (k from count : ℕ) → ((x : ℕ) → test (f x) ≡ true) → numbers test k (map f (range_with_len from count)) ≡ range_with_len k count
+  all-pass : (f : ℕ → Role) (k from count : ℕ) → ((x : ℕ) → test (f x) ≡ true) → numbers_where test k (map f (range_with_len from count)) ≡ range_with_len k count
   all-pass f k from zero h = refl
   all-pass f k from (suc count) h = rw (h from) (ap (λ (ns : List ℕ). k ∷ ns) (all-pass f (k + 1) (from + 1) count h))
 
   -- ---- nodes, of whom those of some fragments pass
 
   module _ (t : ℕ → Bool) (nodes : (g r : ℕ) → test (IsNode g r) ≡ t g) where
-    blocks-are : (k f : ℕ) (frags : List FragSpec) → numbers test k (map role_at (nodes_from f frags)) ≡ blocks t k f frags
+    blocks-are : (k f : ℕ) (frags : List FragSpec) → numbers_where test k (map node_at (nodes_from f frags)) ≡ blocks t k f frags
     blocks-are k f [] = refl
     blocks-are k f (frag ∷ frags) =
         let own : List (ℕ × ℕ) = map (λ r. (f, r)) (range_with_len 0 frag.replicas) in
-        let many : length (map role_at own) ≡ frag.replicas = length-map own role_at ∙ length-map (range_with_len 0 frag.replicas) (λ r. (f, r)) ∙ length-range_with_len 0 frag.replicas in
-        ap (λ (roles : List Role). numbers test k roles) (map-append role_at own (nodes_from (f + 1) frags)) ∙ numbers-append k (map role_at own) (map role_at (nodes_from (f + 1) frags))
-        ∙ ap (λ (n : ℕ). numbers test k (map role_at own) ++ numbers test (k + n) (map role_at (nodes_from (f + 1) frags))) many
-        ∙ ap (λ (ns : List ℕ). numbers test k (map role_at own) ++ ns) (blocks-are (k + frag.replicas) (f + 1) frags)
+        let many : length (map node_at own) ≡ frag.replicas = length-map own node_at ∙ length-map (range_with_len 0 frag.replicas) (λ r. (f, r)) ∙ length-range_with_len 0 frag.replicas in
+        ap (λ (roles : List Role). numbers_where test k roles) (map-append node_at own (nodes_from (f + 1) frags)) ∙ numbers-append k (map node_at own) (map node_at (nodes_from (f + 1) frags))
+        ∙ ap (λ (n : ℕ). numbers_where test k (map node_at own) ++ numbers_where test (k + n) (map node_at (nodes_from (f + 1) frags))) many
+        ∙ ap (λ (ns : List ℕ). numbers_where test k (map node_at own) ++ ns) (blocks-are (k + frag.replicas) (f + 1) frags)
         ∙ ap (λ (ns : List ℕ). ns ++ blocks t (k + frag.replicas) (f + 1) frags) (block (t f) refl (range_with_len 0 frag.replicas) k 0 frag.replicas refl)
       where
-        block : (b : Bool) → t f ≡ b → (rs : List ℕ) (k from count : ℕ) → rs ≡ range_with_len from count → numbers test k (map role_at (map (λ r. (f, r)) rs)) ≡ cond (t f) (range_with_len k count) []
+        block : (b : Bool) → t f ≡ b → (rs : List ℕ) (k from count : ℕ) → rs ≡ range_with_len from count → numbers_where test k (map node_at (map (λ r. (f, r)) rs)) ≡ cond (t f) (range_with_len k count) []
         block b e rs k from zero same = rw same (by-none b e)
           where
             by-none : (b : Bool) → t f ≡ b → ◌≡◌ {A = List ℕ} [] (cond (t f) [] [])
@@ -111,11 +105,11 @@ blocks-reading s t k f (frag ∷ frags) h =
     (blocks-reading s t (k + frag.replicas) (f + 1) frags (λ i. let next : f + 1 + i ≡ f + suc i = omega arith in ap t next ∙ h (suc i)))
 
 clients-are : (s : StreamRef) (test : Role → Bool) (k n : ℕ) (clients : List ClientSpec) →
-    ((i : ℕ) → test (IsClient (n + i)) ≡ list_any (same_stream s) (nth [] (map (λ (client : ClientSpec). client.input ∷ []) clients) i)) → numbers test k (map IsClient (range_with_len n (length clients))) ≡ clients_reading s k clients
+    ((i : ℕ) → test (IsClient (n + i)) ≡ list_any (same_stream s) (nth [] (map (λ (client : ClientSpec). client.input ∷ []) clients) i)) → numbers_where test k (map IsClient (range_with_len n (length clients))) ≡ clients_reading s k clients
 clients-are s test k n [] h = refl
 clients-are s test k n (client ∷ clients) h =
     let none : n + 0 ≡ n = omega arith in
-    let only : (same_stream s client.input || false) ≡ same_stream s client.input = or-false (same_stream s client.input) in
+    let only : (same_stream s client.input || false) ≡ same_stream s client.input = or-none (same_stream s client.input) in
     let here : test (IsClient n) ≡ same_stream s client.input = ap (λ (c : ℕ). test (IsClient c)) (sym none) ∙ h 0 ∙ only in
     let rest = clients-are s test (k + 1) (n + 1) clients (λ i. let next : n + 1 + i ≡ n + suc i = omega arith in ap (λ (c : ℕ). test (IsClient c)) next ∙ h (suc i)) in
     rw here (elim (same_stream s client.input) as (λ b. map (λ (y : ℕ × Role). y.0) (cond b ((k, IsClient n) ∷ filter (λ (y : ℕ × Role). test y.1) (enumerate_from (k + 1) (map IsClient (range_with_len (n + 1) (length clients)))))
@@ -123,18 +117,14 @@ clients-are s test k n (client ∷ clients) h =
       | true ↦ ap (λ (ns : List ℕ). k ∷ ns) rest
       | false ↦ rest
     ])
-  where
-    or-false : (b : Bool) → (b || false) ≡ b
-    or-false true = refl
-    or-false false = refl
 
 -- ---- one source
 
-no-source : (s k c : ℕ) → s < k → numbers (sends_stream (Source s)) k (map IsSource (range_with_len k c)) ≡ []
+no-source : (s k c : ℕ) → s < k → numbers_where (sends_stream (Source s)) k (map IsSource (range_with_len k c)) ≡ []
 no-source s k zero low = refl
 no-source s k (suc c) low = let other : (s == k) ≡ false = grind (arith, common_steps) in rw other (no-source s (k + 1) c (omega (arith, low)))
 
-one-source : (s k c : ℕ) → k ≤ s → s < k + c → numbers (sends_stream (Source s)) k (map IsSource (range_with_len k c)) ≡ s ∷ []
+one-source : (s k c : ℕ) → k ≤ s → s < k + c → numbers_where (sends_stream (Source s)) k (map IsSource (range_with_len k c)) ≡ s ∷ []
 one-source s k zero low high = absurd (omega (arith, low, high))
 one-source s k (suc c) low high =
     elim (same-or s k) [
@@ -163,7 +153,7 @@ module _ (plan : Plan) where
   source_roles = map IsSource (range_with_len 0 (length plan.sources))
 
   abbrev pub node_roles : List Role
-  node_roles = map role_at (nodes_of plan)
+  node_roles = map node_at (nodes_of plan)
 
   abbrev pub client_roles : List Role
   client_roles = map IsClient (range_with_len 0 (length plan.clients))
@@ -172,15 +162,15 @@ module _ (plan : Plan) where
   many-sources = length-map (range_with_len 0 (length plan.sources)) IsSource ∙ length-range_with_len 0 (length plan.sources)
 
   pub many-before : length (source_roles ++ node_roles) ≡ first_replica plan (length plan.frags)
-  many-before = length-append source_roles node_roles ∙ ap (λ (n : ℕ). n + length node_roles) many-sources ∙ ap (λ (n : ℕ). length plan.sources + n) (length-map (nodes_of plan) role_at ∙ total-nodes 0 plan.frags)
+  many-before = length-append source_roles node_roles ∙ ap (λ (n : ℕ). n + length node_roles) many-sources ∙ ap (λ (n : ℕ). length plan.sources + n) (length-map (nodes_of plan) node_at ∙ total-nodes 0 plan.frags)
 
-  parts : (test : Role → Bool) → actors_where test plan ≡ (numbers test 0 source_roles ++ numbers test (length plan.sources) node_roles) ++ numbers test (first_replica plan (length plan.frags)) client_roles
+  parts : (test : Role → Bool) → actors_where test plan ≡ (numbers_where test 0 source_roles ++ numbers_where test (length plan.sources) node_roles) ++ numbers_where test (first_replica plan (length plan.frags)) client_roles
   parts test =
       let behind : 0 + length (source_roles ++ node_roles) ≡ first_replica plan (length plan.frags) = let many = many-before in omega (arith, many) in
       let after : 0 + length source_roles ≡ length plan.sources = let many = many-sources in omega (arith, many) in
       numbers-append test 0 (source_roles ++ node_roles) client_roles
-      ∙ ap (λ (ns : List ℕ). ns ++ numbers test (0 + length (source_roles ++ node_roles)) client_roles) (numbers-append test 0 source_roles node_roles ∙ ap (λ (n : ℕ). numbers test 0 source_roles ++ numbers test n node_roles) after)
-      ∙ ap (λ (n : ℕ). (numbers test 0 source_roles ++ numbers test (length plan.sources) node_roles) ++ numbers test n client_roles) behind
+      ∙ ap (λ (ns : List ℕ). ns ++ numbers_where test (0 + length (source_roles ++ node_roles)) client_roles) (numbers-append test 0 source_roles node_roles ∙ ap (λ (n : ℕ). numbers_where test 0 source_roles ++ numbers_where test n node_roles) after)
+      ∙ ap (λ (n : ℕ). (numbers_where test 0 source_roles ++ numbers_where test (length plan.sources) node_roles) ++ numbers_where test n client_roles) behind
 
   pub of-fragment : (test : Role → Bool) (f : ℕ) → ((s : ℕ) → test (IsSource s) ≡ false) → ((g r : ℕ) → test (IsNode g r) ≡ (f == g)) → ((c : ℕ) → test (IsClient c) ≡ false) → actors_where test plan ≡ range_with_len (first_replica plan f) (replicas_at plan f)
   of-fragment test f sources nodes clients =
@@ -193,7 +183,7 @@ module _ (plan : Plan) where
   of-source s low =
       let test = sends_stream (Source s) in
       let a = one-source s 0 (length plan.sources) (omega arith) (omega (arith, low)) in
-      let b = none-pass test role_at (length plan.sources) (nodes_of plan) (λ n. refl) in
+      let b = none-pass test node_at (length plan.sources) (nodes_of plan) (λ n. refl) in
       let c = none-pass test IsClient (first_replica plan (length plan.frags)) (range_with_len 0 (length plan.clients)) (λ x. refl) in
       parts test ∙ rw (a, b, c) refl
 
@@ -205,6 +195,6 @@ module _ (plan : Plan) where
       let b = blocks-are test t (λ g r. refl) (length plan.sources) 0 plan.frags ∙ blocks-reading s t (length plan.sources) 0 plan.frags (λ i. let same : 0 + i ≡ i = omega arith in ap t same) in
       let c = clients-are s test (first_replica plan (length plan.frags)) 0 plan.clients (λ i. let same : 0 + i ≡ i = omega arith in ap (λ (x : ℕ). test (IsClient x)) same) in
       parts test
-      ∙ ap (λ (ns : List ℕ). (ns ++ numbers test (length plan.sources) node_roles) ++ numbers test (first_replica plan (length plan.frags)) client_roles) a
-      ∙ ap (λ (ns : List ℕ). ns ++ numbers test (first_replica plan (length plan.frags)) client_roles) b
+      ∙ ap (λ (ns : List ℕ). (ns ++ numbers_where test (length plan.sources) node_roles) ++ numbers_where test (first_replica plan (length plan.frags)) client_roles) a
+      ∙ ap (λ (ns : List ℕ). ns ++ numbers_where test (first_replica plan (length plan.frags)) client_roles) b
       ∙ ap (λ (ns : List ℕ). replicas_reading s (length plan.sources) plan.frags ++ ns) c

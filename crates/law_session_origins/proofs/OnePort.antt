@@ -1,12 +1,11 @@
 -- Nobody reads a stream at two ports, and each sender has its port.
-use Rattle.std.proofs.Common.{◌≡◌, ℕ, zero, suc, ◌+◌, ◌≤◌, true, false, not, ◌==◌, List, [], ◌∷◌, map, refl, sym, ap, subst, ◌∙◌, arith, Option, Some, None, slice_get}
+use Rattle.std.proofs.Common.{◌≡◌, ℕ, zero, suc, ◌+◌, ◌≤◌, true, false, not, ◌==◌, List, [], ◌∷◌, refl, sym, ap, subst, ◌∙◌, arith, Option, Some, None, slice_get}
 use Rattle.std.proofs.lemmas.Grind.{common_steps}
-use Rattle.dpc_lists.specs.Lists.{nth, list_any, place_of}
+use Rattle.dpc_lists.specs.Lists.{list_any, place_of, IsRising}
 use Rattle.dpc_model.specs.Actors.{role_of, inputs_of, sends_stream, senders_of, same_stream}
 use Rattle.dpc_model.specs.Ports.{sender_from}
 use Rattle.dpc_model.specs.declared.actors.Role.{Role}
 use Rattle.dpc_model.specs.declared.actors.Role.TheVariants.{Source as IsSource, Node as IsNode, Client as IsClient, Nobody}
-use Rattle.dpc_model.specs.declared.plans.ClientSpec.{ClientSpec}
 use Rattle.dpc_model.specs.declared.plans.FragSpec.{FragSpec}
 use Rattle.dpc_model.specs.declared.plans.Plan.{Plan}
 use Rattle.dpc_model.specs.declared.plans.StreamRef.{StreamRef}
@@ -15,21 +14,18 @@ use Rattle.dpc_model.specs.declared.scripts.Script.{Script}
 use Rattle.node_model.specs.Nodes.{no_fragment}
 use Rattle.script_rules.specs.Checking.{IsChecked}
 use Rattle.script_rules.specs.Reading.{read}
-use Rattle.script_rules.specs.Facts.{reads_once, IsRising, HasForm}
+use Rattle.script_rules.specs.Facts.{reads_once, HasForm}
 use Rattle.script_rules.proofs.Forms.{checked_has_form, actors_are_in_order}
 use Rattle.script_rules.proofs.ReadForms.{reads_have_facts}
-use Rattle.law_safety.proofs.Tests.{both, eq-of, eq-test}
-use Rattle.law_safety.proofs.Numbering.{all-at, all-nth, any-at, actors-pass, nth-inputs}
-use Rattle.law_safety.proofs.Delivered.{place-nth}
-use Rattle.law_safety.proofs.Giving.{place-below}
+use Rattle.dpc_lists.proofs.Truths.{both, eq-of, eq-test}
+use Rattle.dpc_model.proofs.Alike.{same_stream-self}
+use Rattle.dpc_model.proofs.Roles.{only-first}
+use Rattle.law_safety.proofs.Numbering.{all-at, any-at, actors-pass, nth-inputs}
+use Rattle.law_safety.proofs.Senders.{sender_sends}
 use Rattle.law_session_origins.specs.Numbers.{ReadsOnce, FindsSenders}
 use Rattle.law_session_origins.proofs.FirstSession.{nth-all}
 
 -- ---- streams
-
-same-itself : (s : StreamRef) → same_stream s s ≡ true
-same-itself (Source s) = eq-test s s refl
-same-itself (Frag f) = eq-test f f refl
 
 -- an actor sends one stream
 sends-one : (s u : StreamRef) (role : Role) → sends_stream s role ≡ true → sends_stream u role ≡ true → s ≡ u
@@ -49,7 +45,7 @@ AreOnce streams = (i j : ℕ) (s : StreamRef) → slice_get streams i ≡ Some s
 
 twice : (x s : StreamRef) (streams : List StreamRef) (j : ℕ) → x ≡ s → reads_once (x ∷ streams) ≡ true → slice_get streams j ≡ Some s → ⊥
 twice x s streams j same h d =
-    let found = any-at (same_stream x) streams j s d (subst (λ (z : StreamRef). same_stream x z ≡ true) same (same-itself x)) in
+    let found = any-at (same_stream x) streams j s d (subst (λ (z : StreamRef). same_stream x z ≡ true) same (same_stream-self x)) in
     let none = (both (not (list_any (same_stream x) streams)) (reads_once streams) h).0 in
     let clash : false ≡ true = ap not (sym found) ∙ none in cc
 
@@ -59,13 +55,6 @@ once-apart (x ∷ streams) h zero zero s e d = refl
 once-apart (x ∷ streams) h zero (suc j) s e d = let same : x ≡ s = cc in absurd (twice x s streams j same h d)
 once-apart (x ∷ streams) h (suc i) zero s e d = let same : x ≡ s = cc in absurd (twice x s streams i same h e)
 once-apart (x ∷ streams) h (suc i) (suc j) s e d = ap suc (once-apart streams (both (not (list_any (same_stream x) streams)) (reads_once streams) h).1 i j s e d)
-
--- a client has one port
-only-first : (clients : List ClientSpec) (c i : ℕ) (s : StreamRef) → slice_get (nth [] (map (λ (client : ClientSpec). client.input ∷ []) clients) c) i ≡ Some s → i ≡ 0
-only-first [] c i s e = cc
-only-first (x ∷ clients) zero zero s e = refl
-only-first (x ∷ clients) zero (suc i) s e = cc
-only-first (x ∷ clients) (suc c) i s e = only-first clients c i s e
 
 form-reads-once : (s : Script) → HasForm s → ReadsOnce s.plan
 form-reads-once s form x = by-role (role_of s.plan x)
@@ -102,11 +91,6 @@ found-place k (x ∷ xs) (suc i) a h e =
     above : (a x : ℕ) → x + 1 ≤ a → (a == x) ≡ false
     above a x far = grind (arith, common_steps)
 
-sender-sends : (plan : Plan) (s : StreamRef) (a r : ℕ) → place_of (λ b. a == b) (senders_of plan s) ≡ Some r → sends_stream s (role_of plan a) ≡ true
-sender-sends plan s a r e =
-    subst (λ (x : ℕ). sends_stream s (role_of plan x) ≡ true) (place-nth a (senders_of plan s) r e)
-    (all-nth (λ (x : ℕ). sends_stream s (role_of plan x)) 0 (senders_of plan s) r (place-below (λ b. a == b) (senders_of plan s) r e) (actors-pass (sends_stream s) plan))
-
 found-from : (plan : Plan) (p : ℕ) (streams : List StreamRef) (q r a : ℕ) (s : StreamRef) → AreOnce streams → slice_get streams q ≡ Some s → slice_get (senders_of plan s) r ≡ Some a → sender_from p plan streams a ≡ Some (p + q, r)
 found-from plan p [] q r a s once e d = cc
 found-from plan p (u ∷ streams) zero r a s once e d =
@@ -123,7 +107,7 @@ found-from plan p (u ∷ streams) (suc q) r a s once e d =
         ap (λ (o : Option ℕ). elim o as (λ _. Option (ℕ × ℕ)) [ None ↦ sender_from (p + 1) plan streams a | Some x ↦ Some (p, x) ]) f ∙ rest ∙ ap (λ (x : ℕ). Some (x, r)) next
     behind rest (Some x) f =
         let sends = all-at (λ (y : ℕ). sends_stream s (role_of plan y)) (senders_of plan s) r a (actors-pass (sends_stream s) plan) d in
-        let same = sends-one u s (role_of plan a) (sender-sends plan u a x f) sends in
+        let same = sends-one u s (role_of plan a) (sender_sends plan u a x f) sends in
         let clash = once 0 (suc q) s (ap (λ (y : StreamRef). Some y) same) e in absurd (omega (arith, clash))
 
 pub finds-senders : (plan : Plan) → ReadsOnce plan → FindsSenders plan

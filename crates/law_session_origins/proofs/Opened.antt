@@ -1,5 +1,5 @@
 -- A node's session, but the first one, was opened by a subscription that its reader sent to it.
-use Rattle.std.proofs.Common.{◌≡◌, ℕ, zero, suc, ◌+◌, Bool, true, false, cond, ◌&&◌, ◌==◌, nat_lt, List, [], ◌∷◌, ◌++◌, map, length, drop, refl, sym, ap, subst, ◌∙◌, Option, Some, None, slice_get, ◌⊎◌, inl, inr}
+use Rattle.std.proofs.Common.{◌≡◌, ℕ, ◌+◌, Bool, true, false, cond, ◌&&◌, ◌==◌, nat_lt, List, [], ◌∷◌, ◌++◌, map, length, drop, refl, sym, ap, subst, ◌∙◌, Option, Some, None, slice_get, ◌⊎◌, inl, inr}
 use Rattle.std.proofs.Math.Seq.{drop-append_seam}
 use Rattle.dpc_lists.specs.Lists.{nth, changed, list_any}
 use Rattle.dpc_model.specs.Actors.{role_of}
@@ -16,7 +16,9 @@ use Rattle.node_model.specs.Nodes.{Home, PlainNode, own_readers, restarted_node}
 use Rattle.node_model.specs.NodeSteps.{packet_step, mill_step, tick_step}
 use Rattle.world_model.specs.Worlds.{World, Envelope, Slot, home_of, node_place, slot_of, from, node_stepped, restart_slot, happens, run_from}
 use Rattle.world_model.specs.SessionLaw.{Channel}
-use Rattle.law_safety.proofs.Tests.{both, both-of, eq-test}
+use Rattle.dpc_lists.proofs.Truths.{both, both-of, eq-test}
+use Rattle.dpc_model.proofs.Subs.{nth-none}
+use Rattle.dpc_lists.proofs.Somes.{some-same}
 use Rattle.law_safety.proofs.Emptied.{shape-of}
 use Rattle.law_safety.proofs.EventCases.{AreCases, by-event}
 use Rattle.law_safety.proofs.Growing.{event-grows}
@@ -51,9 +53,6 @@ module _ (w : World) (most a x f r k : ℕ) (s : Sess) (fine : IsFine w most) (l
   abbrev Goes : Event → World → Type 0
   Goes e next = OpensNow at w e next ⊎ NoneOpen next a k s
 
-  some-node : (y z : PlainNode) → ◌≡◌ {A = Option PlainNode} (Some y) (Some z) → y ≡ z
-  some-node y z e = cc
-
   still : (e : Event) (next : World) → slot_of next a ≡ slot_of w a → Goes e next
   still e next same = inr (λ n up. none n (sym (ap (λ (z : Slot). z.node) same) ∙ up))
 
@@ -64,7 +63,7 @@ module _ (w : World) (most a x f r k : ℕ) (s : Sess) (fine : IsFine w most) (l
   own-step e n t opens up sends told =
       let here = slot-here w most a f r (λ (slot : Slot). record slot { node = Some t.after }) fine line.role in
       elim (sends.on.fresh (none n up)) [
-        | inr closed ↦ inr (λ m now. subst (λ (z : PlainNode). NotOpen s (nth no_session z.subs k)) (some-node t.after m (sym (ap (λ (z : Slot). z.node) here) ∙ now)) closed)
+        | inr closed ↦ inr (λ m now. subst (λ (z : PlainNode). NotOpen s (nth no_session z.subs k)) (some-same t.after m (sym (ap (λ (z : Slot). z.node) here) ∙ now)) closed)
         | inl first ↦ inl (opens-by at w e a t.sends (node_stepped a t w) refl (subst (λ (z : ℕ). list_any is_zero (indexes (record { sender = a; reader = z; sess = s }) (map (from a) t.sends)) ≡ true) line.reader first) (told (it-opens opens refl first)))
       ]
     where
@@ -88,11 +87,6 @@ module _ (w : World) (most a x f r k : ℕ) (s : Sess) (fine : IsFine w most) (l
         | inr other ↦ still e (record w { nodes = changed (node_place w.plan y) g w.nodes }) (slot-there w y a p q f r g role line.role other)
       ]
 
-  nth-none : {X : Type 0} (ys : List X) (j : ℕ) → nth no_session (map (λ (_ : X). no_session) ys) j ≡ no_session
-  nth-none [] j = refl
-  nth-none (y ∷ ys) zero = refl
-  nth-none (y ∷ ys) (suc j) = nth-none ys j
-
   restarted-sub : (home : Home) (j : ℕ) → nth no_session (restarted_node home j).subs k ≡ no_session
   unfolding restarted_node
   restarted-sub home j = nth-none (own_readers home) k
@@ -105,7 +99,7 @@ module _ (w : World) (most a x f r k : ℕ) (s : Sess) (fine : IsFine w most) (l
       by-node None up d = elim (nat_lt (slot_of w a).last_inc j) as (λ b. (cond {A = Slot} b (record { last_inc = j; node = Some (restarted_node home j) }) (slot_of w a)).node ≡ Some m → NotOpen s (nth no_session m.subs k)) [
         | false ↦ λ g. none m g
         | true ↦ λ g.
-            let it = some-node (restarted_node home j) m g in
+            let it = some-same (restarted_node home j) m g in
             subst (λ (z : PlainNode). NotOpen s (nth no_session z.subs k)) it (subst (λ (z : Sub). NotOpen s z) (sym (restarted-sub home j)) (record { other = λ v i u. cc }))
       ] d
 

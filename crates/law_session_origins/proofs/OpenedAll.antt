@@ -1,5 +1,5 @@
 -- Every sender's session, but the first one, was opened by a subscription that its reader sent to it.
-use Rattle.std.proofs.Common.{◌≡◌, ℕ, zero, suc, ◌+◌, true, false, cond, ◌==◌, List, [], ◌∷◌, map, length, refl, sym, ap, subst, ◌∙◌, arith, Option, Some, None, slice_get, ◌⊎◌, inl, inr, unwrap_or}
+use Rattle.std.proofs.Common.{◌≡◌, ℕ, ◌+◌, true, false, cond, ◌==◌, List, length, refl, sym, ap, subst, ◌∙◌, arith, Option, Some, None, slice_get, inl, inr, unwrap_or}
 use Rattle.std.specs.Prelude.{IfSome}
 use Rattle.std.proofs.lemmas.Grind.{common_steps}
 use Rattle.std.proofs.lemmas.Option.{slice_get_within}
@@ -14,6 +14,9 @@ use Rattle.dpc_model.specs.declared.messages.Event.{Event}
 use Rattle.dpc_model.specs.declared.messages.Sess.{Sess}
 use Rattle.dpc_model.specs.declared.plans.Plan.{Plan}
 use Rattle.dpc_model.specs.declared.plans.StreamRef.TheVariants.{Frag}
+use Rattle.dpc_model.proofs.Alike.{same_sess-self}
+use Rattle.dpc_model.proofs.Subs.{nth-const}
+use Rattle.dpc_lists.proofs.Somes.{some-same}
 use Rattle.node_model.specs.Nodes.{Home, PlainNode, own_readers, first_session, new_node}
 use Rattle.node_model.specs.Sources.{SourceState, source_readers, new_source}
 use Rattle.world_model.specs.Worlds.{Slot, home_of, slot_of, source_at, no_source, run_from, run, new_world}
@@ -22,14 +25,13 @@ use Rattle.law_safety.specs.Plans.{IsCheckedPlan}
 use Rattle.law_safety.proofs.Distinct.{readers-distinct}
 use Rattle.law_safety.proofs.Emptied.{shape-of}
 use Rattle.law_safety.proofs.Happening.{node-here, source-here}
-use Rattle.law_safety.proofs.Histories.{same-self}
 use Rattle.law_safety.proofs.Law.{new_world-fine, new_world-plan, run-fine}
+use Rattle.law_safety.proofs.Growing.{run_from-plan}
 use Rattle.law_sessions.specs.Openings.{first_subscription, opened_by}
 use Rattle.law_granting.proofs.First.{source-below, sources-at, nth-opening, new-source-few, new-sources}
 use Rattle.law_granting.proofs.Running.{new-slot}
 use Rattle.law_granting.proofs.Sending.{NotOpen}
 use Rattle.law_granting.proofs.Sent.{IsNodeLine}
-use Rattle.law_granting.proofs.Taking.{run-plan}
 use Rattle.law_session_origins.specs.Asking.{IsSentFor, OpenedByAsking, OpenedOf, AreOpenedByAsking}
 use Rattle.law_session_origins.proofs.Opened.{NoneOpen, node-opened}
 use Rattle.law_session_origins.proofs.OpenedSources.{IsSourceLine, IsShut, source-opened}
@@ -51,11 +53,6 @@ opening-other s e = record { other = λ v m g. let same = sess-is v 0 m g in tur
 none-other : (s : Sess) → NotOpen s no_session
 none-other s = record { other = λ v m g. cc }
 
-nth-const : {X : Type 0} (z : Sub) (ys : List X) (k : ℕ) → (nth no_session (map (λ (_ : X). z) ys) k ≡ z) ⊎ (nth no_session (map (λ (_ : X). z) ys) k ≡ no_session)
-nth-const z [] k = inr refl
-nth-const z (y ∷ ys) zero = inl refl
-nth-const z (y ∷ ys) (suc k) = nth-const z ys k
-
 new-node-shut : (home : Home) (k : ℕ) (s : Sess) → same_sess s (sess_of 1 1) ≡ false → NotOpen s (nth no_session (new_node home).subs k)
 unfolding new_node
 new-node-shut home k s e =
@@ -67,10 +64,7 @@ new-node-shut home k s e =
 new-nodes-shut : (plan : Plan) (a f r k : ℕ) (s : Sess) → role_of plan a ≡ IsNode f r → same_sess s (sess_of 1 1) ≡ false → NoneOpen (new_world plan) a k s
 new-nodes-shut plan a f r k s role e n up =
     let slot = new-slot plan a f r role in
-    let it = some-node (new_node (home_of plan (f, r))) n (sym (ap (λ (z : Slot). z.node) slot) ∙ up) in subst (λ (z : PlainNode). NotOpen s (nth no_session z.subs k)) it (new-node-shut (home_of plan (f, r)) k s e)
-  where
-    some-node : (y z : PlainNode) → ◌≡◌ {A = Option PlainNode} (Some y) (Some z) → y ≡ z
-    some-node y z e = cc
+    let it = some-same (new_node (home_of plan (f, r))) n (sym (ap (λ (z : Slot). z.node) slot) ∙ up) in subst (λ (z : PlainNode). NotOpen s (nth no_session z.subs k)) it (new-node-shut (home_of plan (f, r)) k s e)
 
 new-source-shut : (plan : Plan) (u k : ℕ) (s : Sess) → same_sess s (sess_of 1 1) ≡ false → NotOpen s (nth no_session (new_source plan u).subs k)
 unfolding new_source
@@ -98,7 +92,7 @@ get-nth subs k sub e = ap (λ (o : Option Sub). unwrap_or o no_session) e
 -- what is open is not shut
 open-shut : (subs : List Sub) (k : ℕ) (sub : Sub) (u : Sess × ℕ) → slice_get subs k ≡ Some sub → tally_of sub ≡ Some u → NotOpen u.0 (nth no_session subs k) → ⊥
 open-shut subs k sub u there tally shut =
-    let k = (subst (λ (z : Sub). NotOpen u.0 z) (get-nth subs k sub there) shut).other u.0 u.1 tally in let clash : true ≡ false = sym (same-self u.0) ∙ k in cc
+    let k = (subst (λ (z : Sub). NotOpen u.0 z) (get-nth subs k sub there) shut).other u.0 u.1 tally in let clash : true ≡ false = sym (same_sess-self u.0) ∙ k in cc
 
 -- what was opened by a subscription, where every open session but the first was
 opened-at : (plan : Plan) (events : List Event) (a : ℕ) (readers : List ℕ) (subs : List Sub) →
@@ -126,7 +120,7 @@ module _ (plan : Plan) (events : List Event) (a : ℕ) (checked : IsCheckedPlan 
       let l : Channel = line_for x v.0 in
       let within = slice_get_within (source_at last u).subs k sub there in
       let few = (source-here last (1 + length events) u (run-fine start 1 events (new_world-fine plan checked)).fine).subs in
-      let of_plan : length (source_readers last.plan u) ≡ length (source_readers plan u) = ap (λ (p : Plan). length (source_readers p u)) (run-plan start events ∙ new_world-plan plan) in
+      let of_plan : length (source_readers last.plan u) ≡ length (source_readers plan u) = ap (λ (p : Plan). length (source_readers p u)) (run_from-plan start events ∙ new_world-plan plan) in
       let line : IsSourceLine plan a x u k = record { role = role; reader = refl; low = omega (arith, within, few, of_plan) } in
       elim (source-opened start events a x u k v.0 (first_subscription l) (subst (λ (p : Plan). IsSourceLine p a x u k) (sym (new_world-plan plan)) line) (inr (new-sources-shut plan a u k v.0 role other))) [
         | inl sent ↦ sent
@@ -142,7 +136,7 @@ module _ (plan : Plan) (events : List Event) (a : ℕ) (checked : IsCheckedPlan 
       let x = nth 0 (own_readers (home_of plan (f, r))) k in
       let l : Channel = line_for x v.0 in
       let within = slice_get_within n.subs k sub there in
-      let of_plan : last.plan ≡ plan = run-plan start events ∙ new_world-plan plan in
+      let of_plan : last.plan ≡ plan = run_from-plan start events ∙ new_world-plan plan in
       let role_last : role_of last.plan a ≡ IsNode f r = ap (λ (p : Plan). role_of p a) of_plan ∙ role in
       let good = node-here last (1 + length events) a f r n (run-fine start 1 events (new_world-fine plan checked)).fine role_last up in
       let many = (shape-of (home_of last.plan (f, r)) (1 + length events) n good.orderly.shape).subs in

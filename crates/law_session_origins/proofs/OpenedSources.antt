@@ -13,7 +13,7 @@ use Rattle.node_model.specs.Mails.{Stepped}
 use Rattle.node_model.specs.Sources.{SourceState, source_readers, source_emits, source_releases, source_packet_step, source_tick_step}
 use Rattle.world_model.specs.Worlds.{World, source_at, no_source, from, source_stepped, happens, run_from}
 use Rattle.world_model.specs.SessionLaw.{Channel}
-use Rattle.law_safety.proofs.Tests.{both, both-of, eq-test}
+use Rattle.dpc_lists.proofs.Truths.{both, both-of, eq-test}
 use Rattle.law_safety.proofs.EventCases.{AreCases, by-event}
 use Rattle.law_safety.proofs.Growing.{event-grows}
 use Rattle.law_safety.proofs.Numbering.{source-at as source-number}

@@ -26,10 +26,11 @@ use Rattle.node_model.specs.Nodes.{Home, PlainNode, streams_of, own_readers, nod
 use Rattle.node_model.specs.NodeSteps.{idle_step, then_do, peers_of, peer_watches, replica_number, give, given_by, given_stable, enter_step, on_subscribe, on_ask, on_snap_ask, reader_place, on_message, on_packet, with_marks_ended, packet_step, after_stable_buckets, after_last_correction, mill_step, after_clock, may_start_afresh, choice_step, ask_step, with_closed, with_failure, processing_upto, processing_step, acks_from, beats, announcing_step, serving_step, snapshot_ask_step, rest_of_tick, with_fresh_start, tick_step}
 use Rattle.node_model.specs.Sources.{SourceState, source_readers, source_shown, source_given, source_gives, source_emits, source_releases, source_subscribed, source_packet_step, source_beat, source_tick_step, bound_at}
 use Rattle.node_model.specs.Clients.{ClientState, client_stream, client_tick_step}
-use Rattle.law_safety.proofs.Tests.{both, both-of}
+use Rattle.dpc_lists.proofs.Truths.{both, both-of}
 use Rattle.law_safety.proofs.Numbering.{all-at}
+use Rattle.dpc_lists.proofs.Each.{Each, each-append}
 use Rattle.law_granting.specs.Taken.{subscribes_packet}
-use Rattle.law_granting.proofs.Each.{Each, each-append, each-sorted, each-to, each-batches, each-acks, each-beats}
+use Rattle.law_granting.proofs.Each.{each-sorted, each-to, each-batches, each-acks, each-beats}
 use Rattle.law_granting.proofs.Moves.{Moves, PortsMove, DeliversNext, NoneTaken, delivered-ports, milled-ports, ticked-ports}
 
 -- ---- ports

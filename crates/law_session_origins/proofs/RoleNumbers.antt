@@ -9,9 +9,10 @@ use Rattle.dpc_model.specs.declared.actors.Role.TheVariants.{Source as IsSource,
 use Rattle.dpc_model.specs.declared.plans.FragSpec.{FragSpec}
 use Rattle.dpc_model.specs.declared.plans.Plan.{Plan}
 use Rattle.dpc_model.specs.declared.plans.StreamRef.TheVariants.{Frag}
+use Rattle.dpc_model.proofs.Roles.{node_at}
 use Rattle.node_model.specs.Nodes.{no_fragment}
 use Rattle.law_session_origins.specs.Numbers.{replicas_before, first_replica, replicas_at, HasNumbers}
-use Rattle.law_session_origins.proofs.Numbered.{role_at, total-nodes, source_roles, node_roles, client_roles, many-sources, many-before, of-fragment, of-source, of-readers}
+use Rattle.law_session_origins.proofs.Numbered.{total-nodes, source_roles, node_roles, client_roles, many-sources, many-before, of-fragment, of-source, of-readers}
 
 -- ---- who has a number
 
@@ -29,31 +30,31 @@ nth-counted f k zero i low = absurd (omega (arith, low))
 nth-counted f k (suc n) zero low = let none : k + 0 ≡ k = omega arith in ap f (sym none)
 nth-counted f k (suc n) (suc i) low = let next : k + 1 + i ≡ k + suc i = omega arith in nth-counted f (k + 1) n i (omega (arith, low)) ∙ ap f next
 
-replica-is : (g k n i : ℕ) → i < n → nth Nobody (map role_at (map (λ r. (g, r)) (range_with_len k n))) i ≡ IsNode g (k + i)
+replica-is : (g k n i : ℕ) → i < n → nth Nobody (map node_at (map (λ r. (g, r)) (range_with_len k n))) i ≡ IsNode g (k + i)
 replica-is g k zero i low = absurd (omega (arith, low))
 replica-is g k (suc n) zero low = let none : k + 0 ≡ k = omega arith in ap (IsNode g) (sym none)
 replica-is g k (suc n) (suc i) low = let next : k + 1 + i ≡ k + suc i = omega arith in replica-is g (k + 1) n i (omega (arith, low)) ∙ ap (IsNode g) next
 
-many-replicas : (g n : ℕ) → length (map role_at (map (λ r. (g, r)) (range_with_len 0 n))) ≡ n
-many-replicas g n = length-map (map (λ r. (g, r)) (range_with_len 0 n)) role_at ∙ length-map (range_with_len 0 n) (λ r. (g, r)) ∙ length-range_with_len 0 n
+many-replicas : (g n : ℕ) → length (map node_at (map (λ r. (g, r)) (range_with_len 0 n))) ≡ n
+many-replicas g n = length-map (map (λ r. (g, r)) (range_with_len 0 n)) node_at ∙ length-map (range_with_len 0 n) (λ r. (g, r)) ∙ length-range_with_len 0 n
 
-node-is : (g i r : ℕ) (frags : List FragSpec) → r < (nth no_fragment frags i).replicas → nth Nobody (map role_at (nodes_from g frags)) (replicas_before i frags + r) ≡ IsNode (g + i) r
+node-is : (g i r : ℕ) (frags : List FragSpec) → r < (nth no_fragment frags i).replicas → nth Nobody (map node_at (nodes_from g frags)) (replicas_before i frags + r) ≡ IsNode (g + i) r
 node-is g i r [] low = absurd (omega (arith, low))
 node-is g zero r (frag ∷ frags) low =
     let own : List (ℕ × ℕ) = map (λ q. (g, q)) (range_with_len 0 frag.replicas) in
     let many = many-replicas g frag.replicas in
     let here : 0 + r ≡ r = omega arith in
     let none : g + 0 ≡ g = omega arith in
-    ap (λ (roles : List Role). nth Nobody roles (0 + r)) (map-append role_at own (nodes_from (g + 1) frags)) ∙ nth-first (map role_at own) (map role_at (nodes_from (g + 1) frags)) (0 + r) (omega (arith, many, low))
+    ap (λ (roles : List Role). nth Nobody roles (0 + r)) (map-append node_at own (nodes_from (g + 1) frags)) ∙ nth-first (map node_at own) (map node_at (nodes_from (g + 1) frags)) (0 + r) (omega (arith, many, low))
     ∙ replica-is g 0 frag.replicas (0 + r) (omega (arith, low)) ∙ ap (λ (x : ℕ). IsNode g (0 + x)) here ∙ ap (λ (x : ℕ). IsNode g x) here ∙ ap (λ (x : ℕ). IsNode x r) (sym none)
 node-is g (suc i) r (frag ∷ frags) low =
     let own : List (ℕ × ℕ) = map (λ q. (g, q)) (range_with_len 0 frag.replicas) in
     let many = many-replicas g frag.replicas in
     let far : frag.replicas + replicas_before i frags + r ≡ frag.replicas + (replicas_before i frags + r) = omega arith in
     let next : g + 1 + i ≡ g + suc i = omega arith in
-    ap (λ (roles : List Role). nth Nobody roles (frag.replicas + replicas_before i frags + r)) (map-append role_at own (nodes_from (g + 1) frags))
-    ∙ ap (λ (j : ℕ). nth Nobody (map role_at own ++ map role_at (nodes_from (g + 1) frags)) j) far
-    ∙ nth-second (map role_at own) (map role_at (nodes_from (g + 1) frags)) frag.replicas (replicas_before i frags + r) (sym many)
+    ap (λ (roles : List Role). nth Nobody roles (frag.replicas + replicas_before i frags + r)) (map-append node_at own (nodes_from (g + 1) frags))
+    ∙ ap (λ (j : ℕ). nth Nobody (map node_at own ++ map node_at (nodes_from (g + 1) frags)) j) far
+    ∙ nth-second (map node_at own) (map node_at (nodes_from (g + 1) frags)) frag.replicas (replicas_before i frags + r) (sym many)
     ∙ node-is (g + 1) i r frags low ∙ ap (λ (x : ℕ). IsNode x r) next
 
 before-within : (i r : ℕ) (frags : List FragSpec) → r < (nth no_fragment frags i).replicas → replicas_before i frags + r < replicas_before (length frags) frags
@@ -74,7 +75,7 @@ module _ (plan : Plan) where
   node-here f r low =
       let many = many-sources plan in
       let sum = length-append (source_roles plan) (node_roles plan) in
-      let nodes : length (node_roles plan) ≡ replicas_before (length plan.frags) plan.frags = length-map (nodes_of plan) role_at ∙ total-nodes 0 plan.frags in
+      let nodes : length (node_roles plan) ≡ replicas_before (length plan.frags) plan.frags = length-map (nodes_of plan) node_at ∙ total-nodes 0 plan.frags in
       let within = before-within f r plan.frags low in
       let far : first_replica plan f + r ≡ length plan.sources + (replicas_before f plan.frags + r) = omega arith in
       let same : 0 + f ≡ f = omega arith in

@@ -1,5 +1,5 @@
 -- Session (1, 1) is not opened again.
-use Rattle.std.proofs.Common.{◌≡◌, ℕ, zero, suc, ◌+◌, ◌<◌, ◌≤◌, Bool, true, false, ◌&&◌, ◌==◌, nat_lt, nat_le, List, [], ◌∷◌, ◌++◌, length, refl, sym, ap, ◌∙◌, arith, Option, Some, None, slice_get, ◌⊎◌, inl, inr, unwrap_or}
+use Rattle.std.proofs.Common.{◌≡◌, ℕ, ◌+◌, ◌<◌, ◌≤◌, Bool, true, false, nat_lt, List, [], ◌∷◌, length, refl, sym, ap, ◌∙◌, arith, Option, Some, None, ◌⊎◌, inl, inr, unwrap_or}
 use Rattle.std.proofs.lemmas.Option.{slice_get_past}
 use Rattle.dpc_lists.specs.Lists.{nth}
 use Rattle.dpc_model.specs.Inlets.{same_sess, sess_of}
@@ -14,22 +14,20 @@ use Rattle.dpc_model.specs.declared.messages.Subscribe.{Subscribe}
 use Rattle.dpc_model.specs.declared.plans.Plan.{Plan}
 use Rattle.dpc_model.specs.declared.plans.StreamRef.TheVariants.{Frag}
 use Rattle.node_model.specs.Nodes.{PlainNode, own_readers}
-use Rattle.node_model.specs.Sources.{SourceState, source_readers, source_emits, source_releases, source_packet_step, source_tick_step}
+use Rattle.node_model.specs.Sources.{SourceState, source_readers}
 use Rattle.world_model.specs.Worlds.{World, home_of, slot_of, source_at, no_source, happens, run_from, run, new_world}
-use Rattle.world_model.specs.Orderly.{is_source_orderly}
 use Rattle.world_model.specs.SessionLaw.{Channel}
-use Rattle.dpc_model.specs.Streams.{count_below}
-use Rattle.dpc_model.specs.Fragments.{log_of}
 use Rattle.law_safety.specs.Plans.{IsCheckedPlan}
-use Rattle.law_safety.proofs.Tests.{both, eq-of, lt-of, not-lt}
-use Rattle.law_safety.proofs.EventCases.{AreCases, by-event}
-use Rattle.law_safety.proofs.Worlding.{sources-at}
-use Rattle.dpc_lists.proofs.Elements.{length-changed}
+use Rattle.dpc_lists.proofs.Truths.{lt-of, not-lt}
+use Rattle.law_safety.proofs.EventCases.{by-event}
+use Rattle.world_model.proofs.Running.{run_from-append}
 use Rattle.law_safety.proofs.Distinct.{readers-distinct}
 use Rattle.law_safety.proofs.Emptied.{shape-of}
 use Rattle.law_safety.proofs.Growing.{event-grows}
 use Rattle.law_safety.proofs.Happening.{IsFine, node-here, source-here, happens-next}
 use Rattle.law_safety.proofs.Law.{new_world-fine, run-fine}
+use Rattle.law_sessions.proofs.Worlds.{same-many}
+use Rattle.law_sessions.proofs.Sources.{source-many}
 use Rattle.law_granting.proofs.Sending.{NotOpen}
 use Rattle.law_session_origins.specs.FirstSession.{is_first_link, node_keeps, role_keeps, keeps_first, FirstStaysShut}
 use Rattle.law_session_origins.proofs.FirstSession.{IsPastWorld, event-past, new_world-past, run-past}
@@ -64,38 +62,6 @@ low-or-past subs k many few = by-value (nat_lt k many) refl
     by-value false e = let high = not-lt k many e in inr (ap (λ (o : Option Sub). unwrap_or o no_session) (slice_get_past subs k (omega (arith, high, few))))
 
 -- ---- the subs of a source
-
-get-there : {X : Type 0} (d : X) (k : ℕ) (xs : List X) → k < length xs → slice_get xs k ≡ Some (nth d xs k)
-get-there d k [] h = absurd (omega (arith, h))
-get-there d zero (x ∷ xs) h = refl
-get-there d (suc k) (x ∷ xs) h = get-there d k xs (omega (arith, h))
-
-source-many : (w : World) (most u : ℕ) → IsFine w most → u < length w.sources → length (source_at w u).subs ≡ length (source_readers w.plan u)
-source-many w most u fine within =
-    let zero_on : 0 + u ≡ u = omega arith in
-    let x = source_at w u in
-    let orderly : is_source_orderly w.plan u x ≡ true = rw zero_on at (sources-at w.plan 0 u w.sources x fine.sources (get-there no_source u w.sources within)) in
-    eq-of (length x.subs) (length (source_readers w.plan u))
-    (both (nat_le x.bound w.plan.end && nat_le (count_below (log_of w.plan u) x.bound) x.emitted && nat_le x.emitted (length (log_of w.plan u))) (length x.subs == length (source_readers w.plan u)) orderly).1
-
--- there are as many sources after an event
-same-many : (w : World) → AreCases w (λ e next. length next.sources ≡ length w.sources)
-same-many w =
-    record {
-      still = λ e. refl;
-      wires = λ e cuts. refl;
-      emitted = λ a s t role. length-changed a (λ _. (source_emits w.plan s t (source_at w s)).after) w.sources;
-      released = λ a s t role. length-changed a (λ _. (source_releases w.plan s t (source_at w s)).after) w.sources;
-      source_took = λ k s e there can role. length-changed e.to (λ _. (source_packet_step w.plan s e.sender e.packet (source_at w s)).after) w.sources;
-      source_ticks = λ a s now role. length-changed a (λ _. (source_tick_step w.plan s now (source_at w s)).after) w.sources;
-      crashed = λ a f r role. refl;
-      restarted = λ a i f r role. refl;
-      node_took = λ k f r e n there can role up. refl;
-      node_ticked = λ a now f r n role up clock. refl;
-      node_milled = λ a r f q n role up can. refl;
-      client_took = λ k c e there can role. refl;
-      client_ticks = λ a c now role. refl;
-    }
 
 -- a source that is not there keeps no session
 no-subs : (w : World) (u k : ℕ) → length w.sources ≤ u → nth no_session (source_at w u).subs k ≡ no_session
@@ -159,12 +125,8 @@ run-shut : (w : World) (most a k : ℕ) (events : List Event) → IsFine w most 
 run-shut w most a k [] fine past h = h
 run-shut w most a k (e ∷ events) fine past h = run-shut (happens w e) (most + 1) a k events (happens-next w most e fine).fine (event-past w e past) (event-shut w most a k e fine past h)
 
-run-then : (w : World) (events more : List Event) → run_from w (events ++ more) ≡ run_from (run_from w events) more
-run-then w [] more = refl
-run-then w (e ∷ events) more = run-then (happens w e) events more
-
 pub stays-shut : (plan : Plan) (events more : List Event) → IsCheckedPlan plan → FirstStaysShut plan events more
 unfolding run
 stays-shut plan events more checked a k shut =
-    ap (λ (w : World). keeps_first w a k) (run-then (new_world plan) events more)
+    ap (λ (w : World). keeps_first w a k) (run_from-append (new_world plan) events more)
     ∙ run-shut (run_from (new_world plan) events) (1 + length events) a k more (run-fine (new_world plan) 1 events (new_world-fine plan checked)).fine (run-past (new_world plan) events (new_world-past plan)) shut

@@ -16,15 +16,14 @@ use Rattle.world_model.specs.Worlds.{World, Envelope, client_at, happens, run_fr
 use Rattle.world_model.specs.Safe.{EachStep}
 use Rattle.world_model.specs.Orderly.{items_carried}
 use Rattle.law_safety.specs.Plans.{IsCheckedPlan}
-use Rattle.law_safety.proofs.Growing.{event-grows}
+use Rattle.law_safety.proofs.Growing.{event-grows, run-plan}
 use Rattle.law_safety.proofs.Law.{new_world-plan}
 use Rattle.law_safety.proofs.Carried.{there}
-use Rattle.law_safety.proofs.Tests.{lt-of, not-lt}
+use Rattle.dpc_lists.proofs.Truths.{lt-of, not-lt}
 use Rattle.dpc_lists.proofs.Elements.{get-drop}
+use Rattle.world_model.proofs.Running.{new_world-none}
 use Rattle.law_sessions.specs.Laws.{TentativesStand, tentative_output, NoneInvented}
 use Rattle.law_sessions.proofs.Invented.{none-invented}
-use Rattle.law_granting.proofs.Prefix.{new_world-none}
-use Rattle.law_granting.proofs.Taking.{run-plan}
 use Rattle.law_session_origins.specs.Standing.{takes, StoodThen, CameStanding, TakenStood, AllTakenStood}
 use Rattle.law_session_origins.proofs.Takings.{among, none-there, Comes, event-comes}
 
@@ -123,10 +122,6 @@ stood-run plan events k x t checked found c =
       stood = subst (λ (p : Plan). Contains (tentative_output (happens (run_from (new_world plan) r.before) r.event) x.sender (role_of p x.sender)) t) (new_world-plan plan) r.stood;
     }
 
-run-of : (plan : Plan) (events : List Event) → (run plan events).plan ≡ plan
-unfolding run
-run-of plan events = run-plan (new_world plan) events ∙ new_world-plan plan
-
 -- what was taken anew
 added : (w : World) (e : Event) (c : ℕ) (i : Item) → Contains (takes w e c) i → Comes w e c i
 added w e c i inside =
@@ -140,7 +135,7 @@ came-standing plan events e c t checked k =
       delivers = k.delivers;
       envelope = k.envelope;
       there = k.found;
-      to = ap (λ (p : Plan). role_of p k.envelope.to) (sym (run-of plan events)) ∙ k.to;
+      to = ap (λ (p : Plan). role_of p k.envelope.to) (sym (run-plan plan events)) ∙ k.to;
       carried = k.carried;
       stood = stood-run plan events k.number k.envelope t checked k.found k.carried;
     }

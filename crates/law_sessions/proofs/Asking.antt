@@ -16,11 +16,12 @@ use Rattle.dpc_model.specs.declared.plans.StreamRef.{StreamRef}
 use Rattle.node_model.specs.Mails.{Plain, Mail, mail}
 use Rattle.world_model.specs.Worlds.{Envelope, from}
 use Rattle.world_model.specs.SessionLaw.{carried, LeavesView}
-use Rattle.law_safety.proofs.Tests.{eq-of, eq-test}
-use Rattle.dpc_lists.proofs.Elements.{length-changed}
-use Rattle.law_safety.proofs.Pointwise.{get-changed}
+use Rattle.dpc_lists.proofs.Truths.{eq-of, eq-test}
+use Rattle.dpc_lists.proofs.Elements.{length-changed, get-changed, get-there}
+use Rattle.dpc_lists.proofs.Somes.{some-same}
+use Rattle.dpc_model.proofs.Alike.{same_sess-self}
 use Rattle.law_safety.proofs.Views.{IsView, first-law}
-use Rattle.law_safety.proofs.Histories.{HoldsSession, AreDistinct, same-self, newer-other, newer-kept}
+use Rattle.law_safety.proofs.Histories.{HoldsSession, AreDistinct, newer-other, newer-kept}
 use Rattle.law_sessions.specs.Openings.{asks_for, has_first}
 use Rattle.law_sessions.proofs.Keeping.{HeldBy, line_of, mailed, held-same, no-more}
 
@@ -38,11 +39,6 @@ changed-other zero zero f (x ∷ xs) e = cc
 changed-other zero (suc j) f (x ∷ xs) e = refl
 changed-other (suc i) zero f (x ∷ xs) e = refl
 changed-other (suc i) (suc j) f (x ∷ xs) e = let less : (i == j) ≡ false = grind (arith, common_steps) in changed-other i j f xs less
-
-get-there : {X : Type 0} (d : X) (k : ℕ) (xs : List X) → k < length xs → slice_get xs k ≡ Some (nth d xs k)
-get-there d k [] h = absurd (omega (arith, h))
-get-there d zero (x ∷ xs) h = refl
-get-there d (suc k) (x ∷ xs) h = get-there d k xs (omega (arith, h))
 
 module _ (plan : Plan) (s : StreamRef) (a : ℕ) (readers : List ℕ) (x : Shown) (asked : Subscribe) (k : ℕ) where
   abbrev pub came : Envelope
@@ -95,7 +91,7 @@ module _ (plan : Plan) (s : StreamRef) (a : ℕ) (readers : List ℕ) (x : Shown
       at-own e =
           let mine : (a == a) ≡ true = eq-test a a refl in
           let here : (nth 0 readers k == nth 0 readers k) ≡ true = eq-test (nth 0 readers k) (nth 0 readers k) refl in
-          rw (mine, here, same-self asked.sess, held.newer asked.sess e) (subst (λ (xs : List Item). LeavesView plan s asked x xs) (sym (append-nil (first_batch x asked))) (first-law plan s asked x view))
+          rw (mine, here, same_sess-self asked.sess, held.newer asked.sess e) (subst (λ (xs : List Item). LeavesView plan s asked x xs) (sym (append-nil (first_batch x asked))) (first-law plan s asked x view))
 
       by-tally : is_newer_than_kept asked.sess sub.kept ≡ true → (l : Sess × ℕ) → ◌≡◌ {A = Option (Sess × ℕ)} (Some (asked.sess, 1)) (Some l) →
           LeavesView plan s (opens a readers (mail (nth 0 readers k) first-mail ∷ []) came q k l.0) x (h l.0 ++ mailed a readers (mail (nth 0 readers k) first-mail ∷ []) k l.0)
@@ -128,9 +124,6 @@ module _ (plan : Plan) (s : StreamRef) (a : ℕ) (readers : List ℕ) (x : Shown
           let here : t.after ≡ sub = some-same t.after sub (sym now ∙ ap (λ (i : ℕ). slice_get (changed k (λ _. t.after) subs) i) same ∙ e) in
           subst (λ (y : Sub). HoldsSession plan s x (λ u. h j u ++ mailed a readers ms j u) (opens a readers ms came q j) y) here
           (subst (λ (i : ℕ). HoldsSession plan s x (λ u. h i u ++ mailed a readers ms i u) (opens a readers ms came q i) t.after) same (own-held (h k) q (nth d subs k) view (held k (nth d subs k) there)))
-        where
-          some-same : (y z : Sub) → Some y ≡ Some z → y ≡ z
-          some-same y z f = cc
 
       at-other : (k == j) ≡ false → HoldsSession plan s x (λ u. h j u ++ mailed a readers ms j u) (opens a readers ms came q j) sub
       at-other f =

@@ -20,6 +20,7 @@ use Rattle.dpc_model.specs.declared.messages.Message.TheVariants as message
 use Rattle.dpc_model.specs.declared.plans.StreamRef.TheVariants.{Frag}
 use Rattle.node_model.specs.Mails.{Snap, Packet, Plain, SnapFor, mail, Stepped}
 use Rattle.dpc_model.specs.NodeStates.{is_up_failure}
+use Rattle.dpc_lists.proofs.Places.{place-within, place-nth}
 use Rattle.node_model.specs.Nodes.{Home, PlainNode, streams_of, own_readers, shown}
 use Rattle.node_model.specs.NodeSteps.{idle_step, with_port, after_taking, with_stamps_of, on_batch, on_subscribe, on_truncation, after_loss, on_upstream_beat, on_peer_beat, on_ack, on_ask, on_grant, enter_step, on_snap_ask, on_snap, after_adoption, reader_place, replica_number, on_message, on_packet, with_marks_ended, packet_step}
 use Rattle.world_model.specs.Worlds.{Envelope, from}
@@ -29,8 +30,7 @@ use Rattle.world_model.specs.Orderly.{packet_way, carries_fitting}
 use Rattle.law_safety.specs.Plans.{IsPlace}
 use Rattle.law_safety.proofs.Frames.{IsGood, marks-good}
 use Rattle.law_safety.proofs.Mailing.{IsActor}
-use Rattle.law_safety.proofs.Giving.{place-below}
-use Rattle.law_safety.proofs.Delivered.{place-nth, recovers-or, on_batch-good, on_truncation-good, on_upstream_beat-good, on_peer_beat-good, on_ack-good, on_ask-good}
+use Rattle.law_safety.proofs.Delivered.{recovers-or, on_batch-good, on_truncation-good, on_upstream_beat-good, on_peer_beat-good, on_ack-good, on_ask-good}
 use Rattle.law_safety.proofs.NodeViews.{shown-view, shown-subs}
 use Rattle.law_safety.proofs.Histories.{AreDistinct}
 use Rattle.law_sessions.specs.Openings.{packet_asks, asks_for, has_first}
@@ -148,7 +148,7 @@ subscribe-takes home a most sender asked n place distinct g = by-recovering n.re
         let d : Sub = record { kept = None; is_open = false; batches = 0 } in
         let t = answer_to (shown home n) (nth d n.subs k) asked in
         let subs = changed k (λ _. t.after) n.subs in
-        let low = place-below (λ b. sender == b) readers k f in
+        let low = place-within (λ b. sender == b) readers k f in
         let here : nth 0 readers k ≡ sender = place-nth sender readers k f in
         let server = server-of home most n distinct g in
         let taken = asked-held home.plan (Frag home.frag) a readers (shown home n) asked k d n.subs h q distinct server.few low (shown-view home most n place up g) held in

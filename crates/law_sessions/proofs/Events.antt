@@ -24,7 +24,7 @@ use Rattle.world_model.specs.Worlds.{World, Envelope, Slot, home_of, node_place,
 use Rattle.world_model.specs.SessionLaw.{Channel, carried, goes_down, sent_after}
 use Rattle.world_model.specs.Safe.{IsTruePacket}
 use Rattle.world_model.specs.Orderly.{is_fitting, packet_way, carries_fitting}
-use Rattle.law_safety.proofs.Tests.{both, le-of, eq-of}
+use Rattle.dpc_lists.proofs.Truths.{both, le-of, eq-of}
 use Rattle.law_safety.proofs.Numbering.{all-at}
 use Rattle.law_safety.proofs.Worlding.{true-at, actor-at}
 use Rattle.law_safety.proofs.Happening.{IsFine, happens-next, node-here, source-here, may-mill}

@@ -23,7 +23,7 @@ use Rattle.world_model.specs.Worlds.{World, Envelope, Slot, home_of, from, slot_
 use Rattle.world_model.specs.Safe.{EachStep}
 use Rattle.world_model.specs.Orderly.{items_carried}
 use Rattle.law_safety.specs.Plans.{IsCheckedPlan}
-use Rattle.law_safety.proofs.Tests.{all-append}
+use Rattle.dpc_lists.proofs.Truths.{all-append}
 use Rattle.law_safety.proofs.Happening.{IsFine, happens-next}
 use Rattle.law_safety.proofs.Law.{new_world-fine}
 use Rattle.law_sessions.specs.Laws.{TentativesStand, tentative_output, NoneInvented, NoneIsInvented}

@@ -1,8 +1,8 @@
 -- What a sender's step leaves of its readers' sessions.
-use Rattle.std.proofs.Common.{◌≡◌, ℕ, zero, suc, ◌≤◌, Bool, true, false, cond, ◌&&◌, ◌==◌, List, [], ◌∷◌, ◌++◌, map, length, refl, sym, ap, subst, ◌∙◌, Option, Some, None, slice_get, append_assoc}
+use Rattle.std.proofs.Common.{◌≡◌, ℕ, zero, suc, ◌≤◌, Bool, true, false, cond, ◌&&◌, ◌==◌, List, [], ◌∷◌, ◌++◌, map, length, refl, sym, ap, subst, ◌∙◌, Option, Some, slice_get, append_assoc}
 use Rattle.std.proofs.lemmas.List.{append-nil}
 use Rattle.dpc_lists.specs.Lists.{nth, list_all}
-use Rattle.dpc_model.specs.Sessions.{Shown, tally_of, with_batch, with_batches, batches_of, is_newer_than_kept}
+use Rattle.dpc_model.specs.Sessions.{Shown, with_batch, with_batches, batches_of, is_newer_than_kept}
 use Rattle.dpc_model.specs.declared.sessions.Sub.{Sub}
 use Rattle.dpc_model.specs.declared.tuples.Item.{Item}
 use Rattle.dpc_model.specs.declared.messages.Sess.{Sess}
@@ -14,7 +14,8 @@ use Rattle.dpc_model.specs.declared.plans.StreamRef.{StreamRef}
 use Rattle.node_model.specs.Mails.{Packet, Plain, SnapFor, Mail, to_readers}
 use Rattle.world_model.specs.Worlds.{from}
 use Rattle.world_model.specs.SessionLaw.{Channel, packet_items, carried, LeavesView}
-use Rattle.law_safety.proofs.Tests.{both}
+use Rattle.dpc_lists.proofs.Truths.{both}
+use Rattle.dpc_model.proofs.Subs.{shut-tally}
 use Rattle.law_safety.proofs.Histories.{HoldsSession, AreDistinct, Carries, gave-held}
 
 -- ---- mails that carry no items
@@ -123,14 +124,6 @@ module _ (plan : Plan) (s : StreamRef) (a : ℕ) (readers : List ℕ) where
   keeps-same x y subs subs' ms same e bare h q held k sub f =
       held-same plan s y (h k) (λ u. h k u ++ mailed a readers ms k u) (q k) (q k) sub (λ u. no-more (h k u) (mailed a readers ms k u) (bare-carried (line_of a readers k u) a ms bare)) (λ u. refl)
       (view-held plan s x y (h k) (q k) sub same (held k sub (ap (λ (l : List Sub). slice_get l k) (sym e) ∙ f)))
-
-  -- a session that is not open
-  shut-tally : (sub : Sub) → sub.is_open ≡ false → tally_of sub ≡ None
-  shut-tally sub e = by-kept sub.kept refl
-    where
-      by-kept : (o : Option Sess) → sub.kept ≡ o → tally_of sub ≡ None
-      by-kept None f = rw f refl
-      by-kept (Some u) f = rw (f, e) refl
 
   -- a step behind which no session is open
   pub keeps-shut : (x y : Shown) (subs subs' : List Sub) (ms : List Mail) → ((k : ℕ) (sub' : Sub) → slice_get subs' k ≡ Some sub' → (sub : Sub) × (slice_get subs k ≡ Some sub) × (sub'.kept ≡ sub.kept) × (sub'.is_open ≡ false)) →

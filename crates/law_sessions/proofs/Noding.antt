@@ -1,5 +1,5 @@
 -- What each step of a node leaves of its readers' sessions.
-use Rattle.std.proofs.Common.{◌≡◌, ℕ, suc, ◌+◌, ◌-◌, ◌*◌, ◌≤◌, Bool, true, false, cond, not, ◌&&◌, ◌==◌, nat_lt, List, [], ◌∷◌, ◌++◌, map, length, refl, sym, ap, subst, ◌∙◌, arith, Some, None, slice_get, ◌⊎◌, inl, inr}
+use Rattle.std.proofs.Common.{◌≡◌, ℕ, suc, ◌+◌, ◌-◌, ◌*◌, ◌≤◌, true, false, cond, not, ◌&&◌, ◌==◌, nat_lt, List, [], ◌∷◌, ◌++◌, map, length, refl, sym, ap, subst, ◌∙◌, arith, Some, None, slice_get, ◌⊎◌, inl, inr}
 use Rattle.std.specs.Prelude.{zip, is_none}
 use Rattle.dpc_lists.specs.Lists.{nth, list_all}
 use Rattle.dpc_model.specs.Fragments.{serial, fragment_value, ideal_upto}
@@ -27,7 +27,7 @@ use Rattle.node_model.specs.Nodes.{Home, PlainNode, spec_of, streams_of, own_rea
 use Rattle.node_model.specs.NodeSteps.{idle_step, then_do, give, given_by, given_stable, enter_step, after_stable_buckets, with_closed, with_failure, stably, processing_upto, processing_step, after_last_correction, mill_step, peers_of, peer_watches, after_clock, may_start_afresh, choice_step, ask_step, done_at, acks_from, beat_of, beats, announcing_step, serving_step, snapshot_ask_step, rest_of_tick, with_fresh_start, with_marks_ended, tick_step}
 use Rattle.law_safety.proofs.Outputs.{inputs-held}
 use Rattle.law_safety.specs.Plans.{IsPlace}
-use Rattle.law_safety.proofs.Tests.{all-append, all-sort, all-map}
+use Rattle.dpc_lists.proofs.Truths.{all-append, all-sort, all-map, not-of}
 use Rattle.law_safety.proofs.Frames.{IsGood, marks-good, clocked-good}
 use Rattle.law_safety.proofs.Emptied.{shape-of, is_shut, emptied-of, later-good}
 use Rattle.law_safety.proofs.Starting.{fresh-good}
@@ -97,11 +97,7 @@ shown-same home most more n m place g k up same =
 
 -- sessions that are all shut
 all-shut : (subs : List Sub) → list_all is_shut subs ≡ true → (k : ℕ) (sub : Sub) → slice_get subs k ≡ Some sub → sub.is_open ≡ false
-all-shut subs h k sub e = let q = all-at is_shut subs k sub h e in not-open sub.is_open q
-  where
-    not-open : (b : Bool) → not b ≡ true → b ≡ false
-    not-open true f = cc
-    not-open false f = refl
+all-shut subs h k sub e = let q = all-at is_shut subs k sub h e in not-of sub.is_open q
 
 -- a node that recovers has no open session
 pub recovering-goes : (home : Home) (a most : ℕ) (n m : PlainNode) (ms : List Mail) → n.recovering ≡ true → IsGood home most n → m.subs ≡ n.subs → list_all is_bare ms ≡ true → Goes home a n (record { after = m; sends = ms })

@@ -1,5 +1,5 @@
 -- What each step of a source leaves of its readers' sessions.
-use Rattle.std.proofs.Common.{◌≡◌, ℕ, zero, suc, ◌≤◌, max, Bool, true, false, cond, ◌==◌, nat_lt, List, [], ◌∷◌, ◌++◌, length, take, drop, refl, sym, ap, subst, ◌∙◌, arith, Option, Some, None, inl}
+use Rattle.std.proofs.Common.{◌≡◌, ℕ, zero, suc, ◌≤◌, max, Bool, true, false, cond, ◌==◌, nat_lt, List, [], ◌∷◌, ◌++◌, length, take, drop, refl, sym, ap, subst, ◌∙◌, arith, Option, Some, None, inl, ◌+◌, ◌<◌, ◌&&◌, nat_le}
 use Rattle.std.specs.Prelude.{zip}
 use Rattle.std.proofs.lemmas.Grind.{common_steps}
 use Rattle.std.proofs.lemmas.List.{length-take-le}
@@ -18,15 +18,18 @@ use Rattle.dpc_model.specs.declared.plans.Plan.{Plan}
 use Rattle.dpc_model.specs.declared.plans.StreamRef.TheVariants.{Source}
 use Rattle.node_model.specs.Mails.{Packet, Plain, SnapFor, mail, Stepped}
 use Rattle.node_model.specs.Sources.{SourceState, source_readers, bound_at, source_shown, emitted_upto, source_given, source_gives, source_emits, source_releases, source_subscribed, source_message, source_packet_step, source_beat, source_tick_step}
-use Rattle.world_model.specs.Worlds.{Envelope}
+use Rattle.world_model.specs.Worlds.{Envelope, World, source_at, no_source}
 use Rattle.world_model.specs.SessionLaw.{bound_of}
 use Rattle.law_safety.specs.Plans.{IsChecked}
-use Rattle.law_safety.proofs.Tests.{lt-of, eq-of, all-map}
+use Rattle.dpc_lists.proofs.Truths.{lt-of, eq-of, all-map, both}
+use Rattle.dpc_lists.proofs.Places.{place-within, place-nth}
+use Rattle.dpc_lists.proofs.Elements.{get-there}
+use Rattle.world_model.specs.Orderly.{is_source_orderly}
 use Rattle.law_safety.proofs.Sourcing.{IsFineSource, ideal-log, count-few}
-use Rattle.law_safety.proofs.Giving.{place-below}
-use Rattle.law_safety.proofs.Delivered.{place-nth}
 use Rattle.law_safety.proofs.Views.{IsView, IsViewStep, IsBoundStep, given-law}
 use Rattle.law_safety.proofs.Distinct.{readers-distinct}
+use Rattle.law_safety.proofs.Worlding.{sources-at}
+use Rattle.law_safety.proofs.Happening.{IsFine}
 use Rattle.law_sessions.proofs.Keeping.{HeldBy, Keeps, mailed, is_bare, keeps-same, keeps-gave}
 use Rattle.law_sessions.proofs.Asking.{opens, asked-held}
 
@@ -55,7 +58,7 @@ take-more (suc k) (suc m) (x ∷ xs) low = ap (λ (ys : List Tuple). x ∷ ys) (
 log-beginning : (plan : Plan) (s m : ℕ) → IsChecked plan → IsPrefixOf (take m (log_of plan s)) (ideal plan (Source s))
 log-beginning plan s m checked = rw (ideal-log plan s checked) (drop m (log_of plan s), take-drop m (log_of plan s))
 
-bound-is : (plan : Plan) (s b : ℕ) → bound_of (bound_at plan s b) ≡ b
+pub bound-is : (plan : Plan) (s b : ℕ) → bound_of (bound_at plan s b) ≡ b
 bound-is plan s b =
     (elim (b == 0) as (λ c. (b == 0) ≡ c → bound_of (cond c None (Some (b, count_below (log_of plan s) b))) ≡ b) [
       | true ↦ λ e. let none = eq-of b 0 e in omega (arith, none)
@@ -155,7 +158,7 @@ subscribed-takes plan a s sender asked (Some k) x checked fine f h q held =
     let readers = source_readers plan s in
     let t = answer_to (source_shown plan s x) (nth no_session x.subs k) asked in
     let subs = changed k (λ _. t.after) x.subs in
-    let low = place-below (λ b. sender == b) readers k f in
+    let low = place-within (λ b. sender == b) readers k f in
     let here : nth 0 readers k ≡ sender = place-nth sender readers k f in
     let taken = asked-held plan (Source s) a readers (source_shown plan s x) asked k no_session x.subs h q (readers-distinct plan (Source s)) fine.subs low (source-view plan s x checked fine) held in
     subst (λ (b : ℕ). HeldBy plan (Source s) (source_shown plan s x) (λ j u. h j u ++ mailed a readers (source_subscribed plan s asked (Some k) x).sends j u) (opens a readers (source_subscribed plan s asked (Some k) x).sends (record { sender = b; to = a; packet = Plain (message.Subscribe asked) }) q) subs) here taken
@@ -184,3 +187,11 @@ unfolding source_tick_step
 source_ticked-goes plan a s now x =
     keeps-same plan (Source s) a (source_readers plan s) (source_shown plan s x) (source_shown plan s x) x.subs x.subs (source_tick_step plan s now x).sends (record { stable = refl; bound = refl; tentative = refl; passed = refl }) refl
     (source_ticked-bare plan s now x)
+
+pub source-many : (w : World) (most u : ℕ) → IsFine w most → u < length w.sources → length (source_at w u).subs ≡ length (source_readers w.plan u)
+source-many w most u fine within =
+    let zero_on : 0 + u ≡ u = omega arith in
+    let x = source_at w u in
+    let orderly : is_source_orderly w.plan u x ≡ true = rw zero_on at (sources-at w.plan 0 u w.sources x fine.sources (get-there no_source u w.sources within)) in
+    eq-of (length x.subs) (length (source_readers w.plan u))
+    (both (nat_le x.bound w.plan.end && nat_le (count_below (log_of w.plan u) x.bound) x.emitted && nat_le x.emitted (length (log_of w.plan u))) (length x.subs == length (source_readers w.plan u)) orderly).1

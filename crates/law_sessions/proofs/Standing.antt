@@ -21,7 +21,7 @@ use Rattle.node_model.specs.NodeSteps.{idle_step, then_do, give, given_by, given
 use Rattle.node_model.specs.Sources.{SourceState, bound_at, source_readers, source_shown, source_given, source_gives, source_emits, source_releases, source_subscribed, source_message, source_packet_step, source_tick_step}
 use Rattle.world_model.specs.Orderly.{items_carried}
 use Rattle.law_safety.proofs.Carried.{here, there}
-use Rattle.law_safety.proofs.Tests.{both}
+use Rattle.dpc_lists.proofs.Truths.{both}
 use Rattle.law_sessions.specs.Laws.{TentativesStand}
 use Rattle.law_sessions.proofs.Keeping.{is_bare, is_bare_packet, no_batch}
 use Rattle.law_sessions.proofs.Sources.{source_ticked-bare}

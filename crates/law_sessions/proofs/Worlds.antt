@@ -15,14 +15,16 @@ use Rattle.dpc_model.specs.declared.plans.Plan.{Plan}
 use Rattle.dpc_model.specs.declared.plans.StreamRef.TheVariants.{Source, Frag}
 use Rattle.node_model.specs.Mails.{Mail, Stepped}
 use Rattle.node_model.specs.Nodes.{Home, PlainNode, own_readers, shown}
-use Rattle.node_model.specs.Sources.{SourceState, source_readers, source_shown}
+use Rattle.node_model.specs.Sources.{SourceState, source_readers, source_shown, source_emits, source_releases, source_packet_step, source_tick_step}
 use Rattle.world_model.specs.Worlds.{World, Envelope, Slot, home_of, node_place, from, slot_of, source_at, no_source, role_up, is_up, node_stepped, source_stepped}
 use Rattle.world_model.specs.SessionLaw.{Channel, carried, goes_down}
-use Rattle.law_safety.proofs.Tests.{eq-of, eq-test}
-use Rattle.law_safety.proofs.Pointwise.{get-changed}
-use Rattle.law_safety.proofs.Numbering.{node-at, role-split, source-at as source-at-place}
+use Rattle.dpc_lists.proofs.Truths.{eq-of, eq-test}
+use Rattle.dpc_lists.proofs.Elements.{get-changed, length-changed}
+use Rattle.dpc_model.proofs.Roles.{node-past}
+use Rattle.law_safety.proofs.Numbering.{node-at, source-at as source-at-place}
 use Rattle.law_safety.proofs.Worlding.{slots-at}
 use Rattle.law_safety.proofs.Happening.{IsFine}
+use Rattle.law_safety.proofs.EventCases.{AreCases}
 use Rattle.law_sessions.specs.Openings.{has_first}
 use Rattle.law_sessions.proofs.Keeping.{HeldBy, line_of, mailed, held-same}
 use Rattle.law_sessions.proofs.Asking.{changed-other}
@@ -152,17 +154,14 @@ node-far from zero a f r rest e = omega arith
 node-far from (suc n) zero f r rest e = cc
 node-far from (suc n) (suc a) f r rest e = let far = node-far (from + 1) n a f r rest e in omega (arith, far)
 
-behind-sources : (plan : Plan) (a f r : ℕ) → role_of plan a ≡ IsNode f r → length plan.sources ≤ a
-behind-sources plan a f r e = node-far 0 (length plan.sources) a f r (map (λ (n : ℕ × ℕ). IsNode n.0 n.1) (nodes_of plan) ++ map IsClient (range_with_len 0 (length plan.clients))) (sym (role-split plan a) ∙ e)
-
 nth-other : {X : Type 0} (d : X) (i j : ℕ) (f : X → X) (xs : List X) → (i == j) ≡ false → nth d (changed i f xs) j ≡ nth d xs j
 nth-other d i j f xs e = ap (λ (o : Option _). unwrap_or o d) (changed-other i j f xs e)
 
 pub other-slot : (plan : Plan) (a b f r g p : ℕ) (change : Slot → Slot) (slots : List Slot) → (a == b) ≡ false → role_of plan b ≡ IsNode g p → role_of plan a ≡ IsNode f r →
     nth no_slot (changed (node_place plan b) change slots) (node_place plan a) ≡ nth no_slot slots (node_place plan a)
 other-slot plan a b f r g p change slots apart other role =
-    let one = behind-sources plan a f r role in
-    let two = behind-sources plan b g p other in
+    let one = node-past plan a f r role in
+    let two = node-past plan b g p other in
     nth-other no_slot (node_place plan b) (node_place plan a) change slots (unequal one two)
   where
     unequal : length plan.sources ≤ a → length plan.sources ≤ b → (b - length plan.sources == a - length plan.sources) ≡ false
@@ -268,3 +267,22 @@ source-held w b s t o h q role step held a =
       | false ↦ λ e. other-held w next sources w.nodes o h q b t.sends a e refl
           (λ i g. let same : i ≡ a = source-at-place w.plan a i g in let apart : (b == i) ≡ false = grind (arith, common_steps) in nth-other no_source b i (λ (x : SourceState). t.after) w.sources apart) (λ f r k. refl) held
     ]) refl
+
+-- there are as many sources after an event
+pub same-many : (w : World) → AreCases w (λ e next. length next.sources ≡ length w.sources)
+same-many w =
+    record {
+      still = λ e. refl;
+      wires = λ e cuts. refl;
+      emitted = λ a s t role. length-changed a (λ _. (source_emits w.plan s t (source_at w s)).after) w.sources;
+      released = λ a s t role. length-changed a (λ _. (source_releases w.plan s t (source_at w s)).after) w.sources;
+      source_took = λ k s e there can role. length-changed e.to (λ _. (source_packet_step w.plan s e.sender e.packet (source_at w s)).after) w.sources;
+      source_ticks = λ a s now role. length-changed a (λ _. (source_tick_step w.plan s now (source_at w s)).after) w.sources;
+      crashed = λ a f r role. refl;
+      restarted = λ a i f r role. refl;
+      node_took = λ k f r e n there can role up. refl;
+      node_ticked = λ a now f r n role up clock. refl;
+      node_milled = λ a r f q n role up can. refl;
+      client_took = λ k c e there can role. refl;
+      client_ticks = λ a c now role. refl;
+    }

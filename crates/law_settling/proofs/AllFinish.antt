@@ -7,6 +7,9 @@ use Rattle.dpc_model.specs.NodeStates.{is_up_failure}
 use Rattle.dpc_model.specs.declared.messages.Event.{Event}
 use Rattle.dpc_model.specs.declared.messages.Event.TheVariants.{Phase, Emit, Release, Cut, Heal, Crash, Restart, Deliver, Tick, Mill}
 use Rattle.dpc_model.specs.declared.scripts.Script.{Script}
+use Rattle.dpc_lists.proofs.Truths.{not-both}
+use Rattle.dpc_model.proofs.Alike.{phase-is}
+use Rattle.dpc_lists.proofs.Somes.{some-same}
 use Rattle.node_model.specs.Nodes.{PlainNode}
 use Rattle.world_model.specs.Worlds.{World, home_of, slot_of, run}
 use Rattle.world_model.specs.Schedules.{Progress, progress, is_live}
@@ -15,7 +18,7 @@ use Rattle.law_safety.proofs.Numbering.{replica-at}
 use Rattle.law_schedules.specs.Journals.{phases_in}
 use Rattle.law_schedules.proofs.Journals.{live-far, progress-run}
 use Rattle.law_readers.specs.Settling.{CanSettle}
-use Rattle.law_settling.specs.Phased.{is_quiet}
+use Rattle.world_model.specs.Events.{is_quiet}
 use Rattle.law_settling.specs.Finished.{IsFinished, FinishedAt}
 use Rattle.law_settling.specs.Entered.{IsReplicaOf, AreWhole}
 use Rattle.law_settling.proofs.Splitting.{opens}
@@ -47,9 +50,6 @@ fails_at script f z q = elim (slot_of z.world (nth 0 (replicas_of script.plan f)
 
 pub fails-is : (script : Script) (f : ℕ) (z : Progress) (b q : ℕ) (n : PlainNode) → IsReplica script f z b q n → is_up_failure n.state ≡ fails_at script f z q
 fails-is script f z b q n at = sym (ap (λ (i : ℕ). elim (slot_of z.world i).node as (λ _. Bool) [ None ↦ false | Some n ↦ is_up_failure n.state ]) (replica-at script.plan b f q at.role) ∙ ap (λ (o : Option PlainNode). elim o as (λ _. Bool) [ None ↦ false | Some n ↦ is_up_failure n.state ]) at.up)
-
-pub clash : (b : Bool) → b ≡ true → b ≡ false → ⊥
-clash b e f = let no_way : true ≡ false = sym e ∙ f in cc
 
 module _ (script : Script) (events before : List Event) (f : ℕ) (can : CanSettle script) (lives : is_live script events ≡ true) (well : OpensWell script events) (steady : IsSteady script events)
     (wholes : (done more : List Event) → events ≡ done ++ more → length before ≤ length done → AreWhole script.plan (run script.plan done) f) where
@@ -85,7 +85,7 @@ module _ (script : Script) (events before : List Event) (f : ℕ) (can : CanSett
       by-old true e b n m at there = e
       by-old false e b n m at there =
           let off = fine-later done mid rest is point b q n m at there (fails-is script f (progress script done) b q n at ∙ e) in
-          absurd (clash (is_up_failure m.state) (fails-is script f (progress script (done ++ mid)) b q m there ∙ on) off)
+          absurd (not-both (is_up_failure m.state) (fails-is script f (progress script (done ++ mid)) b q m there ∙ on) off)
 
   pub fails-low : (done mid rest : List Event) → events ≡ done ++ (mid ++ rest) → Point done → fails (done ++ mid) ≤ fails done
   fails-low done mid rest is point = count-more (fails_at script f (progress script (done ++ mid))) (fails_at script f (progress script done)) (many_replicas script.plan f) (λ q low on. was-failing done mid rest is point q low on)
@@ -133,15 +133,9 @@ module _ (script : Script) (events before : List Event) (f : ℕ) (can : CanSett
       let out = whole-replicas-finish script events can lives well steady d1 two.0 two.2 rest p two.1 whole_is (omega (arith, far, phase)) two.4 b f q kept.node at.role up (good_1.whole b q kept.node kept.replica) kept.fine in
       let list : d1 ++ (Phase p ∷ (two.0 ++ Phase two.1 ∷ two.2)) ≡ done ++ mid = append_assoc done here (Phase p ∷ (two.0 ++ Phase two.1 ∷ two.2)) ∙ ap (λ (es : List Event). done ++ (here ++ (Phase p ∷ es))) (sym two.3) ∙ ap (λ (es : List Event). done ++ es) (sym split) in
       subst (λ (es : List Event). FinishedAt script.plan (run script.plan es) b f q) list out
-    where
-      phase-is : {m n : ℕ} → Phase m ≡ Phase n → m ≡ n
-      phase-is e = cc
 
   abbrev pub AllDone : List Event → Type 0
   AllDone done = (b q : ℕ) (n : PlainNode) → IsReplicaOf script.plan (run script.plan done) f b q n → IsFinished (home_of script.plan (f, q)) n
-
-  some-node : (x y : PlainNode) → ◌≡◌ {A = Option PlainNode} (Some x) (Some y) → x ≡ y
-  some-node x y e = cc
 
   -- where it was not UP_FAILURE before
   pub finished-now : (done mid rest : List Event) → events ≡ done ++ (mid ++ rest) → Point done → 2 ≤ phases_in mid → (b q : ℕ) (m : PlainNode) → IsReplicaOf script.plan (run script.plan (done ++ mid)) f b q m → fails_at script f (progress script done) q ≡ false → IsFinished (home_of script.plan (f, q)) m
@@ -150,7 +144,7 @@ module _ (script : Script) (events before : List Event) (f : ℕ) (can : CanSett
       let one : n.0 ≡ b = sym (replica-at script.plan n.0 f q n.2.role) ∙ replica-at script.plan b f q there.role in
       let at : IsReplica script f (progress script done) b q n.1 = subst (λ (i : ℕ). IsReplica script f (progress script done) i q n.1) one n.2 in
       let out = finish-one done mid rest is point some b q n.1 at (fails-is script f (progress script done) b q n.1 at ∙ off) in
-      subst (λ (y : PlainNode). IsFinished (home_of script.plan (f, q)) y) (some-node out.node m (sym out.up ∙ there.up)) out.finished
+      subst (λ (y : PlainNode). IsFinished (home_of script.plan (f, q)) y) (some-same out.node m (sym out.up ∙ there.up)) out.finished
 
   pub none-fail : (done mid rest : List Event) → events ≡ done ++ (mid ++ rest) → Point done → 2 ≤ phases_in mid → ((q : ℕ) → q < many_replicas script.plan f → fails_at script f (progress script done) q ≡ false) → AllDone (done ++ mid)
   none-fail done mid rest is point some off b q m there = finished-now done mid rest is point some b q m there (off q (number-low script.plan b f q q there.role))

@@ -11,12 +11,14 @@ use Rattle.dpc_model.specs.declared.plans.Plan.{Plan}
 use Rattle.dpc_model.specs.declared.scripts.Script.{Script}
 use Rattle.node_model.specs.Sources.{SourceState}
 use Rattle.world_model.specs.Worlds.{World, Slot, source_at, no_source, happens, run_from, run, new_world}
-use Rattle.world_model.specs.Schedules.{Progress, first_progress, next_progress, progress_from, progress, may_follow, may, is_live_so_far}
-use Rattle.world_model.specs.Steady.{NoneRecovers, TickIsHeard, phase_at, patience, SteadyFrom, IsSteady, IsOpen, OpensWell}
-use Rattle.law_safety.proofs.Tests.{both-of, lt-of, not-lt}
+use Rattle.world_model.specs.Schedules.{Progress, first_progress, next_progress, progress_from, progress, may_follow, may, is_live_so_far, settling_phases}
+use Rattle.world_model.specs.Steady.{NoneRecovers, TickIsHeard, phase_at, SteadyFrom, IsSteady, IsOpen, OpensWell}
+use Rattle.dpc_lists.proofs.Truths.{both-of, lt-of, not-lt}
+use Rattle.world_model.proofs.Running.{progress-next, first-phase}
 use Rattle.law_schedules.proofs.Journals.{progress-run, each-may, prefix-live}
-use Rattle.law_readers.proofs.Running.{run-of}
-use Rattle.law_settling.specs.Phased.{is_quiet, opened}
+use Rattle.world_model.specs.Events.{is_quiet}
+use Rattle.law_safety.proofs.Growing.{run-plan}
+use Rattle.law_settling.specs.Phased.{opened}
 use Rattle.law_settling.proofs.Splitting.{IsQuietAt, stays, in-quiet, quiet-goes, opened-quiet}
 use Rattle.law_settling.proofs.Opening.{has_node, IsAllUp, quiet-up}
 use Rattle.law_settling.proofs.Logs.{quiet-log, event-many}
@@ -52,13 +54,9 @@ every-behind events before I h step (x ∷ mid) rest e =
 pub every-prefix : (events : List Event) (I : List Event → Type 0) → I [] → ((done rest : List Event) (e : Event) → events ≡ done ++ e ∷ rest → I done → I (done ++ e ∷ [])) → (done rest : List Event) → events ≡ done ++ rest → I done
 every-prefix events I first step done rest is = every-behind events [] I first step done rest is
 
-progress-append : (script : Script) (x : Progress) (es : List Event) (e : Event) → progress_from script x (es ++ e ∷ []) ≡ next_progress script (progress_from script x es) e
-progress-append script x [] e = refl
-progress-append script x (d ∷ es) e = progress-append script (next_progress script x d) es e
-
 pub progress-push : (script : Script) (es : List Event) (e : Event) → progress script (es ++ e ∷ []) ≡ next_progress script (progress script es) e
 unfolding progress
-progress-push script es e = progress-append script (first_progress script) es e
+progress-push script es e = progress-next script (first_progress script) es e
 
 pub may-follows : (script : Script) (es : List Event) (e : Event) → may script es e ≡ true → may_follow script (progress script es) e ≡ true
 unfolding may
@@ -107,7 +105,7 @@ module _ (script : Script) (events : List Event) (live : is_live_so_far script e
       let same = progress-run script done in
       let all = well done rest is in
       let up = subst IsAllUp (sym same) (open-up (run script.plan done) all) in
-      let plan = run-of script.plan done in
+      let plan = run-plan script.plan done in
       record {
         at = opened-quiet script x (omega (arith, phase));
         up = record { cuts = up.cuts; up = up.up };
@@ -170,11 +168,11 @@ phase-from script x [] = refl
 phase-from script x (e ∷ es) = phase-from script (next_progress script x e) es ∙ ap (λ (p : ℕ). phase_after p es) (next-at script x e)
 
 pub steady-at : (script : Script) (p : ℕ) (w : World) (done rest : List Event) (e : Event) → SteadyFrom script p w (done ++ e ∷ rest) →
-    length script.phases + patience < phase_at (phase_after p done) e → NoneRecovers (happens (run_from w done) e).nodes × TickIsHeard (happens (run_from w done) e) e
+    length script.phases + settling_phases < phase_at (phase_after p done) e → NoneRecovers (happens (run_from w done) e).nodes × TickIsHeard (happens (run_from w done) e) e
 steady-at script p w [] rest e h far = h.0 far
 steady-at script p w (d ∷ done) rest e h far = steady-at script (phase_at p d) (happens w d) done rest e h.1 far
 
-run-steady : (script : Script) (events done rest : List Event) (e : Event) → IsSteady script events → events ≡ done ++ e ∷ rest → length script.phases + patience < (progress script (done ++ e ∷ [])).phase → NoneRecovers (run script.plan (done ++ e ∷ [])).nodes
+run-steady : (script : Script) (events done rest : List Event) (e : Event) → IsSteady script events → events ≡ done ++ e ∷ rest → length script.phases + settling_phases < (progress script (done ++ e ∷ [])).phase → NoneRecovers (run script.plan (done ++ e ∷ [])).nodes
 unfolding run progress
 run-steady script events done rest e steady is far =
     let w = new_world script.plan in
@@ -192,10 +190,6 @@ run-steady script events done rest e steady is far =
 
 -- ---- all together
 
-first-phase : (script : Script) → (progress script []).phase ≡ 0
-unfolding progress
-first-phase script = refl
-
 -- every state past the script's phases
 pub running-along : (script : Script) (events : List Event) → is_live_so_far script events ≡ true → OpensWell script events → (done rest : List Event) → events ≡ done ++ rest → length script.phases < (progress script done).phase → IsRunning script (progress script done)
 running-along script events live well done rest is far =
@@ -208,7 +202,7 @@ running-along script events live well done rest is far =
 
 -- past the first quiet phases every state is good
 pub good-along : (script : Script) (events : List Event) → is_live_so_far script events ≡ true → OpensWell script events → IsSteady script events → (done rest : List Event) → events ≡ done ++ rest →
-    length script.phases + patience < (progress script done).phase → IsGood script (progress script done)
+    length script.phases + settling_phases < (progress script done).phase → IsGood script (progress script done)
 good-along script events live well steady done rest is far =
     let x = progress script done in
     record {
@@ -219,7 +213,7 @@ good-along script events live well steady done rest is far =
       calm = subst (λ (w : World). NoneRecovers w.nodes) (sym (progress-run script done)) (calm-at done is far);
     }
   where
-    calm-at : (es : List Event) → events ≡ es ++ rest → length script.phases + patience < (progress script es).phase → NoneRecovers (run script.plan es).nodes
+    calm-at : (es : List Event) → events ≡ es ++ rest → length script.phases + settling_phases < (progress script es).phase → NoneRecovers (run script.plan es).nodes
     calm-at es at past =
         elim (last-of es) [
           | inl none ↦ absurd (not-first es none past)
@@ -227,7 +221,7 @@ good-along script events live well steady done rest is far =
               let same = l.2 in
               let here : events ≡ l.0 ++ l.1 ∷ rest = at ∙ ap (λ (zs : List Event). zs ++ rest) same ∙ append_assoc l.0 (l.1 ∷ []) rest in
               subst (λ (zs : List Event). NoneRecovers (run script.plan zs).nodes) (sym same)
-              (run-steady script events l.0 rest l.1 steady here (subst (λ (zs : List Event). length script.phases + patience < (progress script zs).phase) same past))
+              (run-steady script events l.0 rest l.1 steady here (subst (λ (zs : List Event). length script.phases + settling_phases < (progress script zs).phase) same past))
         ]
       where
         last-of : (es : List Event) → (es ≡ []) ⊎ ((before : List Event) × (e : Event) × (es ≡ before ++ e ∷ []))
@@ -237,7 +231,7 @@ good-along script events live well steady done rest is far =
           | inr l ↦ inr (d ∷ l.0, l.1, ap (λ (zs : List Event). d ∷ zs) l.2)
         ]
 
-        not-first : (es : List Event) → es ≡ [] → length script.phases + patience < (progress script es).phase → ⊥
+        not-first : (es : List Event) → es ≡ [] → length script.phases + settling_phases < (progress script es).phase → ⊥
         not-first es none far =
-            let low : length script.phases + patience < (progress script []).phase = subst (λ (zs : List Event). length script.phases + patience < (progress script zs).phase) none far in
+            let low : length script.phases + settling_phases < (progress script []).phase = subst (λ (zs : List Event). length script.phases + settling_phases < (progress script zs).phase) none far in
             let zero_phase = first-phase script in omega (arith, low, zero_phase)

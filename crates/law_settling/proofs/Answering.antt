@@ -1,7 +1,6 @@
 -- What a source does with a packet for one of its readers, and the beat that it sends it.
-use Rattle.std.proofs.Common.{◌≡◌, ◌≢◌, ℕ, zero, suc, ◌<◌, true, false, cond, not, ◌==◌, nat_lt, List, [], ◌∷◌, map, length, refl, sym, ap, subst, ◌∙◌, arith, Option, Some, None, ◌⊎◌, inl, inr}
+use Rattle.std.proofs.Common.{◌≡◌, ◌≢◌, ℕ, zero, suc, ◌<◌, true, false, cond, not, ◌==◌, List, [], ◌∷◌, map, length, refl, sym, ap, subst, ◌∙◌, arith, Some, None, ◌⊎◌, inl, inr}
 use Rattle.std.specs.Prelude.{zip}
-use Rattle.std.proofs.lemmas.Grind.{common_steps}
 use Rattle.dpc_lists.specs.Lists.{nth, changed, place_of}
 use Rattle.dpc_model.specs.Sessions.{no_session, is_newer_than_kept, answer_to, Answered, Shown, first_batch, tally_of}
 use Rattle.dpc_model.specs.declared.sessions.Sub.{Sub}
@@ -11,16 +10,14 @@ use Rattle.dpc_model.specs.declared.tuples.Item.{Item}
 use Rattle.dpc_model.specs.declared.messages.Message.{Message}
 use Rattle.dpc_model.specs.declared.messages.Message.TheVariants as message
 use Rattle.dpc_model.specs.declared.plans.Plan.{Plan}
+use Rattle.dpc_lists.proofs.Truths.{never-below}
+use Rattle.dpc_lists.proofs.Somes.{none-some, some-same}
+use Rattle.dpc_lists.proofs.Elements.{nth-here}
+use Rattle.dpc_lists.proofs.Places.{place-nth}
 use Rattle.node_model.specs.Mails.{Mail, mail, Packet, Plain, SnapFor, Stepped}
 use Rattle.node_model.specs.Sources.{SourceState, source_readers, source_shown, source_subscribed, source_message, source_packet_step, source_beat, source_tick_step}
-use Rattle.law_safety.proofs.Delivered.{place-nth}
-use Rattle.law_granting.proofs.Each.{Each}
+use Rattle.dpc_lists.proofs.Each.{Each}
 use Rattle.law_settling.proofs.Exact.{IsIn, same-or}
-
-pub nth-here : {X : Type 0} (d : X) (i : ℕ) (f : X → X) (xs : List X) → i < length xs → nth d (changed i f xs) i ≡ f (nth d xs i)
-nth-here d i f [] l = absurd (omega (arith, l))
-nth-here d zero f (x ∷ xs) l = refl
-nth-here d (suc i) f (x ∷ xs) l = nth-here d i f xs (omega (arith, l))
 
 pub nth-there : {X : Type 0} (d : X) (i j : ℕ) (f : X → X) (xs : List X) → i ≢ j → nth d (changed i f xs) j ≡ nth d xs j
 nth-there d i j f [] l = refl
@@ -47,9 +44,6 @@ NotAsked b k z packet y = (v : Subscribe) → packet ≡ Plain (message.Subscrib
 silent : (plan : Plan) (s b k z : ℕ) (packet : Packet) (y : SourceState) → NotAsked b k z packet y → Did plan s b k z packet y (record { after = y; sends = [] })
 silent plan s b k z packet y none = Left refl refl refl tt none
 
-never-below : (n : ℕ) → nat_lt n 0 ≡ false
-never-below n = grind (arith, common_steps)
-
 -- a source with an answer to reader i
 abbrev answer_step : Plan → ℕ → ℕ → SourceState → Answered → Stepped SourceState
 answer_step plan s i y a =
@@ -62,9 +56,6 @@ answered-is : (plan : Plan) (s : ℕ) (y : SourceState) (old : Sub) (v : Subscri
 answered-is plan s y old v =
     let never = never-below v.n in
     rw never (elim (is_newer_than_kept v.sess old.kept) as (λ d. cond (not d) (record { after = old; answer = None }) (opened_by (source_shown plan s y) v) ≡ cond d (opened_by (source_shown plan s y) v) (record { after = old; answer = None })) [ true ↦ refl | false ↦ refl ])
-
-some-same : (i k : ℕ) → ◌≡◌ {A = Option ℕ} (Some i) (Some k) → i ≡ k
-some-same i k e = cc
 
 -- an answer, to whoever asked
 subscribed-did : (plan : Plan) (s b k i z : ℕ) (v : Subscribe) (y : SourceState) → place_of (λ a. b == a) (source_readers plan s) ≡ Some k → k < length y.subs →
@@ -105,9 +96,6 @@ subscribed-did plan s b k i z v y place few at =
           tt,
         )
         (λ u p who f. apart (some-same i k (sym at ∙ ap (λ (a : ℕ). place_of (λ x. a == x) (source_readers plan s)) who ∙ place)))
-
-none-some : {k : ℕ} → ◌≡◌ {A = Option ℕ} None (Some k) → ⊥
-none-some e = cc
 
 message-did : (plan : Plan) (s b k z : ℕ) (m : Message) (y : SourceState) → place_of (λ a. b == a) (source_readers plan s) ≡ Some k → k < length y.subs → Did plan s b k z (Plain m) y (source_message plan s z m y)
 message-did plan s b k z (message.Subscribe v) y place few =

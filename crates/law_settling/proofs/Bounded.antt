@@ -1,6 +1,6 @@
 -- Numbers below a bound: the first that passes a test, how many do, and a fault or none.
 use Rattle.std.proofs.Common.{◌≡◌, ℕ, zero, suc, ◌+◌, ◌<◌, ◌≤◌, Bool, true, false, cond, refl, sym, ap, subst, ◌∙◌, arith, ◌⊎◌, inl, inr, nat_lt}
-use Rattle.law_safety.proofs.Tests.{lt-of, not-lt}
+use Rattle.dpc_lists.proofs.Truths.{lt-of, not-lt}
 
 -- below the bound or at it
 below-suc : (n k : ℕ) → k < n + 1 → (k < n) ⊎ (k ≡ n)

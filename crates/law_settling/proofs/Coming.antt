@@ -4,15 +4,12 @@ use Rattle.dpc_lists.specs.Lists.{list_all, list_any}
 use Rattle.dpc_model.specs.declared.messages.Event.{Event}
 use Rattle.dpc_model.specs.declared.scripts.Script.{Script}
 use Rattle.world_model.specs.Schedules.{Undelivered, Progress, next_progress, progress_from}
-use Rattle.law_safety.proofs.Tests.{both}
-use Rattle.law_settling.specs.Phased.{is_quiet, IsFull, opened, passed}
+use Rattle.dpc_lists.proofs.Truths.{both, neither}
+use Rattle.world_model.specs.Events.{is_quiet, is_delivery}
+use Rattle.law_settling.specs.Phased.{IsFull, opened, passed}
 use Rattle.law_settling.proofs.Splitting.{IsQuietAt, quiet-goes, opened-quiet}
-use Rattle.law_settling.proofs.Waitings.{waits, is_due, is_delivery, waits-on, due-on, comes, done-of, none-due}
+use Rattle.law_settling.proofs.Waitings.{waits, is_due, waits-on, due-on, comes, done-of, none-due}
 use Rattle.law_settling.proofs.Rules.{opened-due, some-phase}
-
-neither : (a b : Bool) → (a || b) ≡ false → (a ≡ false) × (b ≡ false)
-neither true b e = cc
-neither false b e = (refl, e)
 
 stays-through : (script : Script) (k : ℕ) (test : ℕ → List Undelivered → Bool) →
     ((x : Progress) (e : Event) → is_quiet e ≡ true → is_delivery k e ≡ false → test k x.waiting ≡ true → test k (next_progress script x e).waiting ≡ true) →

@@ -1,12 +1,14 @@
 -- Along a live run: what waits in a quiet phase is delivered in the rest of it, or in the next one.
-use Rattle.std.proofs.Common.{◌≡◌, ℕ, ◌+◌, ◌<◌, ◌≤◌, true, List, [], ◌∷◌, ◌++◌, length, refl, sym, ap, subst, ◌∙◌, arith}
+use Rattle.std.proofs.Common.{◌≡◌, ℕ, ◌+◌, ◌<◌, ◌≤◌, true, List, [], ◌∷◌, ◌++◌, length, sym, ap, subst, ◌∙◌, arith}
 use Rattle.std.proofs.lemmas.List.{append_assoc, length-append}
 use Rattle.dpc_model.specs.declared.messages.Event.{Event}
 use Rattle.dpc_model.specs.declared.messages.Event.TheVariants.{Phase}
 use Rattle.dpc_model.specs.declared.scripts.Script.{Script}
 use Rattle.world_model.specs.Worlds.{World, happens}
 use Rattle.world_model.specs.Schedules.{Progress, first_progress, next_progress, progress_from, progress, may_follow, follows_from, is_live_so_far}
-use Rattle.law_safety.proofs.Tests.{both, both-of}
+use Rattle.dpc_lists.proofs.Truths.{both}
+use Rattle.dpc_model.proofs.Alike.{phase-is}
+use Rattle.world_model.proofs.Running.{progress-append, follows-part}
 use Rattle.law_safety.proofs.Growing.{event-grows}
 use Rattle.law_schedules.proofs.Journals.{live-far, prefix-live, phases-counted, progress-run}
 use Rattle.law_settling.specs.Phased.{opened, DeliversWaiting}
@@ -16,20 +18,9 @@ use Rattle.law_settling.proofs.Coming.{quiet-through, sent-delivered}
 use Rattle.law_settling.proofs.Along.{running-along}
 use Rattle.law_settling.proofs.Promises.{IsOpenAt, open-of}
 
-from-parts : (script : Script) (x : Progress) (es fs : List Event) → progress_from script x (es ++ fs) ≡ progress_from script (progress_from script x es) fs
-from-parts script x [] fs = refl
-from-parts script x (e ∷ es) fs = from-parts script (next_progress script x e) es fs
-
 pub progress-parts : (script : Script) (es fs : List Event) → progress script (es ++ fs) ≡ progress_from script (progress script es) fs
 unfolding progress
-progress-parts script es fs = from-parts script (first_progress script) es fs
-
-pub follows-part : (script : Script) (x : Progress) (es fs : List Event) → follows_from script x (es ++ fs) ≡ true → (follows_from script x es ≡ true) × (follows_from script (progress_from script x es) fs ≡ true)
-follows-part script x [] fs h = (refl, h)
-follows-part script x (e ∷ es) fs h =
-    let p = both (may_follow script x e) (follows_from script (next_progress script x e) (es ++ fs)) h in
-    let rest = follows-part script (next_progress script x e) es fs p.1 in
-    (both-of (may_follow script x e) (follows_from script (next_progress script x e) es) p.0 rest.0, rest.1)
+progress-parts script es fs = progress-append script (first_progress script) es fs
 
 pub live-part : (script : Script) (es fs : List Event) → is_live_so_far script (es ++ fs) ≡ true → follows_from script (progress script es) fs ≡ true
 unfolding is_live_so_far progress
@@ -78,6 +69,3 @@ delivers-waiting script events can live well before here next rest p q k is late
     let grow_z = envelopes-grow script (opened script y) next in
     sent-delivered script k x here next first.at (record { quiet = quiet_here; follows = one.0; complete = o.1 }) (record { quiet = quiet_next; follows = three.0; complete = (opens script z q four.0).1 })
     (all-come y.world open_y.most k open_y.fine open_y.up (omega (arith, few_x, grow_y))) (all-come z.world open_z.most k open_z.fine open_z.up (omega (arith, few_x, grow_y, grow_z))) waiting
-  where
-    phase-is : {m n : ℕ} → Phase m ≡ Phase n → m ≡ n
-    phase-is e = cc

@@ -1,5 +1,5 @@
 -- Along a live run: two whole phases after an ask is over no promise is to it.
-use Rattle.std.proofs.Common.{◌≡◌, ℕ, ◌+◌, ◌<◌, ◌≤◌, Bool, true, false, ◌&&◌, ◌||◌, ◌==◌, nat_lt, nat_le, List, [], ◌∷◌, ◌++◌, length, refl, sym, ap, subst, ◌∙◌, arith, Option, Some, None, ◌⊎◌, inl, inr}
+use Rattle.std.proofs.Common.{◌≡◌, ℕ, ◌+◌, ◌<◌, ◌≤◌, Bool, true, false, ◌&&◌, ◌==◌, nat_lt, nat_le, List, [], ◌∷◌, ◌++◌, length, refl, sym, ap, subst, ◌∙◌, arith, Option, Some, None, ◌⊎◌, inl, inr}
 use Rattle.std.specs.Prelude.{IfSome}
 use Rattle.std.proofs.lemmas.List.{append_assoc}
 use Rattle.dpc_lists.specs.Lists.{nth}
@@ -13,11 +13,12 @@ use Rattle.node_model.specs.Nodes.{PlainNode}
 use Rattle.world_model.specs.Worlds.{World, slot_of, run}
 use Rattle.world_model.specs.Schedules.{Progress, next_progress, progress, is_live_so_far}
 use Rattle.world_model.specs.Steady.{OpensWell}
-use Rattle.law_safety.proofs.Tests.{both-of, eq-test, lt-test, le-test}
+use Rattle.dpc_lists.proofs.Truths.{both-of, eq-test, lt-test, le-test, or-left, or-right}
+use Rattle.dpc_lists.proofs.Somes.{some-same}
+use Rattle.law_safety.proofs.Growing.{run-plan}
 use Rattle.law_granting.specs.Asking.{IsOver}
 use Rattle.law_granting.proofs.Keys.{key-trans}
 use Rattle.law_granting.proofs.Running.{run-order}
-use Rattle.law_readers.proofs.Running.{run-of}
 use Rattle.law_schedules.proofs.Journals.{live-far, prefix-live, phases-counted, progress-run}
 use Rattle.law_readers.specs.Settling.{CanSettle}
 use Rattle.law_settling.specs.Promised.{OverPromisesEnd}
@@ -35,14 +36,6 @@ over-key key last inc over came same low =
       | inl one ↦ or-right (nat_lt key.0 inc) (key.0 == inc && nat_le key.1 over) (both-of (key.0 == inc) (nat_le key.1 over) (eq-test key.0 inc one) (le-test key.1 over (low one)))
       | inr apart ↦ or-left (nat_lt key.0 inc) (key.0 == inc && nat_le key.1 over) (lt-test key.0 inc (omega (arith, came, same, apart)))
     ]
-  where
-    or-left : (b c : Bool) → b ≡ true → (b || c) ≡ true
-    or-left true c e = refl
-    or-left false c e = cc
-
-    or-right : (b c : Bool) → c ≡ true → (b || c) ≡ true
-    or-right true c e = refl
-    or-right false c e = e
 
 module _ (script : Script) (events : List Event) (can : CanSettle script) (live : is_live_so_far script events ≡ true) (well : OpensWell script events) where
   -- every state past the script's phases
@@ -60,7 +53,7 @@ module _ (script : Script) (events : List Event) (can : CanSettle script) (live 
       let node = node-there z.world good.most a f q good.fine good.up role_z in
       let up : (slot_of w a).node ≡ Some node.0 = sym (ap (λ (v : World). (slot_of v a).node) world) ∙ node.1 in
       let order = run-order script.plan before can.plan in
-      let inc = order.incarnation a f q node.0 (record { role = ap (λ (pl : Plan). role_of pl a) (run-of script.plan before) ∙ role; up = up }) in
+      let inc = order.incarnation a f q node.0 (record { role = ap (λ (pl : Plan). role_of pl a) (run-plan script.plan before) ∙ role; up = up }) in
       let low : key.0 ≡ node.0.grants.inc → key.1 ≤ node.0.grants.over = subst (λ (o : Option PlainNode). IfSome o (λ (x : PlainNode). key.0 ≡ x.grants.inc → key.1 ≤ x.grants.over)) up over.over in
       record { node = node.0; up = node.1; over = over-key key (slot_of w a).last_inc node.0.grants.inc node.0.grants.over over.came inc low }
 
@@ -121,7 +114,7 @@ promises-end script events can live well before mid rest is late far a f q key r
     let count = phases-counted script before (prefix-live script before (mid ++ rest) (subst (λ (es : List Event). is_live_so_far script es ≡ true) is so_far)) in
     let count_late = phases-counted script (before ++ mid) (prefix-live script (before ++ mid) rest (subst (λ (es : List Event). is_live_so_far script es ≡ true) whole so_far)) in
     let order = run-order script.plan (before ++ mid) can.plan in
-    let plan = run-of script.plan (before ++ mid) in
+    let plan = run-plan script.plan (before ++ mid) in
     let proper = (order.nodes b f r n (record { role = ap (λ (pl : Plan). role_of pl b) plan ∙ role_b; up = up })).promise p promised in
     elim (same-or b a) [
       | inl same ↦
@@ -132,7 +125,7 @@ promises-end script events can live well before mid rest is late far a f q key r
           let begin = begins script events can so_far well before (mid ++ rest) a f q key is (omega (arith, count, late)) role_a over in
           let known = known-late script events can so_far well a b f q r key role_a role_b other base (omega (arith, count, late)) before mid rest is refl begin (omega (arith, count, count_late, far)) in
           let there : (slot_of (run script.plan (before ++ mid)) b).node ≡ Some known.node = ap (λ (v : World). (slot_of v b).node) (sym (progress-run script (before ++ mid))) ∙ known.up in
-          let it : known.node ≡ n = some-node known.node n (sym there ∙ up) in
+          let it : known.node ≡ n = some-same known.node n (sym there ∙ up) in
           let h = known.knows.0 in
           let heard : nth None n.grants.heard q ≡ Some h = ap (λ (x : PlainNode). nth None x.grants.heard q) (sym it) ∙ known.knows.1 in
           let going : key_le p.1 h ≡ false = sym (ap (λ (o : Option Key). over_by p.1 o) (ap (λ (z : ℕ). nth None n.grants.heard z) to ∙ heard)) ∙ proper.going_on in
@@ -141,9 +134,6 @@ promises-end script events can live well before mid rest is late far a f q key r
   where
     same-number : IsNode f r ≡ IsNode f q → r ≡ q
     same-number e = cc
-
-    some-node : (y z : PlainNode) → ◌≡◌ {A = Option PlainNode} (Some y) (Some z) → y ≡ z
-    some-node y z e = cc
 
     not-under : (c : Bool) → key_le p.1 key ≡ c → (key_le p.1 key ≡ true → ⊥) → key_le p.1 key ≡ false
     not-under false e h = e

@@ -1,21 +1,14 @@
 -- Elements of lists, and what a packet makes of the inlet that reads its sender.
-use Rattle.std.proofs.Common.{◌≡◌, ◌≢◌, ℕ, zero, suc, true, false, cond, ◌==◌, nat_lt, List, [], ◌∷◌, ◌++◌, map, refl, sym, ap, ◌∙◌, Option, Some, slice_get, ◌⊎◌, inl, inr}
+use Rattle.std.proofs.Common.{◌≡◌, ◌≢◌, ℕ, zero, suc, true, false, cond, ◌==◌, nat_lt, List, [], ◌∷◌, ◌++◌, refl, sym, ap, ◌∙◌, slice_get, ◌⊎◌, inl, inr}
 use Rattle.dpc_lists.specs.Lists.{changed, insert_by}
 use Rattle.dpc_model.specs.Inlets.{InletState, take_batch, after_tally}
 use Rattle.dpc_model.specs.Ports.{Port}
 use Rattle.dpc_model.specs.declared.messages.Message.TheVariants as message
 use Rattle.node_model.specs.Mails.{Mail, Packet, Plain, SnapFor, in_actor_order}
-use Rattle.law_safety.proofs.Tests.{eq-of, eq-test}
+use Rattle.dpc_lists.proofs.Truths.{eq-of, eq-test}
+use Rattle.dpc_lists.proofs.Elements.{get-changed}
 
 -- ---- lists
-
-pub get-here : {X : Type 0} (i : ℕ) (f : X → X) (xs : List X) (x : X) → slice_get xs i ≡ Some x → slice_get (changed i f xs) i ≡ Some (f x)
-get-here i f [] x e = cc
-get-here zero f (y ∷ ys) x e = ap {B = Option _} (λ z. Some (f z)) (some-is y x e)
-  where
-    some-is : {X : Type 0} (y x : X) → ◌≡◌ {A = Option X} (Some y) (Some x) → y ≡ x
-    some-is y x e = cc
-get-here (suc i) f (y ∷ ys) x e = get-here i f ys x e
 
 pub get-there : {X : Type 0} (i j : ℕ) (f : X → X) (xs : List X) → (j ≡ i → ⊥) → slice_get (changed i f xs) j ≡ slice_get xs j
 get-there i j f [] other = refl
@@ -23,14 +16,6 @@ get-there zero zero f (y ∷ ys) other = absurd (other refl)
 get-there zero (suc j) f (y ∷ ys) other = refl
 get-there (suc i) zero f (y ∷ ys) other = refl
 get-there (suc i) (suc j) f (y ∷ ys) other = get-there i j f ys (λ e. other (ap suc e))
-
-pub get-map : {X Y : Type 0} (f : X → Y) (xs : List X) (i : ℕ) (x : X) → slice_get xs i ≡ Some x → slice_get (map f xs) i ≡ Some (f x)
-get-map f [] i x e = cc
-get-map f (y ∷ ys) zero x e = ap {B = Option _} (λ z. Some (f z)) (some-is y x e)
-  where
-    some-is : {X : Type 0} (y x : X) → ◌≡◌ {A = Option X} (Some y) (Some x) → y ≡ x
-    some-is y x e = cc
-get-map f (y ∷ ys) (suc i) x e = get-map f ys i x e
 
 -- an element of a list
 abbrev pub IsIn : {X : Type 0} → X → List X → Type 0

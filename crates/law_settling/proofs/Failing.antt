@@ -1,5 +1,5 @@
 -- Who is not UP_FAILURE stays so where its inputs are whole; and while a node is UP_FAILURE no ask of it becomes over.
-use Rattle.std.proofs.Common.{◌≡◌, ℕ, ◌+◌, ◌-◌, ◌<◌, ◌≤◌, Bool, true, false, cond, not, ◌&&◌, ◌==◌, min, List, [], ◌∷◌, ◌++◌, map, length, refl, sym, ap, ◌∙◌, arith, Option, Some, None}
+use Rattle.std.proofs.Common.{◌≡◌, ℕ, ◌+◌, ◌-◌, ◌<◌, ◌≤◌, Bool, true, false, cond, not, ◌&&◌, ◌==◌, min, List, [], ◌∷◌, ◌++◌, map, length, refl, ap, ◌∙◌, arith, Option, Some, None}
 use Rattle.std.specs.Prelude.{is_none}
 use Rattle.dpc_lists.specs.Lists.{nth, list_all, is_nil, range_with_len}
 use Rattle.dpc_model.specs.Due.{first_incomplete, is_complete}
@@ -21,6 +21,7 @@ use Rattle.dpc_model.specs.declared.messages.Message.{Message}
 use Rattle.dpc_model.specs.declared.messages.Message.TheVariants as message
 use Rattle.dpc_model.specs.declared.messages.NodeState.{NodeState}
 use Rattle.dpc_model.specs.declared.messages.NodeState.TheVariants.{Stable, UpFailure, Stabilization}
+use Rattle.dpc_lists.proofs.Truths.{not-both}
 use Rattle.node_model.specs.Mails.{mail, Snap, Packet, Plain, SnapFor, to_each, Stepped}
 use Rattle.node_model.specs.Nodes.{Home, PlainNode, streams_of, held_by, buckets_of, node_frontier, bucket_of, complete_upto, complete_buckets, ready, due_at, wants_to_reconcile}
 use Rattle.node_model.specs.NodeSteps.{idle_step, then_do, peers_of, peer_watches, replica_number, reader_place, with_port, enter_step, after_loss, after_adoption, after_taking, with_stamps_of, on_batch, on_subscribe, on_truncation, on_upstream_beat, on_peer_beat, on_ack, on_ask, on_grant, on_snap_ask, on_message, on_packet, on_snap, with_marks_ended, packet_step, after_stable_buckets, mill_step, after_clock, may_start_afresh, choice_step, ask_step, count_upto, stably, processing_upto, processing_step, announcing_step, serving_step, snapshot_ask_step, rest_of_tick, with_fresh_start, tick_step}
@@ -41,9 +42,6 @@ even-same n m s o = record { fine = λ e. ap is_up_failure s ∙ e; over = λ e.
 
 even-itself : (n : PlainNode) → IsEven n n
 even-itself n = even-same n n refl refl
-
-not-both : (b : Bool) → b ≡ true → b ≡ false → ⊥
-not-both b e f = let clash : true ≡ false = sym e ∙ f in cc
 
 pub failed-moves : (s : NodeState) → is_up_failure s ≡ true → is_stabilization s ≡ false
 failed-moves Stable e = cc

@@ -13,15 +13,17 @@ use Rattle.node_model.specs.Mails.{mail}
 use Rattle.node_model.specs.Sources.{source_beat}
 use Rattle.world_model.specs.Worlds.{Envelope, from, happens}
 use Rattle.world_model.specs.Schedules.{Progress, next_progress}
-use Rattle.law_safety.proofs.Tests.{le-test}
+use Rattle.dpc_lists.proofs.Truths.{le-test}
+use Rattle.dpc_model.proofs.Alike.{same_sess-eq, newer-trans}
 use Rattle.law_granting.specs.Taken.{port_of}
-use Rattle.law_settling.proofs.Waitings.{waits, is_delivery, waits-on}
+use Rattle.world_model.specs.Events.{is_delivery}
+use Rattle.law_settling.proofs.Waitings.{waits, waits-on}
 use Rattle.law_settling.proofs.Rules.{MayGo}
 use Rattle.law_settling.proofs.Going.{InletGoes, Stays, TakesIn, TicksOn, took-now}
 use Rattle.law_settling.proofs.Sourcing.{sub_at, SourceGoes, Keeps as KeepsSub, Opens, source-goes, beats-now}
 use Rattle.law_settling.proofs.Full.{tally-parts}
-use Rattle.law_settling.proofs.Standing.{old-kept, same-fields}
-use Rattle.law_settling.proofs.Readings.{after-broken, after-answered, tally-says, none-says, newer-then}
+use Rattle.law_settling.proofs.Standing.{old-kept}
+use Rattle.law_settling.proofs.Readings.{after-broken, after-answered, tally-says, none-says}
 use Rattle.law_settling.proofs.Fresh.{IsSeen, HasWhole, Coming, new-waits, still-sent, Reopens, Holds, port-next, ticked-says, ticks-now}
 use Rattle.law_settling.proofs.Reopening.{can-here, reopens}
 
@@ -48,6 +50,18 @@ pub record IsSlow (x p i : ℕ) (z : Progress) : Type 0 where
 abbrev pub IsTold : Option (Sess × ℕ) → Sub → Type 0
 IsTold None sub = Unit {0}
 IsTold (Some l) sub = (tally_of sub ≡ Some l) ⊎ ((c : Sess) × (sub.kept ≡ Some c) × (is_newer c l.0 ≡ true))
+
+-- a tick that opens no session anew is not the third
+pub below : (n : ℕ) → nat_le 3 (min 3 (n + 1)) ≡ false → n + 1 ≤ 2
+below zero e = omega arith
+below (suc zero) e = omega arith
+below (suc (suc n)) e =
+    let test = le-test 3 (min 3 (suc (suc n) + 1)) (omega arith) in
+    let clash : true ≡ false = sym test ∙ e in cc
+
+pub told-of : (l : Option (Sess × ℕ)) (sub : Sub) → tally_of sub ≡ l → IsTold l sub
+told-of None sub e = tt
+told-of (Some l) sub e = inl e
 
 -- the session was answered, and a beat of the source waits
 pub record IsHearing (x p s k : ℕ) (n : ℕ) (tally : Option (Sess × ℕ)) (z : Progress) : Type 0 where
@@ -138,16 +152,6 @@ module _ (script : Script) (x p s k : ℕ) where
             let early : h.port.ticks + 1 ≤ 2 = below h.port.ticks few in
             inl (omega (arith, early, low), record { port = r.0; there = r.1; answered = ap (λ (j : InletState). j.answered) inlet ∙ h.answered; ticks = omega (arith, ticks, low, early) })
       ]
-    where
-      below : (n : ℕ) → nat_le 3 (min 3 (n + 1)) ≡ false → n + 1 ≤ 2
-      below n e = by-value n e
-        where
-          by-value : (n : ℕ) → nat_le 3 (min 3 (n + 1)) ≡ false → n + 1 ≤ 2
-          by-value zero e = omega arith
-          by-value (suc zero) e = omega arith
-          by-value (suc (suc n)) e =
-              let test = le-test 3 (min 3 (suc (suc n) + 1)) (omega arith) in
-              let clash : true ≡ false = sym test ∙ e in cc
 
   -- ---- a beat
 
@@ -160,7 +164,7 @@ module _ (script : Script) (x p s k : ℕ) where
         ap (λ (y : Sub). y.kept) opened,
         elim told [
           | inl still ↦ let kept = (tally-parts (sub_at z.world s k) l.0 l.1 still).0 in sym (ap (λ (o : Option Sess). is_newer_than_kept v.sess o) kept) ∙ newer
-          | inr past ↦ newer-then v.sess past.0 l.0 (sym (ap (λ (o : Option Sess). is_newer_than_kept v.sess o) past.1) ∙ newer) past.2
+          | inr past ↦ newer-trans v.sess past.0 l.0 (sym (ap (λ (o : Option Sess). is_newer_than_kept v.sess o) past.1) ∙ newer) past.2
         ],
       )
 
@@ -181,7 +185,7 @@ module _ (script : Script) (x p s k : ℕ) where
           elim (tally-says q.inlet l.0 l.1 h.answered.answered) [
             | inl broken ↦ inl (record { port = r; there = now; broken = ap (λ (i : InletState). i.broken) inlet ∙ broken })
             | inr says ↦
-                let sess : l.0 ≡ q.inlet.sess = same-fields l.0 q.inlet.sess says.1 in
+                let sess : l.0 ≡ q.inlet.sess = same_sess-eq l.0 q.inlet.sess says.1 in
                 elim told [
                   | inl still ↦
                       let link_is : tally_of (sub_at z.world s k) ≡ Some (q.inlet.sess, l.1) = still ∙ ap {B = Option (Sess × ℕ)} (λ (y : Sess). Some (y, l.1)) sess in
@@ -226,7 +230,3 @@ module _ (script : Script) (x p s k : ℕ) where
           },
         )
       ]
-    where
-      told-of : (l : Option (Sess × ℕ)) (sub : Sub) → tally_of sub ≡ l → IsTold l sub
-      told-of None sub e = tt
-      told-of (Some l) sub e = inl e

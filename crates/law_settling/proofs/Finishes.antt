@@ -11,18 +11,21 @@ use Rattle.dpc_model.specs.declared.plans.Plan.{Plan}
 use Rattle.dpc_model.specs.declared.scripts.Script.{Script}
 use Rattle.node_model.specs.Nodes.{PlainNode, buckets_of, ready}
 use Rattle.world_model.specs.Worlds.{World, home_of, node_place, slot_of, run}
-use Rattle.world_model.specs.Schedules.{Progress, next_progress, progress_from, progress, may_follow, follows_from, is_live_so_far}
-use Rattle.world_model.specs.Steady.{patience, IsSteady, OpensWell}
-use Rattle.law_safety.proofs.Tests.{both}
+use Rattle.world_model.specs.Schedules.{Progress, next_progress, progress_from, progress, may_follow, follows_from, is_live_so_far, settling_phases}
+use Rattle.world_model.specs.Steady.{IsSteady, OpensWell}
+use Rattle.dpc_lists.proofs.Truths.{both}
+use Rattle.dpc_model.proofs.Alike.{phase-is}
+use Rattle.world_model.proofs.Running.{follows-part}
 use Rattle.law_safety.proofs.Worlding.{actor-at}
 use Rattle.law_safety.proofs.Happening.{node-here}
 use Rattle.law_safety.proofs.Frames.{IsGood as IsGoodNode}
 use Rattle.law_granting.specs.Asking.{AsksInOrder}
 use Rattle.law_granting.proofs.Running.{run-order}
 use Rattle.law_readers.specs.Settling.{CanSettle}
-use Rattle.law_readers.proofs.Running.{run-of}
 use Rattle.law_schedules.proofs.Journals.{live-far, progress-run}
-use Rattle.law_settling.specs.Phased.{is_quiet, opened}
+use Rattle.world_model.specs.Events.{is_quiet}
+use Rattle.law_safety.proofs.Growing.{run-plan}
+use Rattle.law_settling.specs.Phased.{opened}
 use Rattle.law_settling.specs.Finished.{has_whole_inputs, FinishedAt, WholeReplicasFinish}
 use Rattle.law_settling.proofs.Splitting.{IsQuietAt, opens, in-quiet, quiet-goes}
 use Rattle.law_settling.proofs.Rules.{GoodThrough}
@@ -30,22 +33,19 @@ use Rattle.law_settling.proofs.Journeys.{IsStep, through-phase, opened-at}
 use Rattle.law_settling.proofs.Along.{every-behind, progress-push, live-may, running-along, good-along}
 use Rattle.law_settling.proofs.PortSteps.{calm-at}
 use Rattle.law_settling.proofs.Promises.{open-of}
-use Rattle.law_settling.proofs.Deliveries.{progress-parts, follows-part, live-part}
+use Rattle.law_settling.proofs.Deliveries.{progress-parts, live-part}
 use Rattle.law_settling.proofs.Finishing.{ready-all, finished-of}
 use Rattle.law_settling.proofs.Targets.{IsCalmAt, IsPast, has_target, target-opened, target-met, past-kept}
 
-phase-is : {m n : ℕ} → Phase m ≡ Phase n → m ≡ n
-phase-is e = cc
-
 module _ (script : Script) (events : List Event) (can : CanSettle script) (live : is_live_so_far script events ≡ true) (well : OpensWell script events) (steady : IsSteady script events) where
   -- every state past the first quiet phases
-  calm-along : (done rest : List Event) → events ≡ done ++ rest → length script.phases + patience < (progress script done).phase → IsCalmAt script (progress script done)
+  calm-along : (done rest : List Event) → events ≡ done ++ rest → length script.phases + settling_phases < (progress script done).phase → IsCalmAt script (progress script done)
   calm-along done rest is far =
       let good = good-along script events live well steady done rest is far in
       record { here = open-of script can (progress script done) (record { events = good.events; is = good.is; live = good.live; standing = good.standing }); calm = good.calm }
 
   -- and those of a phase
-  calm-through : (done es rest : List Event) → events ≡ done ++ (es ++ rest) → length script.phases + patience < (progress script done).phase → list_all is_quiet es ≡ true → GoodThrough script (IsCalmAt script) (progress script done) es
+  calm-through : (done es rest : List Event) → events ≡ done ++ (es ++ rest) → length script.phases + settling_phases < (progress script done).phase → list_all is_quiet es ≡ true → GoodThrough script (IsCalmAt script) (progress script done) es
   calm-through done [] rest is far quiet = calm-along done rest is far
   calm-through done (e ∷ es) rest is far quiet =
       let q = both (is_quiet e) (list_all is_quiet es) quiet in
@@ -57,7 +57,7 @@ module _ (script : Script) (events : List Event) (can : CanSettle script) (live 
       (here, subst (λ (y : Progress). GoodThrough script (IsCalmAt script) y es) push (calm-through (done ++ e ∷ []) es rest later (omega (arith, far, phase)) q.1))
 
   -- a phase of the journal behind a complete one
-  step-at : (before here rest : List Event) (p q : ℕ) → events ≡ before ++ (Phase p ∷ (here ++ Phase q ∷ rest)) → length script.phases + patience < p → list_all is_quiet here ≡ true →
+  step-at : (before here rest : List Event) (p q : ℕ) → events ≡ before ++ (Phase p ∷ (here ++ Phase q ∷ rest)) → length script.phases + settling_phases < p → list_all is_quiet here ≡ true →
       IsStep script (IsCalmAt script) (progress script before) here × (progress script (before ++ Phase p ∷ []) ≡ opened script (progress script before)) × ((progress script before).phase + 1 ≡ p)
   step-at before here rest p q is far quiet =
       let x = progress script before in
@@ -86,7 +86,7 @@ module _ (script : Script) (events : List Event) (can : CanSettle script) (live 
 
   module _ (a f r : ℕ) (role_a : role_of script.plan a ≡ IsNode f r) where
     abbrev Inv : List Event → Type 0
-    Inv done = (length script.phases + patience < (progress script done).phase) × IsPast a (buckets_of script.plan) (progress script done)
+    Inv done = (length script.phases + settling_phases < (progress script done).phase) × IsPast a (buckets_of script.plan) (progress script done)
 
     inv-next : (done rest : List Event) (e : Event) → events ≡ done ++ e ∷ rest → Inv done → Inv (done ++ e ∷ [])
     inv-next done rest e is h =
@@ -96,19 +96,19 @@ module _ (script : Script) (events : List Event) (can : CanSettle script) (live 
         let follows = live-may script events done rest e live is in
         let here = calm-along done (e ∷ rest) is far in
         let later : events ≡ (done ++ e ∷ []) ++ rest = is ∙ sym (append_assoc done (e ∷ []) rest) in
-        subst (λ (y : Progress). (length script.phases + patience < y.phase) × IsPast a (buckets_of script.plan) y) (sym push) (elim (in-quiet script z e here.here.at follows) [
+        subst (λ (y : Progress). (length script.phases + settling_phases < y.phase) × IsPast a (buckets_of script.plan) y) (sym push) (elim (in-quiet script z e here.here.at follows) [
           | inl quiet ↦
               let same = (quiet-goes script z e quiet here.here.at).1 in
-              let more : length script.phases + patience < (next_progress script z e).phase = omega (arith, same, far) in
-              let next = subst (IsCalmAt script) push (calm-along (done ++ e ∷ []) rest later (subst (λ (y : Progress). length script.phases + patience < y.phase) (sym push) more)) in
+              let more : length script.phases + settling_phases < (next_progress script z e).phase = omega (arith, same, far) in
+              let next = subst (IsCalmAt script) push (calm-along (done ++ e ∷ []) rest later (subst (λ (y : Progress). length script.phases + settling_phases < y.phase) (sym push) more)) in
               (more, past-kept script a f r role_a (buckets_of script.plan) z e (record { quiet = quiet; may = follows; here = here; next = next }) h.1)
           | inr o ↦
-              let at : (length script.phases + patience < (opened script z).phase) × IsPast a (buckets_of script.plan) (opened script z) = (omega (arith, far), record { node = h.1.node; up = h.1.up; past = h.1.past }) in
-              subst (λ (d : Event). (length script.phases + patience < (next_progress script z d).phase) × IsPast a (buckets_of script.plan) (next_progress script z d)) (sym o.0) at
+              let at : (length script.phases + settling_phases < (opened script z).phase) × IsPast a (buckets_of script.plan) (opened script z) = (omega (arith, far), record { node = h.1.node; up = h.1.up; past = h.1.past }) in
+              subst (λ (d : Event). (length script.phases + settling_phases < (next_progress script z d).phase) × IsPast a (buckets_of script.plan) (next_progress script z d)) (sym o.0) at
         ])
 
     -- who has whole inputs is past its last bucket at the end of the phase
-    past-first : (before here rest : List Event) (p q : ℕ) → events ≡ before ++ (Phase p ∷ (here ++ Phase q ∷ rest)) → length script.phases + patience < p → list_all is_quiet here ≡ true →
+    past-first : (before here rest : List Event) (p q : ℕ) → events ≡ before ++ (Phase p ∷ (here ++ Phase q ∷ rest)) → length script.phases + settling_phases < p → list_all is_quiet here ≡ true →
         (n : PlainNode) → (slot_of (run script.plan before) a).node ≡ Some n → has_whole_inputs script.plan n ≡ true → is_up_failure n.state ≡ false → Inv ((before ++ Phase p ∷ []) ++ here)
     past-first before here rest p q is far quiet n up whole fine =
         let x = progress script before in
@@ -129,9 +129,9 @@ module _ (script : Script) (events : List Event) (can : CanSettle script) (live 
         let target = target-opened script a f r role_a x n open_x calm_y up_x in
         let met = target-met script a f r role_a (buckets_of script.plan) x here s.0 (subst (λ (g : ℕ). has_target a g (opened script x).targets ≡ true) goal target) in
         let z_is : progress script ((before ++ Phase p ∷ []) ++ here) ≡ progress_from script (opened script x) here = progress-parts script (before ++ Phase p ∷ []) here ∙ ap (λ (y : Progress). progress_from script y here) s.1 in
-        subst (λ (y : Progress). (length script.phases + patience < y.phase) × IsPast a (buckets_of script.plan) y) (sym z_is) (late x here s.0.at quiet (omega (arith, number, far)), met)
+        subst (λ (y : Progress). (length script.phases + settling_phases < y.phase) × IsPast a (buckets_of script.plan) y) (sym z_is) (late x here s.0.at quiet (omega (arith, number, far)), met)
       where
-        late : (x : Progress) (es : List Event) → IsQuietAt script x → list_all is_quiet es ≡ true → length script.phases + patience < x.phase + 1 → length script.phases + patience < (progress_from script (opened script x) es).phase
+        late : (x : Progress) (es : List Event) → IsQuietAt script x → list_all is_quiet es ≡ true → length script.phases + settling_phases < x.phase + 1 → length script.phases + settling_phases < (progress_from script (opened script x) es).phase
         late x es at quiet far = let same = through-phase script (opened script x) es quiet (opened-at script x at) in omega (arith, same, far)
 
     -- who is past its last bucket has finished
@@ -141,7 +141,7 @@ module _ (script : Script) (events : List Event) (can : CanSettle script) (live 
         let far = h.0 in
         let good = calm-along done rest is far in
         let world : (progress script done).world ≡ w = progress-run script done in
-        let plan = run-of script.plan done in
+        let plan = run-plan script.plan done in
         let n = h.1.node in
         let z = progress script done in
         let role : role_of z.world.plan a ≡ IsNode f r = ap (λ (pl : Plan). role_of pl a) good.here.of_plan ∙ role_a in

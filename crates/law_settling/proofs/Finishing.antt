@@ -16,7 +16,8 @@ use Rattle.node_model.specs.Nodes.{Home, PlainNode, streams_of, buckets_of, node
 use Rattle.world_model.specs.Safe.{EachHolds}
 use Rattle.world_model.specs.Orderly.{are_ports_sound, is_port_sound, has_state_of_closed, closed_in_place}
 use Rattle.law_safety.specs.Plans.{IsPlace}
-use Rattle.law_safety.proofs.Tests.{both, both-of, eq-of, eq-test, le-of, le-test, lt-of, not-lt}
+use Rattle.dpc_lists.proofs.Truths.{both, both-of, eq-of, eq-test, le-of, le-test, lt-of, not-lt}
+use Rattle.dpc_lists.proofs.Elements.{no-elements}
 use Rattle.law_safety.proofs.Frames.{IsGood}
 use Rattle.law_granting.specs.Asking.{AsksInOrder, reconciles}
 use Rattle.law_settling.specs.Finished.{has_whole_inputs, IsFinished}
@@ -113,7 +114,7 @@ finished-of home most n place good asks calm past =
     let p = both _ (nat_le (node_frontier n) (buckets_of home.plan)) good.orderly.closed in
     let low = le-of (node_frontier n) (buckets_of home.plan) p.1 in
     let same : n.cursor ≡ buckets_of home.plan = omega (arith, low, past) in
-    let empty = no-length n.closed (omega (arith, low, past)) in
+    let empty = no-elements n.closed (omega (arith, low, past)) in
     let upto = least-low (home.plan.end / home.plan.width) (map (λ (r : Reader). r.bound / home.plan.width) (map held_at n.ports)) (low-upto home.plan place.checked.width (streams_of home) n.ports good.safe.inputs) in
     let width_end : n.cursor * home.plan.width ≡ home.plan.end = ap (λ (c : ℕ). c * home.plan.width) same ∙ place.checked.whole in
     record {
@@ -124,10 +125,6 @@ finished-of home most n place good asks calm past =
       output = (good.safe.output calm).output ∙ ap (λ (b : ℕ). ideal_upto home.plan (Frag home.frag) b) width_end ∙ sym (ideal-end home.plan (Frag home.frag));
     }
   where
-    no-length : {X : Type 0} (xs : List X) → length xs ≡ 0 → xs ≡ []
-    no-length [] e = refl
-    no-length (x ∷ xs) e = absurd (omega (arith, e))
-
     none-ready : complete_upto home n ≤ buckets_of home.plan → n.cursor ≡ buckets_of home.plan → n.closed ≡ [] → cond {A = ℕ} n.recovering 0 (complete_buckets home n) ≡ 0
     none-ready upto same empty =
         let is : cond {A = ℕ} n.recovering 0 (complete_buckets home n) ≡ complete_upto home n - n.cursor =

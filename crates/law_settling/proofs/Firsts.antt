@@ -1,5 +1,5 @@
 -- The replicas of a fragment that reads sources alone have whole inputs once the sources are read, so they finish.
-use Rattle.std.proofs.Common.{◌≡◌, ℕ, zero, suc, ◌+◌, ◌<◌, ◌≤◌, Bool, true, ◌==◌, List, [], ◌∷◌, ◌++◌, length, refl, sym, ap, ◌∙◌, arith, Option, Some, slice_get}
+use Rattle.std.proofs.Common.{◌≡◌, ℕ, suc, ◌+◌, ◌≤◌, Bool, true, ◌==◌, List, [], ◌∷◌, ◌++◌, length, refl, sym, ap, ◌∙◌, arith, Option, Some, slice_get}
 use Rattle.std.specs.Prelude.{IsTrue}
 use Rattle.std.proofs.lemmas.Option.{slice_get_within}
 use Rattle.dpc_lists.specs.Lists.{list_all}
@@ -13,10 +13,12 @@ use Rattle.dpc_model.specs.declared.plans.StreamRef.{StreamRef}
 use Rattle.dpc_model.specs.declared.scripts.Script.{Script}
 use Rattle.node_model.specs.Nodes.{PlainNode, streams_of}
 use Rattle.world_model.specs.Worlds.{home_of, run}
-use Rattle.world_model.specs.Schedules.{is_live}
-use Rattle.world_model.specs.Steady.{patience, IsSteady, OpensWell}
+use Rattle.world_model.specs.Schedules.{is_live, settling_phases}
+use Rattle.world_model.specs.Steady.{IsSteady, OpensWell}
 use Rattle.law_safety.specs.Plans.{IsCheckedPlan}
-use Rattle.law_safety.proofs.Tests.{both-of, eq-test}
+use Rattle.dpc_lists.proofs.Truths.{both-of, eq-test}
+use Rattle.dpc_lists.proofs.Elements.{some-there}
+use Rattle.dpc_lists.proofs.Somes.{some-same}
 use Rattle.law_safety.proofs.Numbering.{home-inputs}
 use Rattle.law_safety.proofs.Happening.{node-here}
 use Rattle.law_safety.proofs.Law.{run-good}
@@ -36,11 +38,6 @@ use Rattle.law_settling.proofs.ReplicasFinish.{replicas-finish}
 all-get : (test : Port → Bool) (xs : List Port) → ((i : ℕ) (x : Port) → slice_get xs i ≡ Some x → test x ≡ true) → list_all test xs ≡ true
 all-get test [] h = refl
 all-get test (x ∷ xs) h = both-of (test x) (list_all test xs) (h 0 x refl) (all-get test xs (λ i y e. h (suc i) y e))
-
-some-there : {X : Type 0} (xs : List X) (i : ℕ) → i < length xs → (x : X) × (slice_get xs i ≡ Some x)
-some-there [] i low = absurd (omega (arith, low))
-some-there (x ∷ xs) zero low = (x, refl)
-some-there (x ∷ xs) (suc i) low = some-there xs i (omega (arith, low))
 
 -- of two beginnings of one list the longer one begins with the other
 pub longer-begins : (one done more_1 more_2 : List Event) → one ++ more_1 ≡ done ++ more_2 → length one ≤ length done → (extra : List Event) × (done ≡ one ++ extra)
@@ -72,16 +69,13 @@ inputs-whole plan done f a r n checked at ends = all-get (λ (p : Port). p.inlet
 
 module _ (script : Script) (events : List Event) (f : ℕ) (can : CanSettle script) (lives : is_live script events ≡ true) (well : OpensWell script events) (steady : IsSteady script events) (only : ReadsSourcesOnly script.plan f) where
   -- its replicas have whole inputs
-  whole-inputs : (done more : List Event) → events ≡ done ++ more → length script.phases + patience + reading_phases + 1 ≤ phases_in done → AreWhole script.plan (run script.plan done) f
+  whole-inputs : (done more : List Event) → events ≡ done ++ more → length script.phases + settling_phases + reading_phases + 1 ≤ phases_in done → AreWhole script.plan (run script.plan done) f
   whole-inputs done more is late a r n at =
       inputs-whole script.plan done f a r n can.plan at (λ i s x there reads port.
       let k = only i s there in
       let read = sources-read script events can lives well steady done more is late a i k.0 (reads ∙ ap {B = Option StreamRef} (λ (u : StreamRef). Some u) k.1) in
-      let same = some-port read.port x (sym read.there ∙ port) in
+      let same = some-same read.port x (sym read.there ∙ port) in
       sym (ap (λ (p : Port). p.inlet.held.bound) same) ∙ read.has.bound)
-    where
-      some-port : (x y : Port) → ◌≡◌ {A = Option Port} (Some x) (Some y) → x ≡ y
-      some-port x y e = cc
 
 pub first-fragments-finish : (script : Script) (events : List Event) → FirstFragmentsFinish script events
 first-fragments-finish script events can lives well steady before mid rest f is only late far =

@@ -16,11 +16,11 @@ use Rattle.dpc_lists.proofs.Elements.{get-first}
 use Rattle.node_model.specs.Mails.{Plain}
 use Rattle.world_model.specs.Worlds.{World, Envelope, happens}
 use Rattle.world_model.specs.Schedules.{Undelivered, Progress, next_progress, noting, newly_sent, may_follow}
-use Rattle.law_safety.proofs.Tests.{eq-test}
+use Rattle.dpc_lists.proofs.Truths.{eq-test, neither}
 use Rattle.law_safety.proofs.Growing.{event-grows}
 use Rattle.law_granting.specs.Taken.{port_of}
 use Rattle.law_schedules.specs.Journals.{Ticks}
-use Rattle.law_settling.specs.Phased.{is_quiet}
+use Rattle.world_model.specs.Events.{is_quiet}
 use Rattle.law_settling.proofs.Splitting.{IsQuietAt}
 use Rattle.law_settling.proofs.Waitings.{waits}
 use Rattle.law_settling.proofs.Rules.{MayGo, Keeps}
@@ -160,10 +160,6 @@ stay-says q r is choice =
           let parts = neither q.inlet.broken (not q.inlet.answered && nat_le 3 (min 3 (q.ticks + 1))) (sym left ∙ e) in
           Holds parts.0 parts.1 (ap (λ (z : Port). z.inlet) is ∙ ap (λ (b : Bool). cond b (with_next_session q.inlet) q.inlet) e) (ap (λ (z : Port). z.ticks) is ∙ ap (λ (b : Bool). cond {A = ℕ} b 0 (min 3 (q.ticks + 1))) e)
     ]) refl
-  where
-    neither : (a b : Bool) → (a || b) ≡ false → (a ≡ false) × (b ≡ false)
-    neither true b e = cc
-    neither false b e = (refl, e)
 
 -- ---- one event
 

@@ -1,17 +1,14 @@
 -- A port that took all of a source that released its log has the whole of it, and so has one that takes the source's answer.
-use Rattle.std.proofs.Common.{◌≡◌, ℕ, ◌+◌, ◌<◌, ◌≤◌, Bool, true, false, cond, not, ◌==◌, List, [], ◌∷◌, ◌++◌, length, take, drop, refl, sym, ap, subst, ◌∙◌, arith, Option, Some, None, slice_get}
+use Rattle.std.proofs.Common.{◌≡◌, ℕ, ◌+◌, ◌<◌, ◌≤◌, Bool, true, false, cond, not, List, length, refl, sym, ap, subst, ◌∙◌, arith, Option, Some, None, slice_get}
 use Rattle.std.specs.Prelude.{max}
-use Rattle.std.proofs.lemmas.List.{take-append-drop, length-take}
-use Rattle.dpc_lists.specs.Lists.{nth, IsPrefixOf}
-use Rattle.dpc_model.specs.Streams.{count_below}
-use Rattle.dpc_model.specs.Fragments.{ideal, log_of}
+use Rattle.dpc_lists.specs.Lists.{nth}
+use Rattle.dpc_model.specs.Fragments.{ideal}
 use Rattle.dpc_model.specs.Reading.{Reader, is_sure, Folded, fold_items}
 use Rattle.dpc_model.specs.Actors.{role_of, senders_of}
 use Rattle.dpc_model.specs.Ports.{Port}
 use Rattle.dpc_model.specs.Sessions.{first_batch, tally_of}
 use Rattle.dpc_model.specs.declared.actors.Role.{Role}
 use Rattle.dpc_model.specs.declared.sessions.Sub.{Sub}
-use Rattle.dpc_model.specs.declared.tuples.Tuple.{Tuple}
 use Rattle.dpc_model.specs.declared.messages.Event.{Event}
 use Rattle.dpc_model.specs.declared.messages.Sess.{Sess}
 use Rattle.dpc_model.specs.declared.messages.Subscribe.{Subscribe}
@@ -22,10 +19,11 @@ use Rattle.world_model.specs.Worlds.{source_at, run}
 use Rattle.world_model.specs.Safe.{HoldsOf}
 use Rattle.world_model.specs.SessionLaw.{Fits, bound_of}
 use Rattle.law_safety.specs.Plans.{IsChecked, IsCheckedPlan}
-use Rattle.law_safety.proofs.Tests.{eq-of}
+use Rattle.dpc_model.proofs.Prefixes.{prefix-taken}
 use Rattle.law_safety.proofs.Law.{run-good}
-use Rattle.law_safety.proofs.Sourcing.{IsFineSource, ideal-log}
-use Rattle.law_safety.proofs.Views.{IsView, first-leaves}
+use Rattle.law_safety.proofs.Sourcing.{IsFineSource}
+use Rattle.law_safety.proofs.Views.{first-leaves}
+use Rattle.law_sessions.proofs.Sources.{bound-is, source-view}
 use Rattle.law_granting.specs.Taken.{port_of, line_of, IsAnsweredIn}
 use Rattle.law_readers.specs.Newest.{IsPortOf, subs_of}
 use Rattle.law_readers.specs.Held.{TookAll, shown_by}
@@ -50,9 +48,6 @@ tally-parts sub u m e = by-kept sub.kept refl e
           | true ↦ λ is d. let p = some-pair v sub.batches d in (f ∙ ap {B = Option Sess} Some p.0, is, p.1)
           | false ↦ λ is d. cc
         ]) refl g
-
-bound-whole : (plan : Plan) (s e : ℕ) → bound_of (bound_at plan s e) ≡ e
-bound-whole plan s e = (elim (e == 0) as (λ d. (e == 0) ≡ d → bound_of (cond d None (Some (e, count_below (log_of plan s) e))) ≡ e) [ true ↦ λ f. sym (eq-of e 0 f) | false ↦ λ f. refl ]) refl
 
 -- what a port of a run holds
 pub run-holds : (plan : Plan) (events : List Event) (x p s : ℕ) (q : Port) → IsCheckedPlan plan → IsPortOf plan x p (Source s) → port_of (run plan events) x p ≡ Some q → HoldsOf plan (Source s) q.inlet.held
@@ -88,7 +83,7 @@ took-whole plan events x p s k checked line q there first whole m tally all low 
     let view = views-held plan events checked x p s 1 (Source s) q shows line.port took answered (ap (λ (r : Role). shown_by plan w s r) line.source) in
     let holds = run-holds plan events x p s q checked line.port there in
     let within = holds.within in
-    let top : bound_of (bound_at plan s (source_at w s).bound) ≡ plan.end = bound-whole plan s (source_at w s).bound ∙ ended in
+    let top : bound_of (bound_at plan s (source_at w s).bound) ≡ plan.end = bound-is plan s (source_at w s).bound ∙ ended in
     let bound : q.inlet.held.bound ≡ max view.start.bound (bound_of (bound_at plan s (source_at w s).bound)) = ap (λ (r : Reader). r.bound) view.view in
     (omega (arith, bound, top, within), ap is_sure view.view)
 
@@ -98,45 +93,19 @@ pub not-not : (d : Bool) → d ≡ not (not d)
 not-not true = refl
 not-not false = refl
 
-pub take-prefix : (xs ys : List Tuple) → IsPrefixOf xs ys → xs ≡ take (length xs) ys
-take-prefix xs ys p = rw p.1 (whole xs p.0)
-  where
-    whole : (xs rest : List Tuple) → xs ≡ take (length xs) (xs ++ rest)
-    whole [] rest = refl
-    whole (x ∷ xs) rest = ap (λ (zs : List Tuple). x ∷ zs) (whole xs rest)
-
 -- what is asked for with this held
 abbrev pub asks_with : Sess → Reader → Subscribe
 asks_with u h = record { sess = u; n = length h.stable; tentative = not (is_sure h) }
 
 held-fits : (plan : Plan) (s : ℕ) (u : Sess) (h : Reader) → HoldsOf plan (Source s) h → Fits plan (Source s) (asks_with u h) h
-held-fits plan s u h holds = record { stable = take-prefix h.stable (ideal plan (Source s)) holds.stable; count = refl; bound = holds.bound; tentative = not-not (is_sure h) }
-
-shown-view : (plan : Plan) (s : ℕ) (y : SourceState) → IsChecked plan → IsFineSource plan s y → IsView plan (Source s) (source_shown plan s y)
-shown-view plan s y checked fine =
-    let few = fine.few in
-    let below = fine.below in
-    record {
-      beginning = subst (IsPrefixOf (take y.emitted (log_of plan s))) (sym (ideal-log plan s checked)) (drop y.emitted (log_of plan s), sym (take-append-drop y.emitted (log_of plan s)));
-      bound = λ b. (elim (y.bound == 0) as (λ d. cond {A = Option (ℕ × ℕ)} d None (Some (y.bound, count_below (log_of plan s) y.bound)) ≡ Some b → b.1 ≤ length (take y.emitted (log_of plan s))) [
-        | true ↦ λ e. cc
-        | false ↦ λ e.
-            let same : b.1 ≡ count_below (log_of plan s) y.bound = some-second e in
-            let many = length-take y.emitted (log_of plan s) in
-            omega (arith, same, many, few, below)
-      ]);
-      stable = λ e. (refl, refl);
-    }
-  where
-    some-second : {b : ℕ × ℕ} {p q : ℕ} → ◌≡◌ {A = Option (ℕ × ℕ)} (Some (p, q)) (Some b) → b.1 ≡ q
-    some-second {b} {p} {q} e = let same : b ≡ (p, q) = cc in ap (λ (x : ℕ × ℕ). x.1) same
+held-fits plan s u h holds = record { stable = prefix-taken h.stable (ideal plan (Source s)) holds.stable; count = refl; bound = holds.bound; tentative = not-not (is_sure h) }
 
 -- the first batch of a source that released its log is read, and leaves the whole of it
 pub first-whole : (plan : Plan) (s : ℕ) (u : Sess) (h : Reader) (y : SourceState) → IsChecked plan → IsFineSource plan s y → y.bound ≡ plan.end → HoldsOf plan (Source s) h →
     (f : Folded) × (fold_items h (first_batch (source_shown plan s y) (asks_with u h)) ≡ Some f) × (f.after.bound ≡ plan.end) × (is_sure f.after ≡ true)
 first-whole plan s u h y checked fine ended holds =
-    let leaves = first-leaves plan (Source s) (asks_with u h) (source_shown plan s y) h (shown-view plan s y checked fine) (held-fits plan s u h holds) in
+    let leaves = first-leaves plan (Source s) (asks_with u h) (source_shown plan s y) h (source-view plan s y checked fine) (held-fits plan s u h holds) in
     let low = holds.within in
-    let top : bound_of (bound_at plan s y.bound) ≡ plan.end = bound-whole plan s y.bound ∙ ended in
+    let top : bound_of (bound_at plan s y.bound) ≡ plan.end = bound-is plan s y.bound ∙ ended in
     let bound : leaves.0.after.bound ≡ max h.bound (bound_of (bound_at plan s y.bound)) = ap (λ (r : Reader). r.bound) leaves.2 in
     (leaves.0, leaves.1, omega (arith, top, low, bound), ap is_sure leaves.2)

@@ -1,5 +1,5 @@
 -- What an event of a quiet phase makes of a port that reads a source, where its node does not recover: there is one replica, which it reads.
-use Rattle.std.proofs.Common.{◌≡◌, ℕ, ◌<◌, Bool, true, cond, length, refl, sym, ap, subst, ◌∙◌, arith, Option, Some, slice_get, inl, inr}
+use Rattle.std.proofs.Common.{◌≡◌, ℕ, ◌<◌, Bool, true, cond, length, refl, sym, ap, subst, ◌∙◌, arith, Some, slice_get, inl, inr}
 use Rattle.dpc_lists.specs.Lists.{nth}
 use Rattle.dpc_model.specs.Inlets.{take_batch, after_tally}
 use Rattle.dpc_model.specs.Actors.{role_of, inputs_of, senders_of}
@@ -12,13 +12,14 @@ use Rattle.dpc_model.specs.declared.plans.StreamRef.TheVariants.{Source}
 use Rattle.node_model.specs.Mails.{Packet, Plain, SnapFor}
 use Rattle.world_model.specs.Worlds.{World, Envelope, can_come, happens}
 use Rattle.world_model.specs.Steady.{NoneRecovers}
-use Rattle.law_safety.proofs.Tests.{eq-test}
+use Rattle.dpc_lists.proofs.Truths.{eq-test}
+use Rattle.dpc_lists.proofs.Somes.{some-same}
 use Rattle.law_safety.proofs.Happening.{IsFine}
 use Rattle.law_safety.proofs.Pointwise.{sender-of}
 use Rattle.law_granting.specs.Taken.{port_of}
 use Rattle.law_granting.proofs.Taking.{sent-by}
 use Rattle.law_readers.proofs.Steps.{port-chosen}
-use Rattle.law_settling.specs.Phased.{is_quiet}
+use Rattle.world_model.specs.Events.{is_quiet}
 use Rattle.law_settling.proofs.Exact.{inlet_after, PortWith}
 use Rattle.law_settling.proofs.Lines.{IsReading, place-low}
 use Rattle.law_settling.proofs.PortExact.{port_after}
@@ -58,15 +59,12 @@ module _ (w : World) (most x p s k : ℕ) (fine : IsFine w most) (many : length 
   sent-first : (a i : ℕ) → sender_at w.plan (inputs_of w.plan (role_of w.plan x)) a ≡ Some (p, i) → (i ≡ 0) × (a ≡ s)
   sent-first a i place =
       let found = sender-of w.plan (inputs_of w.plan (role_of w.plan x)) a p i place in
-      let stream : found.stream ≡ Source s = some-stream found.stream (Source s) (sym found.at ∙ line.port.there) in
+      let stream : found.stream ≡ Source s = some-same found.stream (Source s) (sym found.at ∙ line.port.there) in
       let low = (place-low a (senders_of w.plan found.stream) i found.place).0 in
       let low_first : i < length (senders_of w.plan (Source s)) = subst (λ (u : StreamRef). i < length (senders_of w.plan u)) stream low in
       let one = line.one in
       let first : i ≡ 0 = omega (arith, low_first, one) in
       (first, sym (sent-by w.plan (inputs_of w.plan (role_of w.plan x)) a p i (Source s) line.port.there place) ∙ ap (λ (z : ℕ). nth 0 (senders_of w.plan (Source s)) z) first ∙ line.first)
-    where
-      some-stream : (y z : StreamRef) → ◌≡◌ {A = Option StreamRef} (Some y) (Some z) → y ≡ z
-      some-stream y z d = cc
 
   pub inlet-goes : (e : Event) → is_quiet e ≡ true → NoneRecovers (happens w e).nodes → (q : Port) → port_of w x p ≡ Some q → To x p (happens w e) (InletGoes w x p s e (happens w e)) q
   inlet-goes e quiet calm_next q there = let k = port-goes w most x p (Source s) fine many line.port calm e quiet calm_next q there in (k.0, k.1, by-port k.0 k.2)

@@ -18,10 +18,11 @@ use Rattle.node_model.specs.Nodes.{PlainNode}
 use Rattle.node_model.specs.NodeSteps.{packet_step}
 use Rattle.world_model.specs.Worlds.{World, Envelope, home_of, from, can_come, happens}
 use Rattle.world_model.specs.Schedules.{Progress, next_progress, may_come}
-use Rattle.law_safety.proofs.Tests.{both-of, eq-test, eq-of, lt-of, le-of}
+use Rattle.dpc_lists.proofs.Truths.{both-of, eq-test, eq-of, lt-of, le-of}
 use Rattle.law_safety.proofs.Numbering.{replica-at}
 use Rattle.law_safety.proofs.Emptied.{shape-of}
-use Rattle.law_settling.proofs.Waitings.{waits, is_delivery, waits-on, comes}
+use Rattle.world_model.specs.Events.{is_delivery}
+use Rattle.law_settling.proofs.Waitings.{waits, waits-on, comes}
 use Rattle.law_settling.proofs.Rules.{MayGo}
 use Rattle.law_settling.proofs.Opening.{all-come}
 use Rattle.law_settling.proofs.PortSteps.{sent-place}

@@ -4,11 +4,14 @@ use Rattle.dpc_lists.specs.Lists.{list_all}
 use Rattle.dpc_model.specs.declared.messages.Event.{Event}
 use Rattle.dpc_model.specs.declared.scripts.Script.{Script}
 use Rattle.world_model.specs.Schedules.{Progress, next_progress, progress_from, may_follow, follows_from, is_phase_complete}
-use Rattle.law_safety.proofs.Tests.{both, both-of, all-append}
+use Rattle.dpc_lists.proofs.Truths.{both, both-of, all-append}
+use Rattle.world_model.proofs.Running.{progress-next}
 use Rattle.law_schedules.proofs.Stages.{follows-append}
-use Rattle.law_settling.specs.Phased.{is_quiet, IsFull, opened}
+use Rattle.world_model.specs.Events.{is_quiet}
+use Rattle.law_settling.specs.Phased.{IsFull, opened}
 use Rattle.law_settling.proofs.Splitting.{IsQuietAt, Opens, in-quiet, quiet-goes, opened-quiet}
 use Rattle.law_settling.proofs.Rules.{Keeps, GoodThrough, IsGoodPhase, kept-through}
+use Rattle.law_settling.proofs.Coming.{quiet-through}
 
 -- a phase behind a complete one
 pub record IsStep (script : Script) (Good : Progress → Type 0) (z : Progress) (es : List Event) : Type 0 where
@@ -49,20 +52,12 @@ through-append : (script : Script) (Good : Progress → Type 0) (z : Progress) (
 through-append script Good z [] e h next = (h, next)
 through-append script Good z (d ∷ es) e h next = (h.0, through-append script Good (next_progress script z d) es e h.1 next)
 
-from-append : (script : Script) (z : Progress) (es : List Event) (e : Event) → progress_from script z (es ++ e ∷ []) ≡ next_progress script (progress_from script z es) e
-from-append script z [] e = refl
-from-append script z (d ∷ es) e = from-append script (next_progress script z d) es e
-
 pub opened-at : (script : Script) (z : Progress) → IsQuietAt script z → IsQuietAt script (opened script z)
 opened-at script z at = let phase = at.phase in opened-quiet script z (omega (arith, phase))
 
 -- the phase that is under way has the next number
 pub under-phase : (script : Script) (Good : Progress → Type 0) (Stage : ℕ → Progress → Type 0) (top base last : ℕ) (z : Progress) → (u : IsUnder script Good Stage top base last z) → z.phase ≡ u.start.phase + 1
 under-phase script Good Stage top base last z u = ap (λ (y : Progress). y.phase) u.is ∙ through-phase script (opened script u.start) u.es u.quiet (opened-at script u.start u.at)
-
-under-at : (script : Script) (z : Progress) (es : List Event) → list_all is_quiet es ≡ true → IsQuietAt script z → IsQuietAt script (progress_from script z es)
-under-at script z [] quiet at = at
-under-at script z (e ∷ es) quiet at = let q = both (is_quiet e) (list_all is_quiet es) quiet in under-at script (next_progress script z e) es q.1 (quiet-goes script z e q.0 at).0
 
 -- once nothing is left, it is at the end in the phase too
 pub end-under : (script : Script) (Good : Progress → Type 0) (Stage : ℕ → Progress → Type 0) (top base last : ℕ) (z : Progress) → IsJourney script Good Stage top → (u : IsUnder script Good Stage top base last z) → u.left ≡ 0 → Stage 0 z
@@ -78,7 +73,7 @@ under-quiet script Good Stage top base last z e u quiet may seen =
     record {
       start = u.start;
       es = u.es ++ e ∷ [];
-      is = ap (λ (y : Progress). next_progress script y e) u.is ∙ sym (from-append script start u.es e);
+      is = ap (λ (y : Progress). next_progress script y e) u.is ∙ sym (progress-next script start u.es e);
       at = u.at;
       complete = u.complete;
       past = u.past;
@@ -96,7 +91,7 @@ under-opened : (script : Script) (Good : Progress → Type 0) (Stage : ℕ → P
 under-opened script Good Stage top base last z j u complete seen =
     let start = opened script u.start in
     let phase = under-phase script Good Stage top base last z u in
-    let at : IsQuietAt script z = subst (IsQuietAt script) (sym u.is) (under-at script start u.es u.quiet (opened-at script u.start u.at)) in
+    let at : IsQuietAt script z = subst (IsQuietAt script) (sym u.is) (quiet-through script start u.es u.quiet (opened-at script u.start u.at)) in
     let full : IsFull script start u.es = record { quiet = u.quiet; follows = u.follows; complete = subst (λ (y : Progress). is_phase_complete y ≡ true) u.is complete } in
     let step : IsStep script Good u.start u.es = record { at = u.at; complete = u.complete; phase = record { full = full; good = u.good } } in
     by-left u.left refl at step
@@ -133,7 +128,7 @@ under-opened script Good Stage top base last z j u complete seen =
 pub under-next : (script : Script) (Good : Progress → Type 0) (Stage : ℕ → Progress → Type 0) (top base last : ℕ) (z : Progress) (e : Event) → IsJourney script Good Stage top → IsUnder script Good Stage top base last z → may_follow script z e ≡ true → Good (next_progress script z e) →
     IsUnder script Good Stage top base last (next_progress script z e)
 under-next script Good Stage top base last z e j u follows good =
-    let at : IsQuietAt script z = subst (IsQuietAt script) (sym u.is) (under-at script (opened script u.start) u.es u.quiet (opened-at script u.start u.at)) in
+    let at : IsQuietAt script z = subst (IsQuietAt script) (sym u.is) (quiet-through script (opened script u.start) u.es u.quiet (opened-at script u.start u.at)) in
     elim (in-quiet script z e at follows) [
       | inl quiet ↦ under-quiet script Good Stage top base last z e u quiet follows good
       | inr o ↦

@@ -1,12 +1,10 @@
 -- A port that reads a source, and the source that it reads.
-use Rattle.std.proofs.Common.{◌≡◌, ℕ, zero, suc, ◌+◌, ◌<◌, ◌≤◌, Bool, true, false, cond, ◌==◌, List, [], ◌∷◌, map, length, refl, sym, ap, subst, ◌∙◌, arith, Option, Some, None, slice_get, unwrap_or}
-use Rattle.std.specs.List.{filter, enumerate_from}
+use Rattle.std.proofs.Common.{◌≡◌, ℕ, zero, suc, ◌+◌, ◌<◌, ◌≤◌, Bool, true, false, cond, ◌==◌, List, [], ◌∷◌, length, refl, sym, ap, subst, ◌∙◌, arith, Option, Some, None, slice_get, unwrap_or}
 use Rattle.dpc_lists.specs.Lists.{nth, place_of}
 use Rattle.dpc_model.specs.Actors.{role_of, roles_of, inputs_of, same_stream, sends_stream, senders_of, readers_of}
 use Rattle.dpc_model.specs.Ports.{sender_from, sender_at}
 use Rattle.dpc_model.specs.declared.actors.Role.{Role}
 use Rattle.dpc_model.specs.declared.actors.Role.TheVariants.{Source as IsSource, Node as IsNode, Client as IsClient, Nobody}
-use Rattle.dpc_model.specs.declared.plans.ClientSpec.{ClientSpec}
 use Rattle.dpc_model.specs.declared.plans.Plan.{Plan}
 use Rattle.dpc_model.specs.declared.plans.StreamRef.{StreamRef}
 use Rattle.dpc_model.specs.declared.plans.StreamRef.TheVariants.{Source}
@@ -14,7 +12,9 @@ use Rattle.node_model.specs.Nodes.{streams_of}
 use Rattle.node_model.specs.Clients.{client_stream}
 use Rattle.world_model.specs.Worlds.{home_of, node_place}
 use Rattle.law_safety.specs.Plans.{IsCheckedPlan, has_senders}
-use Rattle.law_safety.proofs.Tests.{eq-of, eq-test, lt-of}
+use Rattle.dpc_lists.proofs.Truths.{eq-of, eq-test, lt-of}
+use Rattle.dpc_model.proofs.Roles.{numbers_where, numbers_if, only-first}
+use Rattle.dpc_lists.proofs.Somes.{some-same}
 use Rattle.law_safety.proofs.Numbering.{actors-pass, all-at, all-nth, any-at, home-inputs, node-at, source-at as source-number}
 use Rattle.law_safety.proofs.Pointwise.{sender-of}
 use Rattle.law_safety.proofs.Worlding.{place-of, client-below}
@@ -23,12 +23,6 @@ use Rattle.law_readers.specs.Newest.{IsPortOf}
 use Rattle.law_readers.proofs.Known.{sends-source}
 
 -- ---- a source is the only sender of its stream
-
-abbrev numbers_where : (Role → Bool) → ℕ → List Role → List ℕ
-numbers_where test k roles = map (λ (x : ℕ × Role). x.0) (filter (λ (x : ℕ × Role). test x.1) (enumerate_from k roles))
-
-abbrev numbers_if : (Role → Bool) → ℕ → Role → List Role → Bool → List ℕ
-numbers_if test k role roles b = map (λ (x : ℕ × Role). x.0) (cond b ((k, role) ∷ filter (λ (x : ℕ × Role). test x.1) (enumerate_from (k + 1) roles)) (filter (λ (x : ℕ × Role). test x.1) (enumerate_from (k + 1) roles)))
 
 none-pass : (test : Role → Bool) (k : ℕ) (roles : List Role) → ((i : ℕ) (role : Role) → slice_get roles i ≡ Some role → test role ≡ true → ⊥) → length (numbers_where test k roles) ≡ 0
 none-pass test k [] h = refl
@@ -109,11 +103,8 @@ place-low a (y ∷ ys) r e =
 some-sender : (plan : Plan) (k a p r : ℕ) (u : StreamRef) (ss : List StreamRef) → slice_get ss p ≡ Some u → place_of (λ b. a == b) (senders_of plan u) ≡ Some r → (pr : ℕ × ℕ) × (sender_from k plan ss a ≡ Some pr)
 some-sender plan k a p r u [] there place = cc
 some-sender plan k a zero r u (s ∷ ss) there place =
-    let same : s ≡ u = some-stream s u there in
+    let same : s ≡ u = some-same s u there in
     ((k, r), ap (λ (o : Option ℕ). elim o as (λ _. Option (ℕ × ℕ)) [ None ↦ sender_from (k + 1) plan ss a | Some q ↦ Some (k, q) ]) (subst (λ (z : StreamRef). place_of (λ b. a == b) (senders_of plan z) ≡ Some r) (sym same) place))
-  where
-    some-stream : (y z : StreamRef) → ◌≡◌ {A = Option StreamRef} (Some y) (Some z) → y ≡ z
-    some-stream y z d = cc
 some-sender plan k a (suc p) r u (s ∷ ss) there place =
     (elim (place_of (λ b. a == b) (senders_of plan s)) as (λ o. (pr : ℕ × ℕ) × (elim o as (λ _. Option (ℕ × ℕ)) [ None ↦ sender_from (k + 1) plan ss a | Some q ↦ Some (k, q) ] ≡ Some pr)) [
       | None ↦ some-sender plan (k + 1) a p r u ss there place
@@ -124,12 +115,6 @@ some-sender plan k a (suc p) r u (s ∷ ss) there place =
 has-sender : (plan : Plan) (x p s : ℕ) → IsCheckedPlan plan → slice_get (inputs_of plan (role_of plan x)) p ≡ Some (Source s) → has_senders plan (Source s) ≡ true
 has-sender plan x p s checked there = by-role (role_of plan x) refl there
   where
-    single : (cs : List ClientSpec) (i p : ℕ) (u : StreamRef) → slice_get (nth [] (map (λ (client : ClientSpec). client.input ∷ []) cs) i) p ≡ Some u → p ≡ 0
-    single [] i p u e = cc
-    single (c ∷ cs) zero zero u e = refl
-    single (c ∷ cs) zero (suc p) u e = cc
-    single (c ∷ cs) (suc i) p u e = single cs i p u e
-
     by-role : (role : Role) → role_of plan x ≡ role → slice_get (inputs_of plan role) p ≡ Some (Source s) → has_senders plan (Source s) ≡ true
     by-role (IsSource u) is e = cc
     by-role Nobody is e = cc
@@ -138,7 +123,7 @@ has-sender plan x p s checked there = by-role (role_of plan x) refl there
         let at : slice_get (streams_of (home_of plan (f, r))) p ≡ Some (Source s) = ap (λ (ss : List StreamRef). slice_get ss p) (sym (home-inputs (home_of plan (f, r)) r)) ∙ e in
         all-at (has_senders plan) (streams_of (home_of plan (f, r))) p (Source s) place.sent at
     by-role (IsClient c) is e =
-        let first = single plan.clients c p (Source s) e in
+        let first = only-first plan.clients c p (Source s) e in
         let stream : client_stream plan c ≡ Source s = ap (λ (o : Option StreamRef). unwrap_or o (Source 0)) (subst (λ (z : ℕ). slice_get (inputs_of plan (IsClient c)) z ≡ Some (Source s)) first e) in
         subst (λ (z : StreamRef). has_senders plan z ≡ true) stream (checked.clients c (client-below plan x c is))
 

@@ -8,16 +8,16 @@ use Rattle.dpc_model.specs.declared.messages.Event.{Event}
 use Rattle.dpc_model.specs.declared.messages.Subscribe.{Subscribe}
 use Rattle.dpc_model.specs.declared.messages.Message.TheVariants as message
 use Rattle.dpc_model.specs.declared.plans.Plan.{Plan}
-use Rattle.dpc_lists.proofs.Elements.{length-changed}
 use Rattle.node_model.specs.Mails.{Packet, Plain, SnapFor, Stepped}
 use Rattle.node_model.specs.Sources.{SourceState, source_readers, source_subscribed, source_packet_step, source_tick_step, new_source}
 use Rattle.world_model.specs.Worlds.{World, source_at, no_source, happens, run}
 use Rattle.law_safety.proofs.EventCases.{AreCases, by-event}
 use Rattle.law_safety.proofs.Numbering.{source-at as source-number}
+use Rattle.law_sessions.proofs.Worlds.{same-many}
 use Rattle.law_granting.proofs.Keys.{nth-changed}
 use Rattle.law_granting.proofs.First.{new-sources}
 use Rattle.law_readers.proofs.Running.{every-run}
-use Rattle.law_settling.specs.Phased.{is_quiet}
+use Rattle.world_model.specs.Events.{is_quiet}
 
 pub record IsSameLog (y z : SourceState) : Type 0 where
   pub emitted : z.emitted ≡ y.emitted
@@ -77,26 +77,8 @@ quiet-log w e q s = by-event w (λ e next. is_quiet e ≡ true → (s : ℕ) →
 
 -- ---- as many sources as the plan has
 
-many-cases : (w : World) → AreCases w (λ e next. length next.sources ≡ length w.sources)
-many-cases w =
-    record {
-      still = λ e. refl;
-      wires = λ e cuts. refl;
-      emitted = λ a v t role. length-changed a _ w.sources;
-      released = λ a v t role. length-changed a _ w.sources;
-      source_took = λ k v e there can role. length-changed e.to _ w.sources;
-      source_ticks = λ a v now role. length-changed a _ w.sources;
-      crashed = λ a f r role. refl;
-      restarted = λ a i f r role. refl;
-      node_took = λ k f r e n there can role up. refl;
-      node_ticked = λ a now f r n role up clock. refl;
-      node_milled = λ a r f v n role up can. refl;
-      client_took = λ k c e there can role. refl;
-      client_ticks = λ a c now role. refl;
-    }
-
 pub event-many : (w : World) (e : Event) → length (happens w e).sources ≡ length w.sources
-event-many w e = by-event w (λ e next. length next.sources ≡ length w.sources) (many-cases w) e
+event-many w e = by-event w (λ e next. length next.sources ≡ length w.sources) (same-many w) e
 
 pub run-sources : (plan : Plan) (events : List Event) → length (run plan events).sources ≡ length plan.sources
 run-sources plan events =

@@ -7,6 +7,7 @@ use Rattle.dpc_model.specs.declared.actors.Role.TheVariants.{Node as IsNode}
 use Rattle.dpc_model.specs.declared.messages.Event.{Event}
 use Rattle.dpc_model.specs.declared.plans.Plan.{Plan}
 use Rattle.dpc_model.specs.declared.scripts.Script.{Script}
+use Rattle.dpc_lists.proofs.Truths.{true-not-false}
 use Rattle.node_model.specs.Nodes.{PlainNode, buckets_of}
 use Rattle.node_model.specs.NodeSteps.{packet_step}
 use Rattle.world_model.specs.Worlds.{home_of, node_place, slot_of}
@@ -87,10 +88,7 @@ module _ (script : Script) (f : ℕ) where
       (went.0, on went.0 next (calm-here z b q n good at) (calm-here (next_progress script z e) b q went.0 may.next next) went.2)
     where
       by-calm : (m : PlainNode) → IsCalmNode n m → n.recovering ≡ false → m.recovering ≡ false → n.cursor ≤ m.cursor
-      by-calm m c old new = c.cursor (λ e. absurd (differ (sym e ∙ old))) new
-        where
-          differ : true ≡ false → ⊥
-          differ d = cc
+      by-calm m c old new = c.cursor (λ e. absurd (true-not-false (sym e ∙ old))) new
 
       on : (m : PlainNode) → IsReplica script f (next_progress script z e) b q m → n.recovering ≡ false → m.recovering ≡ false → NodeWent (home_of z.world.plan (f, q)) n m → Moved script f (next_progress script z e) b q n m
       on m next old new (Rests same) =

@@ -5,6 +5,7 @@ use Rattle.dpc_model.specs.declared.actors.Role.{Role}
 use Rattle.dpc_model.specs.declared.actors.Role.TheVariants.{Node as IsNode}
 use Rattle.dpc_model.specs.declared.messages.Event.{Event}
 use Rattle.dpc_model.specs.declared.messages.Event.TheVariants.{Deliver, Tick}
+use Rattle.dpc_lists.proofs.Somes.{some-same}
 use Rattle.node_model.specs.Mails.{Stepped}
 use Rattle.node_model.specs.Nodes.{Home, PlainNode}
 use Rattle.node_model.specs.NodeSteps.{packet_step, mill_step, tick_step}
@@ -14,7 +15,7 @@ use Rattle.law_safety.proofs.Happening.{IsFine}
 use Rattle.law_safety.proofs.Promises.{slot-here}
 use Rattle.law_granting.proofs.Slots.{slot-there}
 use Rattle.law_schedules.specs.Journals.{node_clock, clock_by, Ticks}
-use Rattle.law_settling.specs.Phased.{is_quiet}
+use Rattle.world_model.specs.Events.{is_quiet}
 use Rattle.law_settling.proofs.Exact.{same-or}
 
 -- the node is as before, or did one of its steps
@@ -32,9 +33,6 @@ module _ (w : World) (most b f r : ℕ) (fine : IsFine w most) (role_b : role_of
   rests : (next : World) (n : PlainNode) → slot_of next b ≡ slot_of w b → (slot_of w b).node ≡ Some n → Went n next
   rests next n same up = (n, ap (λ (z : Slot). z.node) same ∙ up, Rests refl)
 
-  some-node : (y z : PlainNode) → ◌≡◌ {A = Option PlainNode} (Some y) (Some z) → y ≡ z
-  some-node y z e = cc
-
   -- a node's step: its own, or another's
   steps : (y g q : ℕ) (x : PlainNode) (t : Stepped PlainNode) (n : PlainNode) → role_of w.plan y ≡ IsNode g q → (slot_of w y).node ≡ Some x → (slot_of w b).node ≡ Some n → (b ≡ y → NodeWent (home_of w.plan (g, q)) x t.after) → Went n (node_stepped y t w)
   steps y g q x t n role up here went =
@@ -43,7 +41,7 @@ module _ (w : World) (most b f r : ℕ) (fine : IsFine w most) (role_b : role_of
         | inl same ↦
             let slot : slot_of (node_stepped y t w) y ≡ record (slot_of w y) { node = Some t.after } = slot-here w most y g q (λ (z : Slot). record z { node = Some t.after }) fine role in
             let now : (slot_of (node_stepped y t w) b).node ≡ Some t.after = ap (λ (z : ℕ). (slot_of (node_stepped y t w) z).node) same ∙ ap (λ (z : Slot). z.node) slot in
-            let one : x ≡ n = some-node x n (sym up ∙ ap (λ (z : ℕ). (slot_of w z).node) (sym same) ∙ here) in
+            let one : x ≡ n = some-same x n (sym up ∙ ap (λ (z : ℕ). (slot_of w z).node) (sym same) ∙ here) in
             let roles : IsNode g q ≡ IsNode f r = sym role ∙ ap (λ (z : ℕ). role_of w.plan z) (sym same) ∙ role_b in
             let home : home_of w.plan (g, q) ≡ home_of w.plan (f, r) = same-home g q roles in
             (t.after, now, subst (λ (h : Home). NodeWent h n t.after) home (subst (λ (z : PlainNode). NodeWent (home_of w.plan (g, q)) z t.after) one (went same)))
@@ -96,10 +94,7 @@ module _ (w : World) (most b f r : ℕ) (fine : IsFine w most) (role_b : role_of
   -- and a tick that is not void is its tick
   pub node-ticked-now : (now : ℕ) (n : PlainNode) → Ticks w b now → (slot_of w b).node ≡ Some n → happens w (Tick b now) ≡ node_stepped b (tick_step (home_of w.plan (f, r)) now n) w
   node-ticked-now now n clocked up =
-      let clock : n.clock ≡ clocked.old = some-clock n.clock clocked.old (sym (ap (λ (z : Role). clock_by w b z) role_b ∙ ap (λ (o : Option PlainNode). node_clock o) up) ∙ clocked.is_up) in
+      let clock : n.clock ≡ clocked.old = some-same n.clock clocked.old (sym (ap (λ (z : Role). clock_by w b z) role_b ∙ ap (λ (o : Option PlainNode). node_clock o) up) ∙ clocked.is_up) in
       let may : is_clock n.clock now ≡ true = ap (λ (c : ℕ). is_clock c now) clock ∙ clocked.may in
       let home = home_of w.plan (f, r) in
       ap (λ (z : Role). ticks w b now z) role_b ∙ ap (λ (o : Option PlainNode). node_ticks w b now home o) up ∙ ap (λ (c : Bool). cond c (node_stepped b (tick_step home now n) w) w) may
-    where
-      some-clock : (y z : ℕ) → ◌≡◌ {A = Option ℕ} (Some y) (Some z) → y ≡ z
-      some-clock y z d = cc

@@ -12,7 +12,8 @@ use Rattle.node_model.specs.Nodes.{Home, PlainNode, new_node, restarted_node}
 use Rattle.node_model.specs.NodeSteps.{replica_number, packet_step, mill_step, tick_step}
 use Rattle.world_model.specs.Worlds.{World, Slot, home_of, node_place, slot_of, restart_slot, node_stepped, happens, run_from, run, new_world}
 use Rattle.law_safety.specs.Plans.{IsCheckedPlan}
-use Rattle.law_safety.proofs.Tests.{both, eq-of}
+use Rattle.dpc_lists.proofs.Truths.{both, eq-of}
+use Rattle.dpc_lists.proofs.Somes.{some-same}
 use Rattle.law_safety.proofs.Numbering.{actors-pass, replica-number}
 use Rattle.law_safety.proofs.EventCases.{AreCases, by-event}
 use Rattle.law_safety.proofs.Happening.{IsFine, happens-next}
@@ -28,9 +29,6 @@ use Rattle.law_settling.proofs.Replicas.{number-low}
 
 abbrev pub AreNumbered : World → Type 0
 AreNumbered w = (a f r : ℕ) (n : PlainNode) (p : ℕ × Key) → role_of w.plan a ≡ IsNode f r → (slot_of w a).node ≡ Some n → n.grants.promise ≡ Some p → p.0 < many_replicas w.plan f
-
-some-node : (x y : PlainNode) → ◌≡◌ {A = Option PlainNode} (Some x) (Some y) → x ≡ y
-some-node x y e = cc
 
 -- an actor that has a place passes what all do
 placed-pass : (test : ℕ → Bool) (a q : ℕ) (xs : List ℕ) → place_of (λ b. a == b) xs ≡ Some q → list_all test xs ≡ true → test a ≡ true
@@ -83,7 +81,7 @@ module _ (w : World) (most : ℕ) (fine : IsFine w most) (h : AreNumbered w) whe
 
   step-numbered : (A H E : ℕ → Key → Type 0) (a g q : ℕ) (x : PlainNode) (t : Stepped PlainNode) → role_of w.plan a ≡ IsNode g q → (slot_of w a).node ≡ Some x → IsAskStep H A E x.grants t.after.grants → ((i : ℕ) (key : Key) → A i key → i < many_replicas w.plan g) → AreNumbered (node_stepped a t w)
   step-numbered A H E a g q x t role up s low =
-      slot-numbered a g q (λ (y : Slot). record y { node = Some t.after }) role (λ n p there promised. by-origin p (s.promise p.0 p.1 (ap (λ (y : PlainNode). y.grants.promise) (some-node t.after n there) ∙ promised)))
+      slot-numbered a g q (λ (y : Slot). record y { node = Some t.after }) role (λ n p there promised. by-origin p (s.promise p.0 p.1 (ap (λ (y : PlainNode). y.grants.promise) (some-same t.after n there) ∙ promised)))
     where
       by-origin : (p : ℕ × Key) → (x.grants.promise ≡ Some (p.0, p.1)) ⊎ A p.0 p.1 → p.0 < many_replicas w.plan g
       by-origin p (inl before) = h a g q x p role up before
@@ -96,7 +94,7 @@ module _ (w : World) (most : ℕ) (fine : IsFine w most) (h : AreNumbered w) whe
       by-node (Some m) e n p there promised = h a g q n p role there promised
       by-node None e n p there promised =
           (elim (nat_lt (slot_of w a).last_inc i) as (λ c. (cond {A = Slot} c (record { last_inc = i; node = Some (restarted_node (home_of w.plan (g, q)) i) }) (slot_of w a)).node ≡ Some n → p.0 < many_replicas w.plan g) [
-            | true ↦ λ d. absurd (none-promised (home_of w.plan (g, q)) i p (ap (λ (y : PlainNode). y.grants.promise) (some-node (restarted_node (home_of w.plan (g, q)) i) n d) ∙ promised))
+            | true ↦ λ d. absurd (none-promised (home_of w.plan (g, q)) i p (ap (λ (y : PlainNode). y.grants.promise) (some-same (restarted_node (home_of w.plan (g, q)) i) n d) ∙ promised))
             | false ↦ λ d. h a g q n p role d promised
           ]) there
 
@@ -129,7 +127,7 @@ new-numbered : (plan : Plan) → AreNumbered (new_world plan)
 unfolding new_world new_node
 new-numbered plan a f r n p role up promised =
     let slot = new-slot plan a f r role in
-    let same = some-node (new_node (home_of plan (f, r))) n (sym (ap (λ (x : Slot). x.node) slot) ∙ up) in
+    let same = some-same (new_node (home_of plan (f, r))) n (sym (ap (λ (x : Slot). x.node) slot) ∙ up) in
     let none : (new_node (home_of plan (f, r))).grants.promise ≡ Some p = ap (λ (y : PlainNode). y.grants.promise) same ∙ promised in cc
 
 pub run-numbered : (plan : Plan) (events : List Event) → IsCheckedPlan plan → AreNumbered (run plan events)

@@ -8,12 +8,13 @@ use Rattle.dpc_model.specs.declared.messages.Event.TheVariants.{Phase, Emit, Rel
 use Rattle.dpc_model.specs.declared.scripts.Script.{Script}
 use Rattle.node_model.specs.Nodes.{PlainNode, buckets_of}
 use Rattle.world_model.specs.Worlds.{run}
-use Rattle.world_model.specs.Schedules.{Progress, next_progress, progress, is_live_so_far}
-use Rattle.world_model.specs.Steady.{patience, IsSteady, OpensWell}
-use Rattle.law_safety.proofs.Tests.{both-of}
+use Rattle.world_model.specs.Schedules.{Progress, next_progress, progress, is_live_so_far, settling_phases}
+use Rattle.world_model.specs.Steady.{IsSteady, OpensWell}
+use Rattle.dpc_lists.proofs.Truths.{both-of}
 use Rattle.law_schedules.specs.Journals.{phases_in}
 use Rattle.law_readers.specs.Settling.{CanSettle}
-use Rattle.law_settling.specs.Phased.{is_quiet, opened}
+use Rattle.world_model.specs.Events.{is_quiet}
+use Rattle.law_settling.specs.Phased.{opened}
 use Rattle.law_settling.specs.Entered.{AreWhole}
 use Rattle.law_settling.proofs.Splitting.{in-quiet, quiet-goes}
 use Rattle.law_settling.proofs.Rules.{Keeps}
@@ -104,7 +105,7 @@ module _ (script : Script) (events before : List Event) (f : ℕ) (can : CanSett
   -- a point of the run behind the beginning, past the last recovery
   pub record IsPoint (done : List Event) : Type 0 where
     pub long : length before ≤ length done
-    pub far : length script.phases + patience < (progress script done).phase
+    pub far : length script.phases + settling_phases < (progress script done).phase
 
   pub point-next : (done rest : List Event) (e : Event) → events ≡ done ++ e ∷ rest → IsPoint done → IsPoint (done ++ e ∷ [])
   point-next done rest e is h =
@@ -117,7 +118,7 @@ module _ (script : Script) (events before : List Event) (f : ℕ) (can : CanSett
         | inl quiet ↦ let same = (quiet-goes script z e quiet good.here.at).1 in omega (arith, same)
         | inr o ↦ let next : (next_progress script z e).phase ≡ z.phase + 1 = ap (λ (d : Event). (next_progress script z d).phase) o.0 in omega (arith, next)
       ] in
-      record { long = omega (arith, long, count); far = subst (λ (y : Progress). length script.phases + patience < y.phase) (sym (progress-push script done e)) (omega (arith, grows, far)) }
+      record { long = omega (arith, long, count); far = subst (λ (y : Progress). length script.phases + settling_phases < y.phase) (sym (progress-push script done e)) (omega (arith, grows, far)) }
 
   pub point-later : (done mid rest : List Event) → events ≡ done ++ (mid ++ rest) → IsPoint done → IsPoint (done ++ mid)
   point-later done mid rest is h = every-behind events done IsPoint h (λ d r e at p. point-next d r e at p) mid rest is

@@ -4,13 +4,12 @@ use Rattle.std.specs.Prelude.{is_some, unwrap_or}
 use Rattle.dpc_lists.specs.Lists.{changed, list_all, list_any}
 use Rattle.dpc_model.specs.declared.actors.Role.TheVariants.{Source as IsSource, Node as IsNode, Client as IsClient, Nobody}
 use Rattle.dpc_model.specs.declared.actors.Role.{Role}
-use Rattle.dpc_model.specs.Actors.{role_of, nodes_of, reads_from, are_peers, are_linked, sends_stream, inputs_of}
+use Rattle.dpc_model.specs.Actors.{role_of, nodes_of, reads_from, are_peers, are_linked, inputs_of}
 use Rattle.dpc_model.specs.declared.messages.Event.{Event}
 use Rattle.dpc_model.specs.declared.messages.Event.TheVariants.{Phase, Emit, Release, Cut, Heal, Crash, Restart, Deliver, Tick, Mill}
 use Rattle.dpc_model.specs.declared.messages.Message.{Message}
 use Rattle.dpc_model.specs.declared.messages.Message.TheVariants as message
 use Rattle.dpc_model.specs.declared.plans.Plan.{Plan}
-use Rattle.dpc_model.specs.declared.plans.StreamRef.{StreamRef}
 use Rattle.node_model.specs.Mails.{Packet, Plain, SnapFor}
 use Rattle.node_model.specs.Nodes.{Home, PlainNode}
 use Rattle.node_model.specs.Sources.{source_tick_step}
@@ -19,11 +18,12 @@ use Rattle.node_model.specs.NodeSteps.{packet_step, mill_step, tick_step}
 use Rattle.world_model.specs.Worlds.{World, Envelope, Slot, home_of, node_place, slot_of, is_cut, link_up, role_up, is_up, can_come, taken_by, node_takes, node_stepped, ticks, node_ticks, mills, node_mills, can_mill, is_clock, source_stepped, client_stepped, source_at, client_at, happens, comes}
 use Rattle.world_model.specs.Schedules.{may_come}
 use Rattle.world_model.specs.Orderly.{message_way, packet_way, carries_fitting, is_fitting}
-use Rattle.law_safety.proofs.Tests.{both, both-of}
+use Rattle.dpc_lists.proofs.Truths.{both, both-of}
+use Rattle.dpc_model.proofs.Roles.{nothing_sent, no_peer, are_joined}
 use Rattle.law_safety.proofs.Numbering.{node-at, all-at}
 use Rattle.law_safety.proofs.Worlding.{slots-at}
 use Rattle.law_safety.proofs.Happening.{IsFine}
-use Rattle.law_settling.specs.Phased.{is_quiet}
+use Rattle.world_model.specs.Events.{is_quiet}
 use Rattle.law_settling.proofs.Waitings as waiting
 
 abbrev pub has_node : Slot → Bool
@@ -98,9 +98,6 @@ quiet-up w (Mill a r) q h = mills-up w a r (role_of w.plan a) h
 
 -- ---- every envelope may come
 
-abbrev linked : Plan → Role → Role → Bool
-linked plan x y = reads_from plan x y || reads_from plan y x || are_peers x y
-
 or-first : (a b c : Bool) → a ≡ true → (a || b || c) ≡ true
 or-first a b c e = rw e refl
 
@@ -117,7 +114,7 @@ or-beat : (a b c : Bool) → (b || c) ≡ true → (a || b || c) ≡ true
 or-beat true b c e = refl
 or-beat false b c e = e
 
-message-linked : (plan : Plan) (x y : Role) (m : Message) → message_way plan x y m ≡ true → linked plan x y ≡ true
+message-linked : (plan : Plan) (x y : Role) (m : Message) → message_way plan x y m ≡ true → are_joined plan x y ≡ true
 message-linked plan x y (message.Batch s index items) h = or-second (reads_from plan x y) (reads_from plan y x) (are_peers x y) h
 message-linked plan x y (message.Truncated s base) h = or-second (reads_from plan x y) (reads_from plan y x) (are_peers x y) h
 message-linked plan x y (message.Subscribe asked) h = or-first (reads_from plan x y) (reads_from plan y x) (are_peers x y) h
@@ -127,27 +124,17 @@ message-linked plan x y (message.Ask i n) h = or-third (reads_from plan x y) (re
 message-linked plan x y (message.Grant i n) h = or-third (reads_from plan x y) (reads_from plan y x) (are_peers x y) h
 message-linked plan x y (message.SnapAsk i n) h = or-third (reads_from plan x y) (reads_from plan y x) (are_peers x y) h
 
-packet-linked : (plan : Plan) (x y : Role) (p : Packet) → packet_way plan x y p ≡ true → linked plan x y ≡ true
+packet-linked : (plan : Plan) (x y : Role) (p : Packet) → packet_way plan x y p ≡ true → are_joined plan x y ≡ true
 packet-linked plan x y (Plain m) h = message-linked plan x y m h
 packet-linked plan x y (SnapFor i try s) h = or-third (reads_from plan x y) (reads_from plan y x) (are_peers x y) h
 
-no-stream : (ss : List StreamRef) → list_any (λ s. sends_stream s Nobody) ss ≡ false
-no-stream [] = refl
-no-stream (s ∷ ss) = no-stream ss
-
-no-peers : (x : Role) → are_peers x Nobody ≡ false
-no-peers (IsSource s) = refl
-no-peers (IsNode f r) = refl
-no-peers (IsClient c) = refl
-no-peers Nobody = refl
-
 -- an actor that is linked is up
-role-is-up : (w : World) (most a : ℕ) (x role : Role) → IsFine w most → IsAllUp w → role_of w.plan a ≡ role → linked w.plan x role ≡ true → role_up w a role ≡ true
+role-is-up : (w : World) (most a : ℕ) (x role : Role) → IsFine w most → IsAllUp w → role_of w.plan a ≡ role → are_joined w.plan x role ≡ true → role_up w a role ≡ true
 role-is-up w most a x (IsSource s) h up e l = refl
 role-is-up w most a x (IsClient c) h up e l = refl
 role-is-up w most a x Nobody h up e l =
-    let none = no-stream (inputs_of w.plan x) in
-    let apart = no-peers x in
+    let none = nothing_sent (inputs_of w.plan x) in
+    let apart = no_peer x in
     let no : false ≡ true = rw (none, apart) at l in cc
 role-is-up w most a x (IsNode f r) h up e l =
     let found = slots-at w.plan most (node_place w.plan a) (f, r) (nodes_of w.plan) w.nodes (node-at w.plan a f r e) h.nodes_up in

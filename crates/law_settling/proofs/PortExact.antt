@@ -1,13 +1,11 @@
 -- What a packet makes of a reader's port, exactly: the inlet, and what is known of each replica.
-use Rattle.std.proofs.Common.{◌≡◌, ℕ, zero, suc, Bool, true, false, cond, ◌&&◌, ◌==◌, List, [], ◌∷◌, refl, sym, ap, subst, ◌∙◌, Option, Some, None, slice_get, unwrap_or, inl, inr}
+use Rattle.std.proofs.Common.{◌≡◌, ℕ, Bool, true, false, cond, ◌&&◌, ◌==◌, List, [], ◌∷◌, refl, sym, ap, subst, ◌∙◌, Option, Some, None, slice_get, unwrap_or, inl, inr}
 use Rattle.dpc_lists.specs.Lists.{nth, changed}
 use Rattle.dpc_model.specs.Inlets.{same_sess, take_batch}
 use Rattle.dpc_model.specs.Granting.{grants, with_promise, may_enter_by}
 use Rattle.dpc_model.specs.Actors.{replicas_of}
 use Rattle.dpc_model.specs.NodeStates.{is_up_failure}
 use Rattle.dpc_model.specs.Ports.{Port, no_port, sender_at, without_ended_marks, on_beat, on_truncated, all_truncated}
-use Rattle.dpc_model.specs.declared.batches.Taken.{Taken}
-use Rattle.dpc_model.specs.declared.batches.Taken.TheVariants.{Used, Old, Broken}
 use Rattle.dpc_model.specs.declared.tuples.Item.{Item}
 use Rattle.dpc_model.specs.declared.messages.Sess.{Sess}
 use Rattle.dpc_model.specs.declared.messages.Beat.{Beat}
@@ -16,13 +14,17 @@ use Rattle.dpc_model.specs.declared.messages.Message.{Message}
 use Rattle.dpc_model.specs.declared.messages.Message.TheVariants as message
 use Rattle.dpc_model.specs.declared.plans.Plan.{Plan}
 use Rattle.dpc_model.specs.declared.plans.StreamRef.{StreamRef}
+use Rattle.dpc_lists.proofs.Truths.{not-second}
+use Rattle.dpc_lists.proofs.Elements.{get-map, get-changed, get-only}
+use Rattle.dpc_lists.proofs.Somes.{some-pair}
 use Rattle.node_model.specs.Mails.{mail, Packet, Plain, SnapFor, Stepped}
 use Rattle.node_model.specs.Nodes.{Home, PlainNode, streams_of}
 use Rattle.node_model.specs.NodeSteps.{idle_step, with_port, after_loss, after_taking, on_batch, on_subscribe, on_truncation, on_upstream_beat, on_peer_beat, on_ack, on_ask, on_grant, on_message, on_snap, with_marks_ended, packet_step, replica_number, reader_place, enter_step, on_snap_ask}
-use Rattle.node_model.specs.Clients.{ClientState, client_stream, with_taken, client_after_batch, client_message, client_packet, client_marks_ended, client_after_packet}
+use Rattle.node_model.specs.Clients.{ClientState, client_stream, client_after_batch, client_message, client_packet, client_marks_ended, client_after_packet}
+use Rattle.node_model.proofs.Mailed.{kept-port}
 use Rattle.law_safety.proofs.Pointwise.{sender-of}
 use Rattle.law_granting.proofs.Moves.{stamped-ports}
-use Rattle.law_settling.proofs.Exact.{get-here, get-there, get-map, same-or}
+use Rattle.law_settling.proofs.Exact.{get-there, same-or}
 
 -- what a packet of the replica of this number makes of a port
 abbrev pub port_after : ℕ → Packet → Port → Port
@@ -45,9 +47,6 @@ pub data PortTook (plan : Plan) (ss : List StreamRef) (p a : ℕ) (packet : Pack
 abbrev pub NotLost : Packet → Port → Port → Type 0
 NotLost packet y r = (u : Sess) (base : ℕ) → packet ≡ Plain (message.Truncated u base) → same_sess u y.inlet.sess ≡ true → all_truncated r ≡ false
 
-pair-of : (x y u v : ℕ) → ◌≡◌ {A = Option (ℕ × ℕ)} (Some (x, u)) (Some (y, v)) → (x ≡ y) × (u ≡ v)
-pair-of x y u v e = let same : ◌≡◌ {A = ℕ × ℕ} (x, u) (y, v) = cc in (ap (λ (z : ℕ × ℕ). z.0) same, ap (λ (z : ℕ × ℕ). z.1) same)
-
 none-mine : (o : Option (ℕ × ℕ)) (p : ℕ) → o ≡ None → (i : ℕ) → o ≡ Some (p, i) → ⊥
 none-mine o p e i d = let clash : ◌≡◌ {A = Option (ℕ × ℕ)} None (Some (p, i)) = sym e ∙ d in cc
 
@@ -63,15 +62,15 @@ module _ (home : Home) (a p : ℕ) (y : Port) where
       by-sender None e = Others (none-mine (sender_at home.plan (streams_of home) a) p e) refl
       by-sender (Some pr) e = elim (same-or pr.0 p) [
         | inl one ↦ Mine pr.1 (e ∙ ap {B = Option (ℕ × ℕ)} (λ (z : ℕ). Some (z, pr.1)) one) (sym (same pr.1))
-        | inr other ↦ Others (λ i d. other (pair-of pr.0 p pr.1 i (sym e ∙ d)).0) refl
+        | inr other ↦ Others (λ i d. other (some-pair pr.0 p pr.1 i (sym e ∙ d)).0) refl
       ]
 
   -- a change of one port
   changed-now : (packet : Packet) (pr : ℕ × ℕ) (f : Port → Port) (ps : List Port) → sender_at home.plan (streams_of home) a ≡ Some pr → slice_get ps p ≡ Some y → (pr.0 ≡ p → f y ≡ port_after pr.1 packet y) → Now packet (changed pr.0 f ps)
   changed-now packet pr f ps place there mine =
       elim (same-or pr.0 p) [
-        | inl same ↦ (f y, subst (λ (z : ℕ). slice_get (changed z f ps) p ≡ Some (f y)) (sym same) (get-here p f ps y there), Mine pr.1 (place ∙ ap {B = Option (ℕ × ℕ)} (λ (z : ℕ). Some (z, pr.1)) same) (mine same))
-        | inr other ↦ (y, get-there pr.0 p f ps (λ e. other (sym e)) ∙ there, Others (λ i d. other (pair-of pr.0 p pr.1 i (sym place ∙ d)).0) refl)
+        | inl same ↦ (f y, subst (λ (z : ℕ). slice_get (changed z f ps) p ≡ Some (f y)) (sym same) (get-changed p f ps y there), Mine pr.1 (place ∙ ap {B = Option (ℕ × ℕ)} (λ (z : ℕ). Some (z, pr.1)) same) (mine same))
+        | inr other ↦ (y, get-there pr.0 p f ps (λ e. other (sym e)) ∙ there, Others (λ i d. other (some-pair pr.0 p pr.1 i (sym place ∙ d)).0) refl)
       ]
 
   nth-is : (ps : List Port) → slice_get ps p ≡ Some y → nth no_port ps p ≡ y
@@ -87,7 +86,7 @@ module _ (home : Home) (a p : ℕ) (y : Port) where
           y,
           there,
           elim (same-or pr.0 p) [
-            | inr other ↦ Others (λ i d. other (pair-of pr.0 p pr.1 i (sym place ∙ d)).0) refl
+            | inr other ↦ Others (λ i d. other (some-pair pr.0 p pr.1 i (sym place ∙ d)).0) refl
             | inl same ↦
                 let is : port ≡ y = ap (λ (z : ℕ). nth no_port m.ports z) same ∙ nth-is m.ports there in
                 let test : (y.chosen == pr.1) ≡ false = ap (λ (z : Port). z.chosen == pr.1) (sym is) ∙ e in
@@ -129,26 +128,22 @@ module _ (home : Home) (a p : ℕ) (y : Port) where
         | false ↦ λ e d.
             elim (same-or pr.0 p) [
               | inr other ↦
-                  let none = λ (i : ℕ) (at : sender_at home.plan (streams_of home) a ≡ Some (p, i)). other (pair-of pr.0 p pr.1 i (sym place ∙ at)).0 in
+                  let none = λ (i : ℕ) (at : sender_at home.plan (streams_of home) a ≡ Some (p, i)). other (some-pair pr.0 p pr.1 i (sym place ∙ at)).0 in
                   (y, get-there pr.0 p (λ _. port) m.ports (λ f. other (sym f)) ∙ there, Others none refl, λ i at. absurd (none i at))
               | inl same ↦
                   let is : old ≡ y = ap (λ (z : ℕ). nth no_port m.ports z) same ∙ nth-is m.ports there in (
                     port,
-                    subst (λ (z : ℕ). slice_get (changed z (λ _. port) m.ports) p ≡ Some port) (sym same) (get-here p (λ _. port) m.ports y there),
+                    subst (λ (z : ℕ). slice_get (changed z (λ _. port) m.ports) p ≡ Some port) (sym same) (get-changed p (λ _. port) m.ports y there),
                     Mine pr.1 (place ∙ ap {B = Option (ℕ × ℕ)} (λ (z : ℕ). Some (z, pr.1)) same) (ap (λ (z : Port). on_truncated pr.1 u base z) is),
                     λ i at v low packet mine. not-all u v base low old y port packet is mine e,
                   )
             ]
       ]) refl calm
     where
-      second : (b c : Bool) → b ≡ true → (b && c) ≡ false → c ≡ false
-      second true c e h = h
-      second false c e h = cc
-
       not-all : (u v : Sess) (base low : ℕ) (old y port : Port) → Plain (message.Truncated u base) ≡ Plain (message.Truncated v low) → old ≡ y → same_sess v y.inlet.sess ≡ true → (same_sess u old.inlet.sess && all_truncated port) ≡ false → all_truncated port ≡ false
       not-all u v base low old y port packet is mine e =
           let one : u ≡ v = cc in
-          second (same_sess u old.inlet.sess) (all_truncated port) (ap (λ (w : Sess). same_sess w old.inlet.sess) one ∙ ap (λ (z : Port). same_sess v z.inlet.sess) is ∙ mine) e
+          not-second (same_sess u old.inlet.sess) (all_truncated port) (ap (λ (w : Sess). same_sess w old.inlet.sess) one ∙ ap (λ (z : Port). same_sess v z.inlet.sess) is ∙ mine) e
 
   ack-ports : (i count : ℕ) (k : Option ℕ) (m : PlainNode) → (on_ack home i count k m).ports ≡ m.ports
   ack-ports i count None m = refl
@@ -207,11 +202,6 @@ node-exact home a p (SnapFor i try s) n q whole there calm =
 
 -- ---- a client
 
-kept-port : (t : Taken) (z : ClientState) → (with_taken t z).port ≡ z.port
-kept-port (Used items) z = refl
-kept-port Old z = refl
-kept-port Broken z = refl
-
 message-took : (r : ℕ) (m : Message) (z : ClientState) → (client_message r m z).port ≡ port_after r (Plain m) z.port
 message-took r (message.Batch u index items) z =
     elim (z.port.chosen == r) as (λ b. (cond {A = ClientState} b (client_after_batch (take_batch z.port.inlet u index items) z) z).port ≡ cond b (record z.port { inlet = (take_batch z.port.inlet u index items).after }) z.port) [
@@ -234,12 +224,8 @@ module _ (plan : Plan) (c a : ℕ) where
   packet-took None packet z place = Others (none-mine (sender_at plan Stream a) 0 place) refl
   packet-took (Some pr) packet z place = Mine pr.1 (place ∙ ap {B = Option (ℕ × ℕ)} (λ (i : ℕ). Some (i, pr.1)) first) (by-packet packet)
     where
-      only : (b d : StreamRef) (i : ℕ) → slice_get (b ∷ []) i ≡ Some d → i ≡ 0
-      only b d zero e = refl
-      only b d (suc i) e = cc
-
       first : pr.0 ≡ 0
-      first = let found = sender-of plan (client_stream plan c ∷ []) a pr.0 pr.1 place in only (client_stream plan c) found.stream pr.0 found.at
+      first = let found = sender-of plan (client_stream plan c ∷ []) a pr.0 pr.1 place in get-only (client_stream plan c) found.stream pr.0 found.at
 
       by-packet : (packet : Packet) → (client_packet (Some pr) packet z).port ≡ port_after pr.1 packet z.port
       by-packet (Plain m) = message-took pr.1 m z

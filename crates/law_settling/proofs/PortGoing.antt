@@ -9,6 +9,7 @@ use Rattle.dpc_model.specs.declared.messages.Event.{Event}
 use Rattle.dpc_model.specs.declared.messages.Event.TheVariants.{Deliver, Tick, Mill}
 use Rattle.dpc_model.specs.declared.plans.StreamRef.{StreamRef}
 use Rattle.dpc_model.specs.declared.plans.StreamRef.TheVariants.{Source}
+use Rattle.dpc_lists.proofs.Somes.{some-same}
 use Rattle.node_model.specs.Mails.{Stepped}
 use Rattle.node_model.specs.Nodes.{PlainNode, streams_of}
 use Rattle.node_model.specs.NodeSteps.{packet_step, mill_step, tick_step}
@@ -19,13 +20,14 @@ use Rattle.law_safety.proofs.EventCases.{AreCases, by-event}
 use Rattle.law_safety.proofs.Numbering.{home-inputs}
 use Rattle.law_safety.proofs.Happening.{IsFine}
 use Rattle.node_model.specs.Sources.{SourceState, source_packet_step, source_tick_step}
+use Rattle.node_model.proofs.Mailed.{mill-ports}
 use Rattle.law_granting.specs.Taken.{port_of}
 use Rattle.law_granting.proofs.Taking.{client-actor}
-use Rattle.law_settling.specs.Phased.{is_quiet}
+use Rattle.world_model.specs.Events.{is_quiet}
 use Rattle.law_settling.proofs.Exact.{IsIn}
-use Rattle.law_settling.proofs.Ticking.{mill-ports, before_choice, ask_mail, node-ticks, client-ticks}
+use Rattle.law_settling.proofs.Ticking.{before_choice, ask_mail, node-ticks, client-ticks}
 use Rattle.law_readers.specs.Newest.{IsPortOf}
-use Rattle.law_settling.proofs.PortSteps.{sent-place, client-inputs, some-port, To, port-same, node-step, client-step, client-low}
+use Rattle.law_settling.proofs.PortSteps.{sent-place, client-inputs, To, port-same, node-step, client-step, client-low}
 use Rattle.law_settling.proofs.PortExact.{port_after, PortTook, NotLost, node-exact, client-exact}
 
 -- a tick of the port
@@ -128,7 +130,7 @@ module _ (w : World) (most x p : ℕ) (s : StreamRef) (fine : IsFine w most) (ma
       let t = client_tick_step w.plan d now z in
       let k = client-ticks w.plan d now z in
       record {
-        port = some-port t.after.port (port_after_choice (before_choice z.port)) k.after;
+        port = some-same t.after.port (port_after_choice (before_choice z.port)) k.after;
         asks = λ must.
             let place = sent-place a w.envelopes (ask_mail w.plan s (before_choice z.port)) t.sends (subst (λ (u : StreamRef). IsIn (ask_mail w.plan u (before_choice z.port)) t.sends) stream (k.asks must)) in
             (place.0, place.1 ∙ ap {B = Option Envelope} (λ (i : ℕ). Some (from i (ask_mail w.plan s (before_choice z.port)))) (sym same), place.2);

@@ -15,6 +15,7 @@ use Rattle.law_safety.proofs.Happening.{IsFine}
 use Rattle.law_granting.specs.Taken.{node_port, role_port, port_of}
 use Rattle.law_schedules.specs.Journals.{node_clock, clock_by, Ticks}
 use Rattle.dpc_model.specs.declared.plans.StreamRef.{StreamRef}
+use Rattle.dpc_lists.proofs.Somes.{some-same}
 use Rattle.law_readers.specs.Newest.{IsPortOf}
 use Rattle.law_settling.proofs.PortExact.{port_after, NotLost}
 use Rattle.law_settling.proofs.PortSteps.{To, node-own, client-own, client-low}
@@ -76,14 +77,11 @@ module _ (w : World) (most x p : ℕ) (s : StreamRef) (fine : IsFine w most) (ma
   pub tick-now : (now : ℕ) → Ticks w x now → NoneRecovers (happens w (Tick x now)).nodes → (q : Port) → port_of w x p ≡ Some q → To x p (happens w (Tick x now)) (HasTicked w x s (happens w (Tick x now))) q
   tick-now now clocked calm_next q there = by-reader (To x p (happens w (Tick x now)) (HasTicked w x s (happens w (Tick x now))) q) q there at-node at-client
     where
-      some-clock : (y z : ℕ) → ◌≡◌ {A = Option ℕ} (Some y) (Some z) → y ≡ z
-      some-clock y z d = cc
-
       at-node : (g b : ℕ) (n : PlainNode) → role_of w.plan x ≡ IsNode g b → (slot_of w x).node ≡ Some n → To x p (happens w (Tick x now)) (HasTicked w x s (happens w (Tick x now))) q
       at-node g b n is found =
           let home = home_of w.plan (g, b) in
           let t = tick_step home now n in
-          let clock : n.clock ≡ clocked.old = some-clock n.clock clocked.old (sym (ap (λ (r : Role). clock_by w x r) is ∙ ap (λ (o : Option PlainNode). node_clock o) found) ∙ clocked.is_up) in
+          let clock : n.clock ≡ clocked.old = some-same n.clock clocked.old (sym (ap (λ (r : Role). clock_by w x r) is ∙ ap (λ (o : Option PlainNode). node_clock o) found) ∙ clocked.is_up) in
           let may : is_clock n.clock now ≡ true = ap (λ (c : ℕ). is_clock c now) clock ∙ clocked.may in
           let event : happens w (Tick x now) ≡ node_stepped x t w =
           ap (λ (r : Role). ticks w x now r) is ∙ ap (λ (o : Option PlainNode). node_ticks w x now home o) found ∙ ap (λ (c : Bool). cond c (node_stepped x t w) w) may in
@@ -95,7 +93,7 @@ module _ (w : World) (most x p : ℕ) (s : StreamRef) (fine : IsFine w most) (ma
       at-client d is =
           let z = client_at w d in
           let t = client_tick_step w.plan d now z in
-          let clock : z.clock ≡ clocked.old = some-clock z.clock clocked.old (sym (ap (λ (r : Role). clock_by w x r) is) ∙ clocked.is_up) in
+          let clock : z.clock ≡ clocked.old = some-same z.clock clocked.old (sym (ap (λ (r : Role). clock_by w x r) is) ∙ clocked.is_up) in
           let may : is_clock z.clock now ≡ true = ap (λ (c : ℕ). is_clock c now) clock ∙ clocked.may in
           let next : World = record w { clients = changed d (λ _. t.after) w.clients; envelopes = w.envelopes ++ map (from x) t.sends } in
           let event : happens w (Tick x now) ≡ next = ap (λ (r : Role). ticks w x now r) is ∙ ap (λ (c : Bool). cond c (client_stepped x d t w) w) may in

@@ -9,6 +9,8 @@ use Rattle.dpc_model.specs.declared.actors.Role.TheVariants.{Source as IsSource,
 use Rattle.dpc_model.specs.declared.plans.ClientSpec.{ClientSpec}
 use Rattle.dpc_model.specs.declared.plans.Plan.{Plan}
 use Rattle.dpc_model.specs.declared.plans.StreamRef.{StreamRef}
+use Rattle.dpc_lists.proofs.Elements.{nth-here}
+use Rattle.dpc_lists.proofs.Somes.{some-same}
 use Rattle.node_model.specs.Mails.{Mail, Stepped}
 use Rattle.node_model.specs.Nodes.{PlainNode}
 use Rattle.node_model.specs.Clients.{ClientState, new_client}
@@ -41,15 +43,9 @@ calm-at (slot ∷ slots) (suc i) n h e = calm-at slots i n h.1 e
 -- a client reads one stream
 pub client-inputs : (cs : List ClientSpec) (i p : ℕ) (u : StreamRef) → slice_get (nth [] (map (λ (client : ClientSpec). client.input ∷ []) cs) i) p ≡ Some u → (p ≡ 0) × (nth [] (map (λ (client : ClientSpec). client.input ∷ []) cs) i ≡ u ∷ [])
 client-inputs [] i p u e = cc
-client-inputs (c ∷ cs) zero zero u e = (refl, ap (λ (z : StreamRef). z ∷ []) (some-stream c.input u e))
-  where
-    some-stream : (y z : StreamRef) → ◌≡◌ {A = Option StreamRef} (Some y) (Some z) → y ≡ z
-    some-stream y z d = cc
+client-inputs (c ∷ cs) zero zero u e = (refl, ap (λ (z : StreamRef). z ∷ []) (some-same c.input u e))
 client-inputs (c ∷ cs) zero (suc p) u e = cc
 client-inputs (c ∷ cs) (suc i) p u e = client-inputs cs i p u e
-
-pub some-port : (y z : Port) → ◌≡◌ {A = Option Port} (Some y) (Some z) → y ≡ z
-some-port y z d = cc
 
 -- in the next world the reader has a port of this relation
 abbrev pub To : ℕ → ℕ → World → (Port → Port → Type 0) → Port → Type 0
@@ -101,15 +97,10 @@ module _ (w : World) (most x p : ℕ) (s : StreamRef) (fine : IsFine w most) (ma
       let first = (client-inputs w.plan.clients d p s (subst (λ (r : Role). slice_get (inputs_of w.plan r) p ≡ Some s) role port.there)).0 in
       let test : (p == 0) ≡ true = rw first refl in
       let was : port_of w x p ≡ Some z.port = ap (λ (r : Role). role_port w x p r) role ∙ ap (λ (b : Bool). cond {A = Option Port} b (Some z.port) None) test in
-      let it : z.port ≡ q = some-port z.port q (sym was ∙ there) in
-      let here : client_at next d ≡ change z = nth-in (new_client w.plan d) d change w.clients low in
+      let it : z.port ≡ q = some-same z.port q (sym was ∙ there) in
+      let here : client_at next d ≡ change z = nth-here (new_client w.plan d) d change w.clients low in
       let now : port_of next x p ≡ Some (change z).port = ap (λ (r : Role). role_port next x p r) role ∙ ap (λ (b : Bool). cond {A = Option Port} b (Some (client_at next d).port) None) test ∙ ap {B = Option Port} (λ (y : ClientState). Some y.port) here in
       ((change z).port, now, subst (λ (y : Port). R y (change z).port) it (own z refl was))
-    where
-      nth-in : {X : Type 0} (d : X) (k : ℕ) (f : X → X) (xs : List X) → k < length xs → nth d (changed k f xs) k ≡ f (nth d xs k)
-      nth-in d k f [] h = absurd (omega (arith, h))
-      nth-in d zero f (x ∷ xs) h = refl
-      nth-in d (suc k) f (x ∷ xs) h = nth-in d k f xs (omega (arith, h))
 
   pub client-step : (R : Port → Port → Type 0) → ((q : Port) → R q q) → (d : ℕ) (change : ClientState → ClientState) (es : List Envelope) → d < length w.clients →
       (role_of w.plan x ≡ IsClient d → (z : ClientState) → z ≡ client_at w d → port_of w x p ≡ Some z.port → R z.port (change z).port) → (q : Port) → port_of w x p ≡ Some q → To x p (record w { clients = changed d change w.clients; envelopes = es }) R q

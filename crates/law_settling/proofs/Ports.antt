@@ -12,7 +12,7 @@ use Rattle.dpc_model.specs.declared.scripts.Script.{Script}
 use Rattle.node_model.specs.Nodes.{PlainNode, streams_of}
 use Rattle.world_model.specs.Worlds.{World, Slot, home_of, node_place, slot_of, client_at}
 use Rattle.world_model.specs.Schedules.{quiet_limit}
-use Rattle.law_safety.proofs.Tests.{both-of, le-test}
+use Rattle.dpc_lists.proofs.Truths.{both-of, le-test}
 use Rattle.law_safety.proofs.Numbering.{node-at, all-at, home-inputs}
 use Rattle.law_safety.proofs.Pointwise.{port-at}
 use Rattle.law_safety.proofs.Worlding.{slots-at}

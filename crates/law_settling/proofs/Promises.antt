@@ -17,7 +17,7 @@ use Rattle.node_model.specs.Nodes.{PlainNode}
 use Rattle.node_model.specs.NodeSteps.{packet_step, tick_step}
 use Rattle.world_model.specs.Worlds.{World, Envelope, home_of, slot_of, from, node_stepped, role_up, is_up, can_come, happens, run}
 use Rattle.world_model.specs.Schedules.{Progress, next_progress, progress_from, progress, may_follow, may_come}
-use Rattle.law_safety.proofs.Tests.{both-of, eq-test, le-test}
+use Rattle.dpc_lists.proofs.Truths.{both-of, eq-test, le-test}
 use Rattle.law_safety.proofs.Happening.{IsFine, node-here}
 use Rattle.law_safety.proofs.Emptied.{shape-of}
 use Rattle.law_safety.proofs.Law.{run-good}
@@ -29,7 +29,8 @@ use Rattle.law_schedules.proofs.Timely.{ticks-so}
 use Rattle.law_readers.specs.Settling.{CanSettle}
 use Rattle.law_settling.specs.Phased.{opened}
 use Rattle.law_settling.proofs.Splitting.{IsQuietAt}
-use Rattle.law_settling.proofs.Waitings.{waits, is_due, is_delivery, waits-on, comes}
+use Rattle.world_model.specs.Events.{is_delivery}
+use Rattle.law_settling.proofs.Waitings.{waits, is_due, waits-on, comes}
 use Rattle.law_settling.proofs.Rules.{MayGo, Keeps, due-taken, opened-due, same-delivery, tick-due, kept-full, first-good}
 use Rattle.law_settling.proofs.Journeys.{IsStep, IsJourney}
 use Rattle.law_settling.proofs.Opening.{IsAllUp, all-come}

@@ -1,5 +1,5 @@
 -- What a packet of its source makes of an inlet, by parts.
-use Rattle.std.proofs.Common.{◌≡◌, ℕ, ◌+◌, ◌≤◌, Bool, true, false, cond, not, ◌&&◌, ◌||◌, nat_lt, List, refl, sym, ap, ◌∙◌, arith, Option, Some, None, ◌⊎◌, inl, inr}
+use Rattle.std.proofs.Common.{◌≡◌, ℕ, ◌+◌, ◌≤◌, true, false, cond, not, ◌&&◌, ◌||◌, nat_lt, List, refl, sym, ap, ◌∙◌, arith, Option, Some, None, ◌⊎◌, inl, inr}
 use Rattle.std.proofs.lemmas.Grind.{common_steps}
 use Rattle.dpc_model.specs.Reading.{Reader, Folded, fold_items}
 use Rattle.dpc_model.specs.Inlets.{InletState, same_sess, is_newer, AfterBatch, is_old, after_missing_batch, after_next_batch, take_batch, after_tally, shows_loss}
@@ -8,7 +8,8 @@ use Rattle.dpc_model.specs.declared.tuples.Item.{Item}
 use Rattle.dpc_model.specs.declared.messages.Sess.{Sess}
 use Rattle.dpc_model.specs.declared.messages.Message.TheVariants as message
 use Rattle.node_model.specs.Mails.{Packet, Plain, SnapFor}
-use Rattle.law_safety.proofs.Tests.{not-lt}
+use Rattle.dpc_lists.proofs.Truths.{not-lt, or-true}
+use Rattle.dpc_model.proofs.Alike.{newer-trans}
 use Rattle.law_safety.proofs.Batches.{take_batch-bound}
 use Rattle.law_settling.proofs.Exact.{inlet_after}
 use Rattle.law_settling.proofs.Standing.{asked_inlet}
@@ -104,23 +105,12 @@ tally-says i v n answered =
             ]) refl
       ]) refl
     ]) refl
-  where
-    or-true : (b : Bool) → (b || true) ≡ true
-    or-true true = refl
-    or-true false = refl
 
 -- and by one that tells of no session
 pub none-says : (i : InletState) → i.answered ≡ true → (after_tally i None).broken ≡ true
 none-says i answered = rw answered (or-true i.broken)
-  where
-    or-true : (b : Bool) → (b || true) ≡ true
-    or-true true = refl
-    or-true false = refl
 
 -- ---- sessions in order
-
-pub newer-then : (u v w : Sess) → is_newer u v ≡ true → is_newer v w ≡ true → is_newer u w ≡ true
-newer-then u v w e f = grind (arith, common_steps)
 
 pub next-newer : (u v : Sess) → is_newer v u ≡ false → is_newer (record u { number = u.number + 1 }) v ≡ true
 next-newer u v h = grind (arith, common_steps)

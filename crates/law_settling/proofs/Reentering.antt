@@ -9,12 +9,12 @@ use Rattle.dpc_model.specs.declared.plans.Plan.{Plan}
 use Rattle.dpc_model.specs.declared.scripts.Script.{Script}
 use Rattle.node_model.specs.Nodes.{PlainNode}
 use Rattle.world_model.specs.Worlds.{World, home_of, slot_of, run}
-use Rattle.world_model.specs.Schedules.{Progress, next_progress, progress, is_live_so_far}
-use Rattle.world_model.specs.Steady.{patience, IsSteady, OpensWell}
+use Rattle.world_model.specs.Schedules.{Progress, next_progress, progress, is_live_so_far, settling_phases}
+use Rattle.world_model.specs.Steady.{IsSteady, OpensWell}
+use Rattle.law_safety.proofs.Growing.{run-plan}
 use Rattle.law_granting.specs.Asking.{AreAsksInOrder}
 use Rattle.law_granting.proofs.Running.{run-order}
 use Rattle.law_readers.specs.Settling.{CanSettle}
-use Rattle.law_readers.proofs.Running.{run-of}
 use Rattle.law_schedules.proofs.Journals.{live-far, prefix-live, phases-counted, progress-run}
 use Rattle.law_settling.specs.Finished.{IsFinished}
 use Rattle.law_settling.specs.Entered.{IsReplicaOf, AreWhole, AreFailingOrDone, OversAreKnown, OneEnters}
@@ -45,10 +45,10 @@ module _ (script : Script) (events before : List Event) (f : ℕ) (can : CanSett
   replica-back done b q n at = record { role = at.role; up = ap (λ (w : World). (slot_of w b).node) (progress-run script done) ∙ at.up }
 
   -- every state behind
-  pub working-along : (done rest : List Event) → events ≡ done ++ rest → length before ≤ length done → length script.phases + patience < (progress script done).phase → IsWorking script f (progress script done)
+  pub working-along : (done rest : List Event) → events ≡ done ++ rest → length before ≤ length done → length script.phases + settling_phases < (progress script done).phase → IsWorking script f (progress script done)
   working-along done rest is long far =
       let good = good-along script events live well steady done rest is far in
-      let plan = run-of script.plan done in
+      let plan = run-plan script.plan done in
       record {
         here = open-of script can (progress script done) (record { events = good.events; is = good.is; live = good.live; standing = good.standing });
         calm = good.calm;
@@ -76,7 +76,7 @@ module _ (script : Script) (events before : List Event) (f : ℕ) (can : CanSett
       by-sort b q n at (inl failed) = inl (record { number = q; node = n; was = at; failed = failed }, failed)
       by-sort b q n at (inr done) = let cursor = done.cursor in inr (omega (arith, cursor))
 
-  module _ (b0 q0 : ℕ) (role_0 : role_of script.plan b0 ≡ IsNode f q0) (was : Was b0) (base : ℕ) (past : length script.phases + patience < base) where
+  module _ (b0 q0 : ℕ) (role_0 : role_of script.plan b0 ≡ IsNode f q0) (was : Was b0) (base : ℕ) (past : length script.phases + settling_phases < base) where
     low_0 : q0 < many_replicas script.plan f
     low_0 = number-low script.plan b0 f q0 q0 role_0
 
@@ -101,8 +101,8 @@ module _ (script : Script) (events before : List Event) (f : ℕ) (can : CanSett
         let long = h.0 in
         let count = length-append done (e ∷ []) in
         let longer : length before ≤ length (done ++ e ∷ []) = omega (arith, long, count) in
-        let next_good : length script.phases + patience < (next_progress script z e).phase → IsWorking script f (next_progress script z e) =
-        (λ (far : length script.phases + patience < (next_progress script z e).phase). subst (IsWorking script f) push (working-along (done ++ e ∷ []) rest later longer (subst (λ (y : Progress). length script.phases + patience < y.phase) (sym push) far))) in
+        let next_good : length script.phases + settling_phases < (next_progress script z e).phase → IsWorking script f (next_progress script z e) =
+        (λ (far : length script.phases + settling_phases < (next_progress script z e).phase). subst (IsWorking script f) push (working-along (done ++ e ∷ []) rest later longer (subst (λ (y : Progress). length script.phases + settling_phases < y.phase) (sym push) far))) in
         let goal : AtFirst (next_progress script z e) ⊎ Under (next_progress script z e) =
         elim h.1 [
           | inl at ↦

@@ -1,5 +1,5 @@
 -- From a port that asked its source anew to one that has the whole of it, event by event.
-use Rattle.std.proofs.Common.{◌≡◌, ℕ, zero, suc, ◌+◌, ◌≤◌, Bool, true, false, cond, not, ◌&&◌, ◌||◌, ◌==◌, nat_le, min, List, [], ◌∷◌, ◌++◌, length, refl, sym, ap, subst, ◌∙◌, arith, Option, Some, None, slice_get, ◌⊎◌, inl, inr}
+use Rattle.std.proofs.Common.{◌≡◌, ℕ, ◌+◌, ◌≤◌, Bool, true, false, cond, not, ◌&&◌, ◌||◌, ◌==◌, nat_le, min, List, [], ◌∷◌, ◌++◌, length, refl, sym, ap, subst, ◌∙◌, arith, Option, Some, None, slice_get, ◌⊎◌, inl, inr}
 use Rattle.dpc_lists.specs.Lists.{nth, has}
 use Rattle.dpc_model.specs.Reading.{Reader, is_sure}
 use Rattle.dpc_model.specs.Inlets.{InletState, same_sess, is_newer, take_batch, after_tally, with_next_session}
@@ -18,16 +18,19 @@ use Rattle.node_model.specs.Mails.{Packet, Plain, SnapFor}
 use Rattle.node_model.specs.Sources.{source_shown}
 use Rattle.world_model.specs.Worlds.{Envelope, source_at, happens, can_come, is_up}
 use Rattle.world_model.specs.Schedules.{Progress, next_progress, may_follow, is_free, now_of, may_come}
-use Rattle.law_safety.proofs.Tests.{both, eq-test, le-of, not-of}
+use Rattle.dpc_lists.proofs.Truths.{both, eq-test, le-of, not-of}
 use Rattle.std.proofs.lemmas.Option.{slice_get_within}
 use Rattle.dpc_model.specs.Actors.{senders_of}
 use Rattle.dpc_model.specs.declared.plans.StreamRef.TheVariants.{Source}
+use Rattle.dpc_lists.proofs.Elements.{get-added, get-last}
+use Rattle.dpc_model.proofs.Alike.{same_sess-self}
+use Rattle.node_model.proofs.Mailed.{batch-is}
 use Rattle.world_model.specs.Safe.{HoldsOf}
 use Rattle.law_safety.proofs.Sourcing.{IsFineSource}
 use Rattle.law_safety.proofs.Happening.{source-here}
-use Rattle.law_safety.proofs.Histories.{same-self}
 use Rattle.law_granting.specs.Taken.{port_of}
-use Rattle.law_settling.proofs.Waitings.{waits, is_delivery, waits-on, comes}
+use Rattle.world_model.specs.Events.{is_delivery}
+use Rattle.law_settling.proofs.Waitings.{waits, waits-on, comes}
 use Rattle.law_settling.proofs.Rules.{MayGo, Keeps, same-delivery}
 use Rattle.law_settling.proofs.Opening.{all-come}
 use Rattle.law_settling.proofs.Exact.{inlet_after}
@@ -40,26 +43,16 @@ use Rattle.law_settling.proofs.Standing.{asked_inlet, old-batch, old-ask, old-ke
 use Rattle.law_settling.proofs.Readings.{other-batch, first-batch, asked-tally, next-newer, never-next, same-or-older}
 use Rattle.law_settling.proofs.Fresh.{IsSeen, HasWhole, tick_count, ticks-grow, Completes, IsFresh, IsAsking, IsReplying, Replied, Coming, new-waits, still-sent, Reopens, Holds, port-next, first-here, ticked-says, whole-kept}
 
--- an envelope is an old one, or the one that was added
-got-added : (es : List Envelope) (a : Envelope) (j : ℕ) (f : Envelope) → slice_get (es ++ a ∷ []) j ≡ Some f → (slice_get es j ≡ Some f) ⊎ ((j ≡ length es) × (a ≡ f))
-got-added [] a zero f e = inr (refl, cc)
-got-added [] a (suc j) f e = cc
-got-added (y ∷ es) a zero f e = inl e
-got-added (y ∷ es) a (suc j) f e = elim (got-added es a j f e) [ inl old ↦ inl old | inr new ↦ inr (ap suc new.0, new.1) ]
-
-at-end : (es : List Envelope) (a : Envelope) → slice_get (es ++ a ∷ []) (length es) ≡ Some a
-at-end [] a = refl
-at-end (y ∷ es) a = at-end es a
-
-batch-is : {u v : Sess} {i j : ℕ} {xs ys : List Item} → Plain (message.Batch u i xs) ≡ Plain (message.Batch v j ys) → (u ≡ v) × (i ≡ j) × (xs ≡ ys)
-batch-is e = (cc, cc, cc)
-
 -- the reader ticks once in a phase
 pub not-ticked : (script : Script) (z : Progress) (a now : ℕ) → may_follow script z (Tick a now) ≡ true → has z.ticked a ≡ false
 not-ticked script z a now may =
     let one = both (is_free z && is_up z.world a && not (has z.ticked a)) (now == now_of script z) may in
     let two = both (is_free z && is_up z.world a) (not (has z.ticked a)) one.0 in
     not-of (has z.ticked a) two.1
+
+-- a tick that is the first or second of the session opens no other one
+pub early : (n : ℕ) → n ≤ 1 → nat_le 3 (min 3 (n + 1)) ≡ true → ⊥
+early n low test = let three = le-of 3 (min 3 (n + 1)) test in omega (arith, low, three)
 
 module _ (script : Script) (x p s k : ℕ) where
   abbrev Goes : Progress → Event → Type 0
@@ -88,7 +81,7 @@ module _ (script : Script) (x p s k : ℕ) where
       elim (source-goes z.world st.most x p s k st.fine st.line st.within e may.quiet) [
         | KeepsSub sub none ↦ fresh.batches j f v i items (none j f v i items there sender to packet) sender to packet same
         | Opens n g asked at who back asks newer opened sends ↦
-            elim (got-added z.world.envelopes (answer_mail z.world s x asked) j f (sym (ap (λ (es : List Envelope). slice_get es j) sends) ∙ there)) [
+            elim (get-added z.world.envelopes (answer_mail z.world s x asked) j f (sym (ap (λ (es : List Envelope). slice_get es j) sends) ∙ there)) [
               | inl old ↦ fresh.batches j f v i items old sender to packet same
               | inr new ↦
                   let it = batch-is (ap (λ (y : Envelope). y.packet) new.1 ∙ packet) in
@@ -128,10 +121,6 @@ module _ (script : Script) (x p s k : ℕ) where
       by-packet r now j f at to sender (Plain (message.SnapAsk i n)) packet ticks inlet stays = stays inlet ticks
       by-packet r now j f at to sender (SnapFor i try snap) packet ticks inlet stays = stays inlet ticks
 
-      -- its tick is the first or second of the session
-      early : (n : ℕ) → n ≤ 1 → nat_le 3 (min 3 (n + 1)) ≡ true → ⊥
-      early n low test = let three = le-of 3 (min 3 (n + 1)) test in omega (arith, low, three)
-
       by-goes : (r : Port) → port_of (happens z.world e) x p ≡ Some r → InletGoes z.world x p s e (happens z.world e) fresh.port r → (r.inlet ≡ fresh.port.inlet → r.ticks ≡ fresh.port.ticks → IsFresh script x p s t u h (next_progress script z e) ⊎ HasWhole script x p (next_progress script z e)) →
           IsFresh script x p s t u h (next_progress script z e) ⊎ HasWhole script x p (next_progress script z e)
       by-goes r now (Stays with_it) stays = stays with_it.inlet_is with_it.ticks
@@ -161,7 +150,7 @@ module _ (script : Script) (x p s k : ℕ) where
       let n = length z.world.envelopes in
       let items = first_items (source_shown z.world.plan s (source_at z.world s)) (asks_with u h) in
       let there : slice_get (happens z.world e).envelopes n ≡ Some (record { sender = s; to = x; packet = Plain (message.Batch u 0 items) }) =
-      ap (λ (es : List Envelope). slice_get es n) sends ∙ at-end z.world.envelopes (answer_mail z.world s x v) ∙ ap {B = Option Envelope} (λ (y : Subscribe). Some (answer_mail z.world s x y)) same in
+      ap (λ (es : List Envelope). slice_get es n) sends ∙ get-last z.world.envelopes (answer_mail z.world s x v) ∙ ap {B = Option Envelope} (λ (y : Subscribe). Some (answer_mail z.world s x y)) same in
       inl (u, h, n, record { fresh = fresh; items = items; sent = there; waits = new-waits script z e n _ (omega arith) there })
 
   -- an event that is not its delivery
@@ -211,9 +200,9 @@ module _ (script : Script) (x p s k : ℕ) where
       let fresh = replying.fresh in
       let f : Envelope = record { sender = s; to = x; packet = Plain (message.Batch u 0 replying.items) } in
       let r = took-now z.world st.most x p s k st.fine st.many st.line st.calm n f replying.sent (can-here z n f may.here replying.sent) refl refl may.next.stand.calm fresh.port fresh.there in
-      let all = fresh.batches n f u 0 replying.items replying.sent refl refl refl (same-self u) in
+      let all = fresh.batches n f u 0 replying.items replying.sent refl refl refl (same_sess-self u) in
       let held : r.0.inlet.held ≡ all.1.0.after =
-      ap (λ (y : InletState). y.held) r.2.inlet_is ∙ ap (λ (y : InletState). (take_batch y u 0 replying.items).after.held) fresh.inlet ∙ first-batch h u u replying.items all.1.0 (same-self u) all.1.1 in
+      ap (λ (y : InletState). y.held) r.2.inlet_is ∙ ap (λ (y : InletState). (take_batch y u 0 replying.items).after.held) fresh.inlet ∙ first-batch h u u replying.items all.1.0 (same_sess-self u) all.1.1 in
       record { port = r.0; there = r.1; bound = ap (λ (y : Reader). y.bound) held ∙ all.1.2; sure = ap is_sure held ∙ all.1.3 }
 
   -- the subscription is taken
@@ -287,7 +276,7 @@ module _ (script : Script) (x p s k : ℕ) where
       none-yet (KeepsSub sub none) j f v i items at sender to packet same =
           never-next q.inlet.sess v (old-batch script.plan x p s k z.world may.here.stand q there j f v i items (none j f v i items at sender to packet) sender to packet) same
       none-yet (Opens m g asked was who back asks newer opened sends) j f v i items at sender to packet same =
-          elim (got-added z.world.envelopes (answer_mail z.world s x asked) j f (sym (ap (λ (es : List Envelope). slice_get es j) sends) ∙ at)) [
+          elim (get-added z.world.envelopes (answer_mail z.world s x asked) j f (sym (ap (λ (es : List Envelope). slice_get es j) sends) ∙ at)) [
             | inl old ↦ never-next q.inlet.sess v (old-batch script.plan x p s k z.world may.here.stand q there j f v i items old sender to packet) same
             | inr new ↦
                 let it = batch-is (ap (λ (y : Envelope). y.packet) new.1 ∙ packet) in

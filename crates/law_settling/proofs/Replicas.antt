@@ -1,6 +1,5 @@
 -- The replicas of a fragment by their actors: each has its number, and knows each other as a peer.
 use Rattle.std.proofs.Common.{◌≡◌, ℕ, zero, suc, ◌+◌, ◌<◌, Bool, true, false, cond, ◌==◌, List, [], ◌∷◌, ◌++◌, map, refl, sym, ap, subst, ◌∙◌, arith, Option, Some, None, slice_get, unwrap_or, ◌⊎◌, inl, inr}
-use Rattle.std.specs.List.{filter, enumerate_from}
 use Rattle.dpc_lists.specs.Lists.{nth, range_with_len, place_of}
 use Rattle.dpc_model.specs.Actors.{role_of, roles_of, nodes_from, is_replica_of, replicas_of}
 use Rattle.dpc_model.specs.declared.actors.Role.{Role}
@@ -10,29 +9,22 @@ use Rattle.dpc_model.specs.declared.plans.Plan.{Plan}
 use Rattle.node_model.specs.Nodes.{no_fragment, spec_of}
 use Rattle.node_model.specs.NodeSteps.{replica_number, peers_of}
 use Rattle.world_model.specs.Worlds.{home_of, node_place}
-use Rattle.law_safety.proofs.Tests.{eq-of, eq-test}
+use Rattle.dpc_lists.proofs.Truths.{eq-of, eq-test}
+use Rattle.dpc_lists.proofs.Somes.{some-each, some-same}
+use Rattle.dpc_model.proofs.Roles.{numbers_where, numbers_if}
 use Rattle.law_safety.proofs.Numbering.{node-at, replica-at, replica-number}
 use Rattle.law_settling.proofs.Exact.{IsIn}
 use Rattle.law_settling.proofs.Knowing.{is-peer}
 
 -- ---- an actor among those that pass a test
 
-abbrev numbers_where : (Role → Bool) → ℕ → List Role → List ℕ
-numbers_where test k roles = map (λ (x : ℕ × Role). x.0) (filter (λ (x : ℕ × Role). test x.1) (enumerate_from k roles))
-
-abbrev numbers_if : (Role → Bool) → ℕ → Role → List Role → Bool → List ℕ
-numbers_if test k role roles b = map (λ (x : ℕ × Role). x.0) (cond b ((k, role) ∷ filter (λ (x : ℕ × Role). test x.1) (enumerate_from (k + 1) roles)) (filter (λ (x : ℕ × Role). test x.1) (enumerate_from (k + 1) roles)))
-
 passes-in : (test : Role → Bool) (k i a : ℕ) (role : Role) (roles : List Role) → slice_get roles i ≡ Some role → test role ≡ true → a ≡ k + i → IsIn a (numbers_where test k roles)
 passes-in test k i a role [] there pass at = cc
 passes-in test k zero a role (r ∷ roles) there pass at =
-    let same : r ≡ role = some-role r role there in
+    let same : r ≡ role = some-same r role there in
     let test_r : test r ≡ true = ap test same ∙ pass in
     let here : k ≡ a = omega (arith, at) in
     subst (λ (b : Bool). IsIn a (numbers_if test k r roles b)) (sym test_r) (inl here)
-  where
-    some-role : (y z : Role) → ◌≡◌ {A = Option Role} (Some y) (Some z) → y ≡ z
-    some-role y z e = cc
 passes-in test k (suc i) a role (r ∷ roles) there pass at =
     let rest = passes-in test (k + 1) i a role roles there pass (omega (arith, at)) in
     elim (test r) as (λ b. IsIn a (numbers_if test k r roles b)) [ true ↦ inr rest | false ↦ rest ]
@@ -80,10 +72,7 @@ in-append (z ∷ xs) ys (suc i) x e = in-append xs ys i x e
 
 in-range : (g k n i f r : ℕ) → ◌≡◌ {A = Option (ℕ × ℕ)} (slice_get (map {A = ℕ} {B = ℕ × ℕ} (λ s. (g, s)) (range_with_len k n)) i) (Some (f, r)) → (f ≡ g) × (r < k + n)
 in-range g k zero i f r e = cc
-in-range g k (suc n) zero f r e = let p = pair g k f r e in let two = p.1 in (sym p.0, omega (arith, two))
-  where
-    pair : (g k f r : ℕ) → ◌≡◌ {A = Option (ℕ × ℕ)} (Some (g, k)) (Some (f, r)) → (g ≡ f) × (k ≡ r)
-    pair g k f r e = let same : ◌≡◌ {A = ℕ × ℕ} (g, k) (f, r) = cc in (ap (λ (z : ℕ × ℕ). z.0) same, ap (λ (z : ℕ × ℕ). z.1) same)
+in-range g k (suc n) zero f r e = let p = some-each g k f r e in let two = p.1 in (sym p.0, omega (arith, two))
 in-range g k (suc n) (suc i) f r e = let rest = in-range g (k + 1) n i f r e in let low = rest.1 in (rest.0, omega (arith, low))
 
 nodes-below : (g : ℕ) (frags : List FragSpec) (i f r : ℕ) → slice_get (nodes_from g frags) i ≡ Some (f, r) → (j : ℕ) × (f ≡ g + j) × (r < (nth no_fragment frags j).replicas)

@@ -1,10 +1,12 @@
 -- By the number of replicas that are UP_FAILURE: all of a fragment's replicas finish.
-use Rattle.std.proofs.Common.{◌≡◌, ℕ, zero, suc, ◌+◌, ◌*◌, ◌<◌, ◌≤◌, Bool, true, false, List, ◌++◌, length, refl, sym, ap, subst, ◌∙◌, arith, Option, Some, ◌⊎◌, inl, inr}
+use Rattle.std.proofs.Common.{◌≡◌, ℕ, zero, suc, ◌+◌, ◌*◌, ◌<◌, ◌≤◌, Bool, true, false, List, ◌++◌, length, refl, sym, ap, subst, ◌∙◌, arith, ◌⊎◌, inl, inr}
 use Rattle.std.proofs.lemmas.List.{append_assoc}
 use Rattle.dpc_model.specs.Granting.{Key}
 use Rattle.dpc_model.specs.NodeStates.{is_up_failure}
 use Rattle.dpc_model.specs.declared.messages.Event.{Event}
 use Rattle.dpc_model.specs.declared.scripts.Script.{Script}
+use Rattle.dpc_lists.proofs.Truths.{not-both}
+use Rattle.dpc_lists.proofs.Somes.{some-same}
 use Rattle.node_model.specs.Nodes.{PlainNode}
 use Rattle.world_model.specs.Worlds.{home_of, run}
 use Rattle.world_model.specs.Schedules.{progress, is_live, is_live_so_far}
@@ -25,10 +27,7 @@ use Rattle.law_settling.proofs.Moving.{IsReplica, pick}
 use Rattle.law_settling.proofs.Resting.{same-replica}
 use Rattle.law_settling.proofs.Reentering.{replica-there, replica-back, one-enters}
 use Rattle.law_settling.proofs.Onward.{phases-add, cut-phases, IsDone, IsLike, done-kept, like-kept, point-later, kept-later}
-use Rattle.law_settling.proofs.AllFinish.{fails_at, fails-is, clash, Point, fails, good-at, later-is, was-failing, fails-low, fewer-or, finished-now, none-fail, AllDone}
-
-some-node : (x y : PlainNode) → ◌≡◌ {A = Option PlainNode} (Some x) (Some y) → x ≡ y
-some-node x y e = cc
+use Rattle.law_settling.proofs.AllFinish.{fails_at, fails-is, Point, fails, good-at, later-is, was-failing, fails-low, fewer-or, finished-now, none-fail, AllDone}
 
 module _ (script : Script) (events before : List Event) (f : ℕ) (can : CanSettle script) (lives : is_live script events ≡ true) (well : OpensWell script events) (steady : IsSteady script events)
     (wholes : (done more : List Event) → events ≡ done ++ more → length before ≤ length done → AreWhole script.plan (run script.plan done) f) where
@@ -68,7 +67,7 @@ module _ (script : Script) (events before : List Event) (f : ℕ) (can : CanSett
       let count_2 = counted (done ++ mid) rest whole in
       let sum = phases-add done mid in
       let known = known-late script events can so_far well a b f q r key at_n.role at_m.role apart (progress script done).phase (omega (arith, far)) done mid rest is refl (record { node = p.1; up = old.up; over = key-refl key }) (omega (arith, count_1, count_2, sum, some)) in
-      let it : known.node ≡ m = some-node known.node m (sym known.up ∙ (back-of (done ++ mid) b r m at_m).up) in
+      let it : known.node ≡ m = some-same known.node m (sym known.up ∙ (back-of (done ++ mid) b r m at_m).up) in
       let knows : Knows q key m.grants = subst (λ (y : PlainNode). Knows q key y.grants) it known.knows in
       let same = same-ask p.1 old (fails_at script f (progress script (done ++ mid)) q) refl in
       subst (λ (i : ℕ). Knows q (i, n.grants.over) m.grants) (sym same.0) (subst (λ (o : ℕ). Knows q (p.1.grants.inc, o) m.grants) (sym same.1) knows)
@@ -79,7 +78,7 @@ module _ (script : Script) (events before : List Event) (f : ℕ) (can : CanSett
           (record { node = n1; replica = old; like = inr (refl, refl) }) in
           let it = (same-replica script f (progress script (done ++ mid)) a a q h.node n h.replica (back-of (done ++ mid) a q n at_n)).1 in
           elim h.like [
-            | inl fine ↦ absurd (clash (is_up_failure h.node.state) (fails-is script f (progress script (done ++ mid)) a q h.node h.replica ∙ e) fine)
+            | inl fine ↦ absurd (not-both (is_up_failure h.node.state) (fails-is script f (progress script (done ++ mid)) a q h.node h.replica ∙ e) fine)
             | inr same ↦ (ap (λ (y : PlainNode). y.grants.inc) it ∙ same.0, ap (λ (y : PlainNode). y.grants.over) it ∙ same.1)
           ]
       same-ask n1 old false e =
@@ -101,7 +100,7 @@ module _ (script : Script) (events before : List Event) (f : ℕ) (can : CanSett
 
   off-before : (x y : Bool) → (x ≡ true → y ≡ true) → y ≡ false → x ≡ false
   off-before false y h e = refl
-  off-before true y h e = absurd (clash y (h refl) e)
+  off-before true y h e = absurd (not-both y (h refl) e)
 
   sort : {F : Type 0} {x : Bool} (c : Bool) → x ≡ c → (x ≡ false → F) → (x ≡ true) ⊎ F
   sort true e h = inl e

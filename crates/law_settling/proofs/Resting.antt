@@ -7,6 +7,7 @@ use Rattle.dpc_model.specs.NodeStates.{is_up_failure, is_stabilization}
 use Rattle.dpc_model.specs.declared.actors.Role.TheVariants.{Node as IsNode}
 use Rattle.dpc_model.specs.declared.messages.Event.{Event}
 use Rattle.dpc_model.specs.declared.scripts.Script.{Script}
+use Rattle.dpc_lists.proofs.Somes.{some-same}
 use Rattle.node_model.specs.Nodes.{PlainNode, buckets_of}
 use Rattle.world_model.specs.Worlds.{slot_of}
 use Rattle.world_model.specs.Schedules.{Progress, next_progress}
@@ -26,10 +27,7 @@ use Rattle.law_settling.proofs.Moving.{IsReplica, IsWorking, Moved, role-here, o
 pub same-replica : (script : Script) (f : ℕ) (z : Progress) (b c q : ℕ) (n m : PlainNode) → IsReplica script f z b q n → IsReplica script f z c q m → (c ≡ b) × (m ≡ n)
 same-replica script f z b c q n m at there =
     let one : c ≡ b = sym (replica-at script.plan c f q there.role) ∙ replica-at script.plan b f q at.role in
-    (one, some-node m n (sym there.up ∙ ap (λ (i : ℕ). (slot_of z.world i).node) one ∙ at.up))
-  where
-    some-node : (x y : PlainNode) → ◌≡◌ {A = Option PlainNode} (Some x) (Some y) → x ≡ y
-    some-node x y e = cc
+    (one, some-same m n (sym there.up ∙ ap (λ (i : ℕ). (slot_of z.world i).node) one ∙ at.up))
 
 -- it was UP_FAILURE and still is, or is past its last bucket
 abbrev pub IsSorted : Script → (ℕ → Type 0) → ℕ → PlainNode → Type 0

@@ -1,6 +1,6 @@
 -- What a full phase brings about: P holds until Q does, and the phase is not complete before.
-use Rattle.std.proofs.Common.{◌≡◌, ◌≢◌, ℕ, zero, suc, ◌+◌, ◌<◌, ◌≤◌, Bool, true, false, not, ◌&&◌, ◌||◌, ◌==◌, List, [], ◌∷◌, length, refl, sym, ap, subst, ◌∙◌, arith, ◌⊎◌, inl, inr}
-use Rattle.dpc_lists.specs.Lists.{list_all, has, range_with_len}
+use Rattle.std.proofs.Common.{◌≡◌, ℕ, ◌+◌, ◌<◌, Bool, true, false, not, ◌&&◌, ◌||◌, ◌==◌, List, [], ◌∷◌, length, refl, sym, ap, subst, arith, ◌⊎◌, inl, inr}
+use Rattle.dpc_lists.specs.Lists.{list_all, has}
 use Rattle.dpc_model.specs.Actors.{roles_of}
 use Rattle.dpc_model.specs.declared.messages.Event.{Event}
 use Rattle.dpc_model.specs.declared.messages.Event.TheVariants.{Phase, Emit, Release, Cut, Heal, Crash, Restart, Deliver, Tick, Mill}
@@ -8,10 +8,11 @@ use Rattle.dpc_model.specs.declared.scripts.Script.{Script}
 use Rattle.dpc_model.specs.declared.scripts.Directive.{Directive}
 use Rattle.world_model.specs.Worlds.{is_up}
 use Rattle.world_model.specs.Schedules.{Undelivered, Progress, next_progress, progress_from, follows_from, may_follow, pending_in, is_phase_complete, phase_of, newly_sent}
-use Rattle.law_safety.proofs.Tests.{both, eq-of, eq-test}
-use Rattle.law_settling.specs.Phased.{is_quiet, IsFull, opened}
+use Rattle.dpc_lists.proofs.Truths.{both, eq-of, in-range}
+use Rattle.world_model.specs.Events.{is_quiet, is_tick, is_delivery}
+use Rattle.law_settling.specs.Phased.{IsFull, opened}
 use Rattle.law_settling.proofs.Splitting.{IsQuietAt, no-directives}
-use Rattle.law_settling.proofs.Waitings.{waits, is_due, is_delivery, due-on, comes, done-of, none-due, becomes-due, any-append}
+use Rattle.law_settling.proofs.Waitings.{waits, is_due, due-on, comes, done-of, none-due, becomes-due, any-append}
 
 -- an event of a quiet phase that may come, where the states before and after it are good
 pub record MayGo (script : Script) (Good : Progress → Type 0) (x : Progress) (e : Event) : Type 0 where
@@ -123,18 +124,6 @@ opened-due script x k at complete can waiting =
 
 -- ---- the tick of an actor
 
-abbrev pub is_tick : ℕ → Event → Bool
-is_tick a (Phase p) = false
-is_tick a (Emit s t) = false
-is_tick a (Release s t) = false
-is_tick a (Cut b c) = false
-is_tick a (Heal b c) = false
-is_tick a (Crash b) = false
-is_tick a (Restart b i) = false
-is_tick a (Deliver j) = false
-is_tick a (Tick b now) = b == a
-is_tick a (Mill b r) = false
-
 -- P holds until actor a ticks, which brings Q about
 pub record IsTicked (script : Script) (Good : Progress → Type 0) (a : ℕ) (P Q : Progress → Type 0) : Type 0 where
   pub others : (x : Progress) (e : Event) → MayGo script Good x e → is_tick a e ≡ false → P x → P (next_progress script x e) ⊎ Q (next_progress script x e)
@@ -168,17 +157,6 @@ unticked-on script x (Deliver j) a q d h = h
 unticked-on script x (Tick b now) a q d h = rw d h
 unticked-on script x (Mill b r) a q d h = h
 
-pub all-range : (q : ℕ → Bool) (b n a : ℕ) → list_all q (range_with_len b n) ≡ true → b ≤ a → a < b + n → q a ≡ true
-all-range q b zero a h low high = absurd (omega (arith, low, high))
-all-range q b (suc n) a h low high =
-    let p = both (q b) (list_all q (range_with_len (b + 1) n)) h in
-    let here = p.0 in
-    let rest = p.1 in
-    (elim (b == a) as (λ c. (b == a) ≡ c → q a ≡ true) [
-      | true ↦ λ e. let same = eq-of b a e in rw same at here
-      | false ↦ λ e. let apart : b ≢ a = (λ (same : b ≡ a). let yes = eq-test b a same in let no : true ≡ false = sym yes ∙ e in cc) in all-range q (b + 1) n a rest (omega (arith, low, apart)) (omega (arith, high))
-    ]) refl
-
 until-tick : (script : Script) (Good : Progress → Type 0) (a : ℕ) (P Q : Progress → Type 0) → IsTicked script Good a P Q → (x : Progress) (e : Event) → MayGo script Good x e →
     P x × (has x.ticked a ≡ false) → (P (next_progress script x e) × (has (next_progress script x e).ticked a ≡ false)) ⊎ Q (next_progress script x e)
 until-tick script Good a P Q t x e may h =
@@ -200,7 +178,7 @@ tick-due script Good a P Q t x es phase p waiting =
     elim (kept-full script Good (λ z. (P z × (has z.ticked a ≡ false)) ⊎ Q z) (or-kept script Good (λ z. P z × (has z.ticked a ≡ false)) Q (until-tick script Good a P Q t) t.keeps) x es phase (inl (p, waiting))) [
       | inl left ↦
           let done = done-of y (some-phase script y (t.at y good)) phase.full.complete in
-          let here : (not (is_up y.world a) || has y.ticked a) ≡ true = all-range (λ b. not (is_up y.world b) || has y.ticked b) 0 (length (roles_of y.world.plan)) a done.ticked (omega arith) (let there = t.there y good in omega (arith, there)) in
+          let here : (not (is_up y.world a) || has y.ticked a) ≡ true = in-range (λ b. not (is_up y.world b) || has y.ticked b) 0 (length (roles_of y.world.plan)) a done.ticked (omega arith) (let there = t.there y good in omega (arith, there)) in
           let up = t.up y good in
           let none = left.1 in
           let no : false ≡ true = rw (up, none) at here in cc

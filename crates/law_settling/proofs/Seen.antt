@@ -16,9 +16,11 @@ use Rattle.world_model.specs.Worlds.{World, Envelope, source_at, happens, run, n
 use Rattle.world_model.specs.Safe.{EachStep}
 use Rattle.world_model.specs.SessionLaw.{Channel}
 use Rattle.law_safety.specs.Plans.{IsCheckedPlan}
-use Rattle.law_safety.proofs.Tests.{lt-of, lt-test, both-of}
+use Rattle.dpc_lists.proofs.Truths.{lt-of, lt-test, both-of}
+use Rattle.dpc_lists.proofs.Elements.{some-there}
+use Rattle.dpc_model.proofs.Alike.{same_sess-self}
+use Rattle.dpc_lists.proofs.Somes.{some-same}
 use Rattle.law_safety.proofs.Growing.{event-grows}
-use Rattle.law_safety.proofs.Histories.{same-self}
 use Rattle.law_safety.proofs.Law.{new_world-plan}
 use Rattle.law_granting.specs.Taken.{index_of, port_of, line_of, subscribes, role_inc, IsAnsweredIn}
 use Rattle.law_granting.proofs.Sending.{indexes}
@@ -50,14 +52,11 @@ range-below k (suc n) =
 pub index-passes : (q : ℕ → Bool) (l : Channel) (es : List Envelope) (d j : ℕ) (e : Envelope) → list_all q (indexes l es) ≡ true → slice_get es d ≡ Some e → index_of l e ≡ Some j → q j ≡ true
 index-passes q l [] d j e all there index = cc
 index-passes q l (x ∷ es) zero j e all there index =
-    let same : x ≡ e = some-envelope x e there in
+    let same : x ≡ e = some-same x e there in
     let here : index_of l x ≡ Some j = ap (λ (z : Envelope). index_of l z) same ∙ index in
     let has : list_all q (j ∷ indexes l es) ≡ true = subst (λ (o : Option ℕ). list_all q (elim o as (λ _. List ℕ) [ None ↦ indexes l es | Some i ↦ i ∷ indexes l es ]) ≡ true) here all in
     first (q j) (list_all q (indexes l es)) has
   where
-    some-envelope : (y z : Envelope) → ◌≡◌ {A = Option Envelope} (Some y) (Some z) → y ≡ z
-    some-envelope y z d = cc
-
     first : (a b : Bool) → (a && b) ≡ true → a ≡ true
     first true b h = refl
     first false b h = cc
@@ -71,13 +70,8 @@ index-passes q l (x ∷ es) (suc d) j e all there index =
     second true b h = h
     second false b h = cc
 
-pub get-inside : {X : Type 0} (xs : List X) (i : ℕ) → i < length xs → (x : X) × (slice_get xs i ≡ Some x)
-get-inside [] i h = absurd (omega (arith, h))
-get-inside (x ∷ xs) zero h = (x, refl)
-get-inside (x ∷ xs) (suc i) h = get-inside xs i (omega (arith, h))
-
 pub sub-there : (w : World) (s k : ℕ) → k < length (source_at w s).subs → slice_get (source_at w s).subs k ≡ Some (sub_at w s k)
-sub-there w s k low = let found = get-inside (source_at w s).subs k low in found.1 ∙ ap {B = Option Sub} Some (sym (ap (λ (o : Option Sub). unwrap_or o no_session) found.1))
+sub-there w s k low = let found = some-there (source_at w s).subs k low in found.1 ∙ ap {B = Option Sub} Some (sym (ap (λ (o : Option Sub). unwrap_or o no_session) found.1))
 
 source-order : (plan : Plan) (events : List Event) (x p s k : ℕ) (line : IsReading plan x p s k) (u : Sess) → SourceOrder (run plan events) s x s k 1 u (length (source_readers plan s))
 unfolding run
@@ -101,7 +95,7 @@ module _ (plan : Plan) (events : List Event) (x p s k : ℕ) (checked : IsChecke
   order = source-order plan events x p s k line q.inlet.sess
 
   counted : m ≡ order.many
-  counted = (order.there.0 refl).open_one q.inlet.sess m tally (same-self q.inlet.sess)
+  counted = (order.there.0 refl).open_one q.inlet.sess m tally (same_sess-self q.inlet.sess)
 
   -- no more batches than were sent
   pub next-low : q.inlet.next ≤ m
@@ -115,7 +109,7 @@ module _ (plan : Plan) (events : List Event) (x p s k : ℕ) (checked : IsChecke
       by-next (suc j) e =
           let r = ports-have-read plan events checked x p (Source s) q line.port there whole in
           let many = r.many in
-          let item = get-inside r.batches j (omega (arith, many, e)) in
+          let item = some-there r.batches j (omega (arith, many, e)) in
           let batch = r.each j item.0 item.1 in
           let l : Channel = record { sender = s; reader = x; sess = q.inlet.sess } in
           let line_is : line_of plan x (Source s) q ≡ l = ap (λ (z : ℕ). record { sender = z; reader = x; sess = q.inlet.sess }) (ap (λ (z : ℕ). nth 0 (senders_of plan (Source s)) z) first ∙ line.first) in
@@ -125,5 +119,5 @@ module _ (plan : Plan) (events : List Event) (x p s k : ℕ) (checked : IsChecke
           let all : list_all (λ i. nat_lt i o.many) (indexes l (run plan events).envelopes) ≡ true =
           subst (λ (zs : List ℕ). list_all (λ i. nat_lt i o.many) zs ≡ true) (sym o.order) (subst (λ (z : ℕ). list_all (λ i. nat_lt i z) (range_with_len 0 o.many) ≡ true) zero_on (range-below 0 o.many)) in
           let low = lt-of j o.many (index-passes (λ i. nat_lt i o.many) l (run plan events).envelopes batch.place j batch.envelope all batch.there index) in
-          let same = (o.there.0 refl).open_one q.inlet.sess m tally (same-self q.inlet.sess) in
+          let same = (o.there.0 refl).open_one q.inlet.sess m tally (same_sess-self q.inlet.sess) in
           omega (arith, low, same, e)

@@ -1,5 +1,5 @@
 -- What an event of a quiet phase makes of a reader's session at its source, and which batches it sends it.
-use Rattle.std.proofs.Common.{◌≡◌, ◌≢◌, ℕ, zero, suc, ◌+◌, ◌<◌, ◌≤◌, Bool, true, cond, ◌==◌, List, [], ◌∷◌, ◌++◌, map, length, refl, sym, ap, subst, ◌∙◌, arith, Option, Some, slice_get, inl, inr}
+use Rattle.std.proofs.Common.{◌≡◌, ◌≢◌, ℕ, ◌+◌, ◌<◌, ◌≤◌, Bool, true, cond, List, [], ◌∷◌, ◌++◌, map, length, refl, sym, ap, subst, ◌∙◌, arith, Option, Some, slice_get, inl, inr}
 use Rattle.dpc_lists.specs.Lists.{nth, changed}
 use Rattle.dpc_model.specs.Actors.{role_of}
 use Rattle.dpc_model.specs.Sessions.{no_session, is_newer_than_kept, first_batch, tally_of}
@@ -14,22 +14,24 @@ use Rattle.dpc_model.specs.declared.messages.Subscribe.{Subscribe}
 use Rattle.dpc_model.specs.declared.messages.Message.TheVariants as message
 use Rattle.node_model.specs.Mails.{Mail, mail, Plain, Stepped}
 use Rattle.node_model.specs.NodeSteps.{packet_step, mill_step, tick_step}
-use Rattle.node_model.specs.Sources.{SourceState, source_readers, source_shown, source_packet_step, source_beat, source_tick_step}
+use Rattle.node_model.specs.Sources.{SourceState, source_shown, source_packet_step, source_beat, source_tick_step}
 use Rattle.node_model.specs.Clients.{client_after_packet, client_tick_step}
 use Rattle.world_model.specs.Worlds.{World, Envelope, home_of, source_at, no_source, client_at, from, node_stepped, source_stepped, client_stepped, taken_by, can_come, comes, is_clock, ticks, happens}
-use Rattle.law_safety.proofs.Tests.{both, eq-of}
+use Rattle.dpc_lists.proofs.Elements.{nth-here}
+use Rattle.dpc_lists.proofs.Somes.{some-same}
+use Rattle.node_model.proofs.Mailed.{subscribe-is}
 use Rattle.law_safety.proofs.EventCases.{AreCases, by-event}
 use Rattle.law_safety.proofs.Happening.{IsFine}
 use Rattle.law_safety.proofs.Numbering.{source-at as source-number}
-use Rattle.law_safety.proofs.Worlding.{sources-at}
+use Rattle.law_sessions.proofs.Sources.{source-many}
 use Rattle.law_granting.proofs.Asked.{each-unit}
 use Rattle.law_granting.proofs.Slots.{got-sent}
 use Rattle.law_schedules.specs.Journals.{clock_by, Ticks}
-use Rattle.law_settling.specs.Phased.{is_quiet}
+use Rattle.world_model.specs.Events.{is_quiet}
 use Rattle.law_settling.proofs.Exact.{same-or}
 use Rattle.law_settling.proofs.Lines.{IsReading}
 use Rattle.law_settling.proofs.PortSteps.{sent-place}
-use Rattle.law_settling.proofs.Answering.{nth-here, nth-there, opened_sub, Left, Answers, source-did, beat-sent, NoBatchMail, tick-subs, tick-beats}
+use Rattle.law_settling.proofs.Answering.{nth-there, opened_sub, Left, Answers, source-did, beat-sent, NoBatchMail, tick-subs, tick-beats}
 
 -- the session that a source keeps of its k-th reader
 abbrev pub sub_at : World → ℕ → ℕ → Sub
@@ -49,24 +51,12 @@ pub data SourceGoes (w : World) (x s k : ℕ) (next : World) : Type 0 where
   Opens : (j : ℕ) (f : Envelope) (v : Subscribe) → slice_get w.envelopes j ≡ Some f → f.sender ≡ x → f.to ≡ s → f.packet ≡ Plain (message.Subscribe v) → is_newer_than_kept v.sess (sub_at w s k).kept ≡ true →
       sub_at next s k ≡ opened_sub v → next.envelopes ≡ w.envelopes ++ answer_mail w s x v ∷ [] → SourceGoes w x s k next
 
-subs-many : (w : World) (most s : ℕ) → IsFine w most → s < length w.sources → length (source_at w s).subs ≡ length (source_readers w.plan s)
-subs-many w most s fine low =
-    let zero_on : 0 + s ≡ s = omega arith in
-    let orderly = sources-at w.plan 0 s w.sources (source_at w s) fine.sources (get-nth w.sources s low) in
-    let last = both _ (length (source_at w s).subs == length (source_readers w.plan (0 + s))) orderly in
-    eq-of (length (source_at w s).subs) (length (source_readers w.plan (0 + s))) last.1 ∙ ap (λ (z : ℕ). length (source_readers w.plan z)) zero_on
-  where
-    get-nth : (xs : List SourceState) (i : ℕ) → i < length xs → slice_get xs i ≡ Some (nth no_source xs i)
-    get-nth [] i h = absurd (omega (arith, h))
-    get-nth (x ∷ xs) zero h = refl
-    get-nth (x ∷ xs) (suc i) h = get-nth xs i (omega (arith, h))
-
 module _ (w : World) (most x p s k : ℕ) (fine : IsFine w most) (line : IsReading w.plan x p s k) (within : s < length w.sources) where
   abbrev After : World → Type 0
   After next = SourceGoes w x s k next
 
   pub few : k < length (source_at w s).subs
-  few = let many = subs-many w most s fine within in let low = line.low in omega (arith, many, low)
+  few = let many = source-many w most s fine within in let low = line.low in omega (arith, many, low)
 
   -- mails of another actor
   others-none : (a : ℕ) (ms : List Mail) (next : World) → (a ≡ s → ⊥) → next.envelopes ≡ w.envelopes ++ map (from a) ms → NoNewBatch w s x next
@@ -163,25 +153,19 @@ module _ (w : World) (most x p s k : ℕ) (fine : IsFine w most) (line : IsReadi
       (elim (source-did w.plan s x k f.sender f.packet y line.placed few) [
         | Left sub emitted bound none not_asked ↦ absurd (not_asked v packet sender newer)
         | Answers u asked who more opened emitted bound mine ↦
-            let same : u ≡ v = subscribe-same u v (sym asked ∙ packet) in
+            let same : u ≡ v = subscribe-is u v (sym asked ∙ packet) in
             subst (λ (z : Subscribe). (sub_at (source_stepped s t w) s k ≡ opened_sub z) × ((source_stepped s t w).envelopes ≡ w.envelopes ++ answer_mail w s x z ∷ [])) same
             (ap (λ (z : SourceState). nth no_session z.subs k) (own-source t) ∙ opened, ap (λ (ms : List Mail). w.envelopes ++ map (from s) ms) mine)
       ])
-    where
-      subscribe-same : (u v : Subscribe) → Plain (message.Subscribe u) ≡ Plain (message.Subscribe v) → u ≡ v
-      subscribe-same u v e = cc
 
   -- a tick of the source that is not void tells the reader its session
   pub beats-now : (now : ℕ) → Ticks w s now → (i : ℕ) × (slice_get (happens w (Tick s now)).envelopes i ≡ Some (from s (mail x (source_beat (tally_of (sub_at w s k)))))) × (length w.envelopes ≤ i) × (sub_at (happens w (Tick s now)) s k ≡ sub_at w s k)
   beats-now now clocked =
       let y = source_at w s in
       let t = source_tick_step w.plan s now y in
-      let clock : y.clock ≡ clocked.old = some-clock y.clock clocked.old (sym (ap (λ (r : Role). clock_by w s r) line.source) ∙ clocked.is_up) in
+      let clock : y.clock ≡ clocked.old = some-same y.clock clocked.old (sym (ap (λ (r : Role). clock_by w s r) line.source) ∙ clocked.is_up) in
       let may : is_clock y.clock now ≡ true = ap (λ (c : ℕ). is_clock c now) clock ∙ clocked.may in
       let event : happens w (Tick s now) ≡ source_stepped s t w = ap (λ (r : Role). ticks w s now r) line.source ∙ ap (λ (c : Bool). cond c (source_stepped s t w) w) may in
       let place = sent-place s w.envelopes (mail x (source_beat (tally_of (sub_at w s k)))) t.sends (beat-sent w.plan s now k x y line.back line.low few) in
       subst (λ (next : World). (i : ℕ) × (slice_get next.envelopes i ≡ Some (from s (mail x (source_beat (tally_of (sub_at w s k)))))) × (length w.envelopes ≤ i) × (sub_at next s k ≡ sub_at w s k)) (sym event)
       (place.0, place.1, place.2, ap (λ (z : SourceState). nth no_session z.subs k) (own-source t) ∙ ap (λ (subs : List Sub). nth no_session subs k) (tick-subs w.plan s now y))
-    where
-      some-clock : (y z : ℕ) → ◌≡◌ {A = Option ℕ} (Some y) (Some z) → y ≡ z
-      some-clock y z d = cc

@@ -6,9 +6,11 @@ use Rattle.dpc_lists.specs.Lists.{list_all}
 use Rattle.dpc_model.specs.declared.messages.Event.{Event}
 use Rattle.dpc_model.specs.declared.messages.Event.TheVariants.{Phase, Emit, Release, Cut, Heal, Crash, Restart, Deliver, Tick, Mill}
 use Rattle.dpc_model.specs.declared.scripts.Script.{Script}
-use Rattle.world_model.specs.Schedules.{Progress, first_progress, next_progress, progress_from, progress, follows_from, may_follow, is_live_so_far, is_live, is_phase_complete, phase_left, phase_of, is_next}
-use Rattle.law_safety.proofs.Tests.{both, both-of, eq-of, lt-of, not-lt}
-use Rattle.law_settling.specs.Phased.{is_quiet, IsFull, opened, passed_all, ArePhases, events_of}
+use Rattle.world_model.specs.Schedules.{Progress, first_progress, next_progress, progress_from, progress, follows_from, may_follow, is_live_so_far, is_live, is_phase_complete, phase_left, phase_of}
+use Rattle.dpc_lists.proofs.Truths.{both, both-of, eq-of, lt-of, not-lt}
+use Rattle.world_model.proofs.Running.{not-next}
+use Rattle.world_model.specs.Events.{is_quiet}
+use Rattle.law_settling.specs.Phased.{IsFull, opened, passed_all, ArePhases, events_of}
 
 -- a phase without directives goes on
 pub record IsQuietAt (script : Script) (x : Progress) : Type 0 where
@@ -44,9 +46,6 @@ quiet-goes script x (Mill a r) q h = (record { todo = h.todo; phase = h.phase },
 -- what an event that may come is: the next phase's first one, or one that leaves the phase
 abbrev pub Opens : Progress → Event → Type 0
 Opens x e = (e ≡ Phase (x.phase + 1)) × (is_phase_complete x ≡ true)
-
-not-next : (x : Progress) (e : Event) → x.todo ≡ [] → is_next x e ≡ true → ⊥
-not-next x e none h = let no : false ≡ true = rw none at h in cc
 
 pub opens : (script : Script) (x : Progress) (p : ℕ) → may_follow script x (Phase p) ≡ true → Opens x (Phase p)
 opens script x p h =

@@ -16,7 +16,8 @@ use Rattle.world_model.specs.Worlds.{World, Envelope, slot_of, role_up, is_up}
 use Rattle.world_model.specs.Schedules.{Undelivered, Progress, next_progress, progress_from}
 use Rattle.law_granting.specs.Taken.{node_port, role_port, port_of}
 use Rattle.law_settling.specs.Phased.{opened}
-use Rattle.law_settling.proofs.Waitings.{waits, is_due, is_delivery}
+use Rattle.world_model.specs.Events.{is_delivery}
+use Rattle.law_settling.proofs.Waitings.{waits, is_due}
 use Rattle.law_settling.proofs.Rules.{MayGo, Keeps, kept-full, due-taken, opened-due, same-delivery, tick-due, first-good}
 use Rattle.law_settling.proofs.Journeys.{IsStep, IsJourney}
 use Rattle.law_settling.proofs.Fresh.{IsSeen, HasWhole, ticks-few, IsAsking, IsReplying, Replied, Coming, whole-kept}

@@ -1,5 +1,5 @@
 -- All that is known of a port that reads a source, and of the source, in a run where nobody recovers and every link is up.
-use Rattle.std.proofs.Common.{◌≡◌, ℕ, ◌+◌, ◌<◌, ◌≤◌, true, false, not, ◌==◌, List, [], ◌∷◌, length, refl, sym, ap, subst, ◌∙◌, arith, Option, Some, slice_get}
+use Rattle.std.proofs.Common.{◌≡◌, ℕ, ◌+◌, ◌<◌, ◌≤◌, true, false, not, List, [], length, refl, sym, ap, subst, ◌∙◌, arith, Option, Some, slice_get}
 use Rattle.dpc_lists.specs.Lists.{nth}
 use Rattle.dpc_model.specs.Reading.{Reader, is_sure, Folded, fold_items}
 use Rattle.dpc_model.specs.Inlets.{InletState, same_sess, is_newer}
@@ -19,7 +19,9 @@ use Rattle.world_model.specs.Worlds.{World, Envelope, source_at, run}
 use Rattle.world_model.specs.Steady.{NoneRecovers}
 use Rattle.world_model.specs.Safe.{HoldsOf}
 use Rattle.law_safety.specs.Plans.{IsCheckedPlan}
-use Rattle.law_safety.proofs.Tests.{both, eq-of, eq-test}
+use Rattle.dpc_lists.proofs.Truths.{eq-test}
+use Rattle.dpc_lists.proofs.Elements.{no-elements}
+use Rattle.dpc_model.proofs.Alike.{same_sess-eq}
 use Rattle.law_safety.proofs.Happening.{IsFine}
 use Rattle.law_safety.proofs.Law.{run-good}
 use Rattle.law_granting.specs.Taken.{role_port, port_of}
@@ -62,28 +64,21 @@ pub record Stand (plan : Plan) (x p s k : ℕ) (w : World) : Type 0 where
   pub plain : (j : ℕ) (f : Envelope) → slice_get w.envelopes j ≡ Some f → f.sender ≡ s → IsPlainPacket f.packet
   pub holds : (q : Port) → port_of w x p ≡ Some q → HoldsOf plan (Source s) q.inlet.held
 
-pub same-fields : (v u : Sess) → same_sess v u ≡ true → v ≡ u
-same-fields v u e = let p = both (v.inc == u.inc) (v.number == u.number) e in let one = eq-of v.inc u.inc p.0 in let two = eq-of v.number u.number p.1 in rw (one, two) refl
-
 -- what was asked for in the port's session is what it asks for now, where it took no batch of it
 run-asked : (plan : Plan) (events : List Event) (x p s k : ℕ) → IsCheckedPlan plan → IsReading plan x p s k → (q : Port) (u : Sess) (h : Reader) (j : ℕ) (f : Envelope) (v : Subscribe) → port_of (run plan events) x p ≡ Some q → q.inlet ≡ asked_inlet h u →
     slice_get (run plan events).envelopes j ≡ Some f → f.sender ≡ x → f.to ≡ s → f.packet ≡ Plain (message.Subscribe v) → same_sess v.sess u ≡ true → v ≡ asks_with u h
 run-asked plan events x p s k checked line q u h j f v there inlet sent sender to packet same =
     let read = ports-have-read plan events checked x p (Source s) q line.port there (ap (λ (i : InletState). i.broken) inlet) in
-    let none : read.batches ≡ [] = empty read.batches (read.many ∙ ap (λ (i : InletState). i.next) inlet) in
+    let none : read.batches ≡ [] = no-elements read.batches (read.many ∙ ap (λ (i : InletState). i.next) inlet) in
     let folded : read.folded.after ≡ read.start = some-folded read.start read.folded (sym (ap (λ (bs : List (List Item)). fold_items read.start (joined bs)) none) ∙ read.read) in
     let start : read.start ≡ h = sym folded ∙ sym read.held ∙ ap (λ (i : InletState). i.held) inlet in
     let sends : sends_stream (Source s) (role_of plan f.to) ≡ true = ap (λ (z : ℕ). sends_stream (Source s) (role_of plan z)) to ∙ ap (λ (r : Role). sends_stream (Source s) r) line.source ∙ eq-test s s refl in
     let said = read.asks j f v sent sender sends packet (subst (λ (i : InletState). same_sess v.sess i.sess ≡ true) (sym inlet) same) in
-    let sess = same-fields v.sess u same in
+    let sess = same_sess-eq v.sess u same in
     let n : v.n ≡ length h.stable = said.0 ∙ ap (λ (r : Reader). length r.stable) start in
     let tentative : v.tentative ≡ not (is_sure h) = said.1 ∙ ap (λ (r : Reader). not (is_sure r)) start in
     rw (← sess, ← n, ← tentative) refl
   where
-    empty : (bs : List (List Item)) → length bs ≡ 0 → bs ≡ []
-    empty [] e = refl
-    empty (b ∷ bs) e = absurd (omega (arith, e))
-
     some-folded : (r : Reader) (g : Folded) → ◌≡◌ {A = Option Folded} (Some (record { after = r; taken = [] })) (Some g) → g.after ≡ r
     some-folded r g e = let same : ◌≡◌ {A = Folded} (record { after = r; taken = [] }) g = cc in ap (λ (z : Folded). z.after) (sym same)
 

@@ -10,7 +10,7 @@ use Rattle.dpc_model.specs.declared.messages.Sess.{Sess}
 use Rattle.dpc_model.specs.declared.messages.Message.TheVariants as message
 use Rattle.node_model.specs.Mails.{Packet, Plain, SnapFor}
 use Rattle.world_model.specs.Worlds.{Envelope}
-use Rattle.law_safety.proofs.Tests.{both, both-of, lt-of, all-append}
+use Rattle.dpc_lists.proofs.Truths.{both, both-of, lt-of, all-append}
 use Rattle.law_readers.specs.Sure.{is_sure_item, SendsSurely}
 use Rattle.law_settling.proofs.Exact.{inlet_after}
 

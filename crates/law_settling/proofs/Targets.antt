@@ -15,10 +15,11 @@ use Rattle.node_model.specs.Nodes.{PlainNode, ready}
 use Rattle.world_model.specs.Worlds.{World, home_of, node_place, slot_of, node_at, node_role, ready_at, ready_role, ready_in, happens}
 use Rattle.world_model.specs.Schedules.{Progress, next_progress, progress_from, target_of, targets_in, targets_left, is_recovering}
 use Rattle.world_model.specs.Steady.{NoneRecovers}
-use Rattle.law_safety.proofs.Tests.{both, both-of, eq-of, eq-test, lt-of, not-lt, le-of}
+use Rattle.dpc_lists.proofs.Truths.{both, both-of, eq-of, eq-test, lt-of, not-lt, le-of, or-right, true-not-false}
 use Rattle.law_safety.proofs.Numbering.{node-at}
 use Rattle.law_schedules.proofs.Nodes.{IsCalmNode, delivered-calm, ticked-calm, milled-moves}
-use Rattle.law_settling.specs.Phased.{is_quiet, opened}
+use Rattle.world_model.specs.Events.{is_quiet}
+use Rattle.law_settling.specs.Phased.{opened}
 use Rattle.law_settling.proofs.Splitting.{IsQuietAt, no-directives}
 use Rattle.law_settling.proofs.Waitings.{done-of}
 use Rattle.law_settling.proofs.Rules.{Keeps, kept-full, last-good, some-phase}
@@ -54,10 +55,6 @@ range-any test q k (suc n) a low high h =
           let apart : k ≡ a → ⊥ = (λ (same : k ≡ a). let one = eq-test k a same in let clash : true ≡ false = sym one ∙ e in cc) in
           or-right (q (test k)) (list_any q (map test (range_with_len (k + 1) n))) (range-any test q (k + 1) n a (omega (arith, low, apart)) (omega (arith, high)) h)
     ]) refl
-  where
-    or-right : (b c : Bool) → c ≡ true → (b || c) ≡ true
-    or-right true c e = refl
-    or-right false c e = e
 
 -- what passes a filter stays
 filter-any : (q keep : ℕ × ℕ → Bool) (ts : List (ℕ × ℕ)) → ((t : ℕ × ℕ) → q t ≡ true → keep t ≡ true) → list_any q ts ≡ true → list_any q (filter keep ts) ≡ true
@@ -69,10 +66,6 @@ filter-any q keep (t ∷ ts) stays h =
           let rest = filter-any q keep ts stays d in
           elim (keep t) as (λ b. list_any q (cond b (t ∷ filter keep ts) (filter keep ts)) ≡ true) [ true ↦ or-right (q t) (list_any q (filter keep ts)) rest | false ↦ rest ]
     ]) refl h
-  where
-    or-right : (b c : Bool) → c ≡ true → (b || c) ≡ true
-    or-right true c e = refl
-    or-right false c e = e
 
 -- one that is among those that all pass a test passes it
 any-all : (q r : ℕ × ℕ → Bool) (ts : List (ℕ × ℕ)) → list_any q ts ≡ true → list_all r ts ≡ true → (t : ℕ × ℕ) × (q t ≡ true) × (r t ≡ true)
@@ -181,10 +174,7 @@ module _ (script : Script) (a f r : ℕ) (role_a : role_of script.plan a ≡ IsN
       record { node = went.0; up = went.1; past = omega (arith, low, more) }
     where
       by-calm : (n m : PlainNode) → IsCalmNode n m → n.recovering ≡ false → m.recovering ≡ false → n.cursor ≤ m.cursor
-      by-calm n m c old new = c.cursor (λ e. absurd (differ (sym e ∙ old))) new
-        where
-          differ : true ≡ false → ⊥
-          differ d = cc
+      by-calm n m c old new = c.cursor (λ e. absurd (true-not-false (sym e ∙ old))) new
 
       on : (m : PlainNode) → NodeWent (home_of z.world.plan (f, r)) h.node m → h.node.recovering ≡ false → m.recovering ≡ false → h.node.cursor ≤ m.cursor
       on m (Rests same) old new = let one = ap (λ (y : PlainNode). y.cursor) same in omega (arith, one)

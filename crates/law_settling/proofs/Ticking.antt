@@ -1,5 +1,5 @@
 -- What a tick or milling makes of a reader's port, exactly, and which subscription a tick sends.
-use Rattle.std.proofs.Common.{◌≡◌, ℕ, zero, suc, Bool, true, false, cond, not, List, [], ◌∷◌, ◌++◌, map, refl, sym, length, ap, subst, ◌∙◌, Option, Some, slice_get, inl, inr}
+use Rattle.std.proofs.Common.{◌≡◌, ℕ, zero, suc, Bool, true, false, cond, not, List, [], ◌∷◌, ◌++◌, map, refl, sym, length, ap, subst, ◌∙◌, Some, slice_get, inl, inr}
 use Rattle.dpc_lists.specs.Lists.{nth}
 use Rattle.dpc_model.specs.Inlets.{with_next_session, asked_by}
 use Rattle.dpc_model.specs.Actors.{senders_of}
@@ -8,18 +8,16 @@ use Rattle.dpc_model.specs.declared.messages.Message.TheVariants as message
 use Rattle.dpc_model.specs.declared.messages.Out.{Out}
 use Rattle.dpc_model.specs.declared.plans.Plan.{Plan}
 use Rattle.dpc_model.specs.declared.plans.StreamRef.{StreamRef}
+use Rattle.dpc_lists.proofs.Elements.{get-map}
+use Rattle.dpc_lists.proofs.Somes.{some-same}
 use Rattle.node_model.specs.Mails.{Mail, mail, mails, in_actor_order}
 use Rattle.node_model.specs.Nodes.{Home, PlainNode, streams_of}
-use Rattle.node_model.specs.NodeSteps.{then_do, with_marks_ended, mill_step, after_clock, may_start_afresh, choice_step, ask_step, processing_step, announcing_step, serving_step, snapshot_ask_step, with_fresh_start, tick_step}
+use Rattle.node_model.specs.NodeSteps.{then_do, with_marks_ended, after_clock, may_start_afresh, choice_step, ask_step, processing_step, announcing_step, serving_step, snapshot_ask_step, with_fresh_start, tick_step}
 use Rattle.node_model.specs.Clients.{ClientState, client_stream, client_tick_step}
 use Rattle.law_granting.proofs.Moves.{reconciling-ports, processing-ports}
-use Rattle.law_settling.proofs.Exact.{get-map, IsIn, in-left, in-right, in-sorted}
+use Rattle.law_settling.proofs.Exact.{IsIn, in-left, in-right, in-sorted}
 
 -- ---- milling
-
-pub mill-ports : (home : Home) (r : ℕ) (n : PlainNode) → (mill_step home r n).after.ports ≡ n.ports
-unfolding mill_step
-mill-ports home r n = refl
 
 -- ---- a tick
 
@@ -52,17 +50,11 @@ in-subscriptions : (plan : Plan) (p : ℕ) (q : Port) (s : StreamRef) (ports : L
 in-subscriptions plan p q s [] ss there reads must = cc
 in-subscriptions plan p q s (x ∷ ports) [] there reads must = cc
 in-subscriptions plan zero q s (x ∷ ports) (u ∷ ss) there reads must =
-    let one : x ≡ q = some-port x q there in
-    let two : u ≡ s = some-stream u s reads in
+    let one : x ≡ q = some-same x q there in
+    let two : u ≡ s = some-same u s reads in
     let rest = subscriptions plan ports ss in
     in-left _ (subscription plan x u) rest (subst (λ (z : Port). IsIn (ask_out plan s q) (subscription plan z u)) (sym one)
     (subst (λ (z : StreamRef). IsIn (ask_out plan s q) (subscription plan q z)) (sym two) (in-subscription plan q s must)))
-  where
-    some-port : (y z : Port) → ◌≡◌ {A = Option Port} (Some y) (Some z) → y ≡ z
-    some-port y z d = cc
-
-    some-stream : (y z : StreamRef) → ◌≡◌ {A = Option StreamRef} (Some y) (Some z) → y ≡ z
-    some-stream y z d = cc
 in-subscriptions plan (suc p) q s (x ∷ ports) (u ∷ ss) there reads must = in-right _ (subscription plan x u) (subscriptions plan ports ss) (in-subscriptions plan p q s ports ss there reads must)
 
 module _ (home : Home) (p : ℕ) (s : StreamRef) (q : Port) where

@@ -1,18 +1,15 @@
 -- A journey along a live run: it begins with the first phase behind a number of phases, and has ended when so many more are over.
-use Rattle.std.proofs.Common.{◌≡◌, ℕ, ◌+◌, ◌<◌, ◌≤◌, true, false, nat_lt, List, [], ◌∷◌, ◌++◌, length, refl, sym, ap, subst, ◌∙◌, arith, ◌⊎◌, inl, inr}
+use Rattle.std.proofs.Common.{◌≡◌, ℕ, ◌+◌, ◌<◌, ◌≤◌, true, List, [], ◌∷◌, ◌++◌, length, refl, sym, ap, subst, ◌∙◌, arith, ◌⊎◌, inl, inr}
 use Rattle.std.proofs.lemmas.List.{append_assoc}
 use Rattle.dpc_model.specs.declared.messages.Event.{Event}
 use Rattle.dpc_model.specs.declared.scripts.Script.{Script}
+use Rattle.dpc_model.proofs.Numbers.{le-or}
 use Rattle.world_model.specs.Schedules.{Progress, next_progress, progress, may_follow, is_live_so_far}
 use Rattle.world_model.specs.Steady.{OpensWell}
-use Rattle.law_safety.proofs.Tests.{lt-of, not-lt}
 use Rattle.law_settling.specs.Phased.{opened}
 use Rattle.law_settling.proofs.Splitting.{IsQuietAt, stays}
 use Rattle.law_settling.proofs.Along.{every-prefix, progress-push, live-may, stands}
 use Rattle.law_settling.proofs.Journeys.{IsJourney, IsUnder, under-phase, under-next, under-first, end-under}
-
-pub le-or : (a b : ℕ) → (a ≤ b) ⊎ (b < a)
-le-or a b = (elim (nat_lt b a) as (λ c. nat_lt b a ≡ c → (a ≤ b) ⊎ (b < a)) [ true ↦ λ t. inr (lt-of b a t) | false ↦ λ t. inl (not-lt b a t) ]) refl
 
 module _ (script : Script) (events : List Event) (live : is_live_so_far script events ≡ true) (well : OpensWell script events) (Good : Progress → Type 0) (Stage : ℕ → Progress → Type 0) (top base : ℕ) (journey : IsJourney script Good Stage top)
     (past : length script.phases < base) (good : (done rest : List Event) → events ≡ done ++ rest → base < (progress script done).phase → Good (progress script done)) (start : (z : Progress) → Good (opened script z) → Stage top z) where

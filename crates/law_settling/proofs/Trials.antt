@@ -16,11 +16,12 @@ use Rattle.node_model.specs.Nodes.{PlainNode, spec_of}
 use Rattle.node_model.specs.NodeSteps.{tick_step}
 use Rattle.world_model.specs.Worlds.{World, Slot, home_of, slot_of, from, node_stepped, role_up, is_up, happens}
 use Rattle.world_model.specs.Schedules.{Progress, next_progress, progress_from}
-use Rattle.law_safety.proofs.Tests.{both, both-of, eq-of, eq-test}
+use Rattle.dpc_lists.proofs.Truths.{both, both-of, eq-of, eq-test}
 use Rattle.law_safety.proofs.Promises.{slot-here}
 use Rattle.law_safety.proofs.Emptied.{shape-of}
 use Rattle.law_settling.specs.Phased.{opened}
-use Rattle.law_settling.proofs.Waitings.{is_due, is_delivery}
+use Rattle.world_model.specs.Events.{is_delivery}
+use Rattle.law_settling.proofs.Waitings.{is_due}
 use Rattle.law_settling.proofs.Rules.{MayGo, Keeps, due-taken, opened-due, same-delivery, tick-due, first-good}
 use Rattle.law_settling.proofs.Journeys.{IsStep}
 use Rattle.law_settling.proofs.PortSteps.{sent-place}

@@ -13,7 +13,7 @@ use Rattle.dpc_model.specs.declared.scripts.Script.{Script}
 use Rattle.node_model.specs.Nodes.{PlainNode, held_by, wants_to_reconcile}
 use Rattle.world_model.specs.Worlds.{home_of}
 use Rattle.world_model.specs.Schedules.{Progress, next_progress}
-use Rattle.law_safety.proofs.Tests.{both, both-of, eq-of, eq-test, le-test}
+use Rattle.dpc_lists.proofs.Truths.{both, both-of, eq-of, eq-test, le-test, not-both}
 use Rattle.law_granting.proofs.AtWork.{failed-closed}
 use Rattle.law_settling.specs.Finished.{has_whole_inputs}
 use Rattle.law_settling.specs.Phased.{opened}
@@ -46,9 +46,6 @@ Broke script f Was E z = HasEntered script f Was z ⊎ HasMore script f Was E z
 pub record IsPeerOf (E : ℕ → Bool) (many m s : ℕ) : Type 0 where
   pub other : s ≡ m → ⊥
   pub only : (j : ℕ) → j < many → E j ≡ true → (E s ≡ true → j < s) → j ≡ m
-
-differ : (b : Bool) → b ≡ true → b ≡ false → ⊥
-differ b e f = let clash : true ≡ false = sym e ∙ f in cc
 
 whole-complete : (end width k : ℕ) (ps : List Port) → (k + 1) * width ≤ end → list_all (λ (p : Port). p.inlet.held.bound == end) ps ≡ true → list_all (λ (r : Reader). nat_le ((k + 1) * width) r.bound) (map held_at ps) ≡ true
 whole-complete end width k [] low h = refl
@@ -90,7 +87,7 @@ module _ (script : Script) (f : ℕ) (Was : ℕ → Type 0) where
           let wants = (order-here script f z b q n good at).wants runs in
           let none : ((is_up_failure n.state && is_complete z.world.plan.width (held_by n) n.cursor) || (is_stabilization n.state && not n.recovering)) ≡ false =
           ap (λ s. (is_up_failure s && is_complete z.world.plan.width (held_by n) n.cursor) || (is_stabilization s && not n.recovering)) state in
-          absurd (differ _ wants none)
+          absurd (not-both _ wants none)
 
   -- it goes on asking
   pub asks-on : (z : Progress) (e : Event) → MayGo script (IsWorking script f) z e → IsResting script f Was z → (b q : ℕ) (n m : PlainNode) → IsReplica script f z b q n → Moved script f (next_progress script z e) b q n m → n.grants.running ≡ true → m.grants.running ≡ true
@@ -147,7 +144,7 @@ module _ (script : Script) (f : ℕ) (Was : ℕ → Type 0) where
             by-bits : {G N : Type 0} {x y : Bool} (a d : Bool) → x ≡ a → y ≡ d → (x ≡ y → G) → (y ≡ true → x ≡ true) → (x ≡ true → N) → G ⊎ (N × (y ≡ false))
             by-bits true true ex ey good on new = inl (good (ex ∙ sym ey))
             by-bits true false ex ey good on new = inr (new ex, ey)
-            by-bits false true ex ey good on new = absurd (differ _ (on ey) ex)
+            by-bits false true ex ey good on new = absurd (not-both _ (on ey) ex)
             by-bits false false ex ey good on new = inl (good (ex ∙ sym ey))
 
     -- a promise is to one of those
@@ -165,7 +162,7 @@ module _ (script : Script) (f : ℕ) (Was : ℕ → Type 0) where
         by-promise (Some p) e =
             let on = promised-one z good h b l n p at e in
             let low = ((order-here script f z b l n good at).promise p e).lower (h.asking b l n at ∙ first.passes) in
-            absurd (differ (E p.0) on (first.before p.0 low))
+            absurd (not-both (E p.0) on (first.before p.0 low))
 
     -- nobody is asking: nobody promised
     pub none-free : (z : Progress) → IsWorking script f z → IsTrying script f Was E z → ((k : ℕ) → k < many_replicas script.plan f → E k ≡ false) → (b q : ℕ) (n : PlainNode) → IsReplica script f z b q n → n.grants.promise ≡ None
@@ -173,7 +170,7 @@ module _ (script : Script) (f : ℕ) (Was : ℕ → Type 0) where
       where
         by-promise : (o : Option (ℕ × Key)) → n.grants.promise ≡ o → n.grants.promise ≡ None
         by-promise None e = e
-        by-promise (Some p) e = absurd (differ (E p.0) (promised-one z good h b q n p at e) (none p.0 (good.numbered b q n p at e)))
+        by-promise (Some p) e = absurd (not-both (E p.0) (promised-one z good h b q n p at e) (none p.0 (good.numbered b q n p at e)))
 
     -- the next one promised nobody else
     pub second-free : (z : Progress) (l s : ℕ) → IsWorking script f z → IsTrying script f Was E z → IsPeerOf E (many_replicas script.plan f) l s → (c : ℕ) (x : PlainNode) → IsReplica script f z c s x → promised_other x.grants l ≡ false

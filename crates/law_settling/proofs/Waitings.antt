@@ -8,9 +8,9 @@ use Rattle.dpc_model.specs.declared.scripts.Script.{Script}
 use Rattle.world_model.specs.Worlds.{World, happens}
 use Rattle.world_model.specs.Schedules.{Undelivered, Progress, next_progress, may_come, delivery_made, pending_in, becomes_pending, is_lost, newly_sent, is_phase_complete, all_ticked, all_delivered, all_milled}
 use Rattle.dpc_lists.specs.Lists.{is_nil}
-use Rattle.law_safety.proofs.Tests.{both, eq-of}
-use Rattle.law_settling.specs.Phased.{is_quiet}
-pub use Rattle.law_settling.specs.Phased.{waits, is_delivery}
+use Rattle.dpc_lists.proofs.Truths.{both, eq-of}
+use Rattle.world_model.specs.Events.{is_quiet, is_delivery}
+pub use Rattle.law_settling.specs.Phased.{waits}
 
 -- an envelope waits, and is pending
 abbrev pub is_due : ℕ → List Undelivered → Bool

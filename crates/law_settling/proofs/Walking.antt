@@ -7,8 +7,8 @@ use Rattle.dpc_model.specs.declared.plans.Plan.{Plan}
 use Rattle.dpc_model.specs.declared.plans.StreamRef.TheVariants.{Source}
 use Rattle.dpc_model.specs.declared.scripts.Script.{Script}
 use Rattle.world_model.specs.Worlds.{World, source_at, run}
-use Rattle.world_model.specs.Schedules.{Progress, progress, may_follow, may, is_live_so_far}
-use Rattle.world_model.specs.Steady.{NoneRecovers, patience, IsSteady, OpensWell}
+use Rattle.world_model.specs.Schedules.{Progress, progress, may_follow, may, is_live_so_far, settling_phases}
+use Rattle.world_model.specs.Steady.{NoneRecovers, IsSteady, OpensWell}
 use Rattle.law_granting.specs.Taken.{port_of}
 use Rattle.law_granting.proofs.First.{source-below}
 use Rattle.law_schedules.specs.Journals.{Ticks}
@@ -56,8 +56,8 @@ seen-of script x p s k can line z good =
 
 module _ (script : Script) (x p s k : ℕ) (events : List Event) (can : CanSettle script) (line : IsReading script.plan x p s k) (live : is_live_so_far script events ≡ true) (well : OpensWell script events) (steady : IsSteady script events) where
   -- from the ninth phase on past the last recovery the whole is there
-  pub whole-late : (done rest : List Event) → events ≡ done ++ rest → length script.phases + patience + 9 ≤ (progress script done).phase → HasWhole script x p (progress script done)
+  pub whole-late : (done rest : List Event) → events ≡ done ++ rest → length script.phases + settling_phases + 9 ≤ (progress script done).phase → HasWhole script x p (progress script done)
   whole-late done rest is far =
-      let base = length script.phases + patience in
+      let base = length script.phases + settling_phases in
       arrives script events live well (IsSeen script x p s k) (Stage script x p s k) 8 base (stages-lead script x p s k) (omega arith)
       (λ done rest at past. seen-of script x p s k can line (progress script done) (good-along script events live well steady done rest at past)) (λ z seen. (seen.port, seen.there)) done rest is (omega (arith, far))

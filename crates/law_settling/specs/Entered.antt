@@ -10,8 +10,8 @@ use Rattle.dpc_model.specs.declared.plans.Plan.{Plan}
 use Rattle.dpc_model.specs.declared.scripts.Script.{Script}
 use Rattle.node_model.specs.Nodes.{PlainNode, no_fragment}
 use Rattle.world_model.specs.Worlds.{World, home_of, slot_of, run}
-use Rattle.world_model.specs.Schedules.{is_live}
-use Rattle.world_model.specs.Steady.{patience, IsSteady, OpensWell}
+use Rattle.world_model.specs.Schedules.{is_live, settling_phases}
+use Rattle.world_model.specs.Steady.{IsSteady, OpensWell}
 use Rattle.law_schedules.specs.Journals.{phases_in}
 use Rattle.law_readers.specs.Settling.{CanSettle}
 use Rattle.law_settling.specs.Finished.{has_whole_inputs, IsFinished}
@@ -51,7 +51,7 @@ pub record EnteredBetween (plan : Plan) (v w : World) (f : ℕ) : Type 0 where
 abbrev pub OneEnters : Script → List Event → Type 0
 OneEnters script events =
     CanSettle script → IsTrue (is_live script events) → OpensWell script events → IsSteady script events →
-    (before mid rest : List Event) (f : ℕ) → events ≡ before ++ (mid ++ rest) → length script.phases + patience < phases_in before →
+    (before mid rest : List Event) (f : ℕ) → events ≡ before ++ (mid ++ rest) → length script.phases + settling_phases < phases_in before →
     phases_in before + (3 * (nth no_fragment script.plan.frags f).replicas + 4) ≤ phases_in (before ++ mid) →
     ((done more : List Event) → events ≡ done ++ more → length before ≤ length done → AreWhole script.plan (run script.plan done) f) →
     AreFailingOrDone script.plan (run script.plan before) f → OversAreKnown script.plan (run script.plan before) f →
@@ -67,7 +67,7 @@ finishing_phases m (suc u) = finishing_phases m u + (3 * m + 9)
 abbrev pub ReplicasFinish : Script → List Event → Type 0
 ReplicasFinish script events =
     CanSettle script → IsTrue (is_live script events) → OpensWell script events → IsSteady script events →
-    (before mid rest : List Event) (f : ℕ) → events ≡ before ++ (mid ++ rest) → length script.phases + patience < phases_in before →
+    (before mid rest : List Event) (f : ℕ) → events ≡ before ++ (mid ++ rest) → length script.phases + settling_phases < phases_in before →
     (let m = (nth no_fragment script.plan.frags f).replicas in phases_in before + finishing_phases m m ≤ phases_in (before ++ mid)) →
     ((done more : List Event) → events ≡ done ++ more → length before ≤ length done → AreWhole script.plan (run script.plan done) f) →
     (a r : ℕ) (n : PlainNode) → IsReplicaOf script.plan (run script.plan (before ++ mid)) f a r n → IsFinished (home_of script.plan (f, r)) n

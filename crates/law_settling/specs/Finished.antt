@@ -14,10 +14,10 @@ use Rattle.dpc_model.specs.declared.plans.StreamRef.TheVariants.{Frag}
 use Rattle.dpc_model.specs.declared.scripts.Script.{Script}
 use Rattle.node_model.specs.Nodes.{Home, PlainNode, buckets_of, out_stable}
 use Rattle.world_model.specs.Worlds.{World, home_of, slot_of, run}
-use Rattle.world_model.specs.Schedules.{is_live}
-use Rattle.world_model.specs.Steady.{patience, IsSteady, OpensWell}
+use Rattle.world_model.specs.Schedules.{is_live, settling_phases}
+use Rattle.world_model.specs.Steady.{IsSteady, OpensWell}
 use Rattle.law_readers.specs.Settling.{CanSettle}
-use Rattle.law_settling.specs.Phased.{is_quiet}
+use Rattle.world_model.specs.Events.{is_quiet}
 
 -- every port holds its stream up to the end of the run
 abbrev pub has_whole_inputs : Plan → PlainNode → Bool
@@ -40,6 +40,6 @@ pub record FinishedAt (plan : Plan) (w : World) (a f r : ℕ) : Type 0 where
 abbrev pub WholeReplicasFinish : Script → List Event → Type 0
 WholeReplicasFinish script events =
     CanSettle script → IsTrue (is_live script events) → OpensWell script events → IsSteady script events →
-    (before here more rest : List Event) (p q : ℕ) → events ≡ before ++ (Phase p ∷ (here ++ Phase q ∷ (more ++ rest))) → length script.phases + patience < p → list_all is_quiet here ≡ true →
+    (before here more rest : List Event) (p q : ℕ) → events ≡ before ++ (Phase p ∷ (here ++ Phase q ∷ (more ++ rest))) → length script.phases + settling_phases < p → list_all is_quiet here ≡ true →
     (a f r : ℕ) (n : PlainNode) → role_of script.plan a ≡ IsNode f r → (slot_of (run script.plan before) a).node ≡ Some n → IsTrue (has_whole_inputs script.plan n) → is_up_failure n.state ≡ false →
     FinishedAt script.plan (run script.plan (before ++ (Phase p ∷ (here ++ Phase q ∷ more)))) a f r

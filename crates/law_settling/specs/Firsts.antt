@@ -8,8 +8,8 @@ use Rattle.dpc_model.specs.declared.plans.StreamRef.TheVariants.{Source}
 use Rattle.dpc_model.specs.declared.scripts.Script.{Script}
 use Rattle.node_model.specs.Nodes.{PlainNode, no_fragment}
 use Rattle.world_model.specs.Worlds.{home_of, run}
-use Rattle.world_model.specs.Schedules.{is_live}
-use Rattle.world_model.specs.Steady.{patience, IsSteady, OpensWell}
+use Rattle.world_model.specs.Schedules.{is_live, settling_phases}
+use Rattle.world_model.specs.Steady.{IsSteady, OpensWell}
 use Rattle.law_schedules.specs.Journals.{phases_in}
 use Rattle.law_readers.specs.Settling.{CanSettle}
 use Rattle.law_settling.specs.Read.{reading_phases}
@@ -24,6 +24,6 @@ ReadsSourcesOnly plan f = (p : ℕ) (s : StreamRef) → slice_get (nth no_fragme
 abbrev pub FirstFragmentsFinish : Script → List Event → Type 0
 FirstFragmentsFinish script events =
     CanSettle script → IsTrue (is_live script events) → OpensWell script events → IsSteady script events →
-    (before mid rest : List Event) (f : ℕ) → events ≡ before ++ (mid ++ rest) → ReadsSourcesOnly script.plan f → length script.phases + patience + reading_phases + 1 ≤ phases_in before →
+    (before mid rest : List Event) (f : ℕ) → events ≡ before ++ (mid ++ rest) → ReadsSourcesOnly script.plan f → length script.phases + settling_phases + reading_phases + 1 ≤ phases_in before →
     (let m = (nth no_fragment script.plan.frags f).replicas in phases_in before + finishing_phases m m ≤ phases_in (before ++ mid)) →
     (a r : ℕ) (n : PlainNode) → IsReplicaOf script.plan (run script.plan (before ++ mid)) f a r n → IsFinished (home_of script.plan (f, r)) n

@@ -1,27 +1,15 @@
 -- The quiet phases of a live journal, one after another.
-use Rattle.std.specs.Prelude.{◌≡◌, ⊤, ℕ, ◌+◌, ◌<◌, Bool, true, false, ◌||◌, ◌==◌, IsTrue, List, [], ◌∷◌, ◌++◌, length}
+use Rattle.std.specs.Prelude.{◌≡◌, ⊤, ℕ, ◌+◌, ◌<◌, Bool, true, ◌||◌, ◌==◌, IsTrue, List, [], ◌∷◌, ◌++◌, length}
 use Rattle.dpc_lists.specs.Lists.{list_all, list_any}
 use Rattle.dpc_model.specs.declared.messages.Event.{Event}
-use Rattle.dpc_model.specs.declared.messages.Event.TheVariants.{Phase, Emit, Release, Cut, Heal, Crash, Restart, Deliver, Tick, Mill}
+use Rattle.dpc_model.specs.declared.messages.Event.TheVariants.{Phase}
 use Rattle.dpc_model.specs.declared.scripts.Script.{Script}
 use Rattle.world_model.specs.Worlds.{run}
 use Rattle.world_model.specs.Schedules.{Undelivered, Progress, next_progress, progress_from, progress, follows_from, is_phase_complete, is_live}
 use Rattle.world_model.specs.Steady.{OpensWell}
+use Rattle.world_model.specs.Events.{is_quiet, is_delivery}
 use Rattle.law_schedules.specs.Journals.{phases_in}
 use Rattle.law_readers.specs.Settling.{CanSettle}
-
--- an event of a phase without directives
-abbrev pub is_quiet : Event → Bool
-is_quiet (Phase p) = false
-is_quiet (Emit s t) = false
-is_quiet (Release s t) = false
-is_quiet (Cut a b) = false
-is_quiet (Heal a b) = false
-is_quiet (Crash a) = false
-is_quiet (Restart a i) = false
-is_quiet (Deliver k) = true
-is_quiet (Tick a now) = true
-is_quiet (Mill a r) = true
 
 -- the events of one phase behind its first one, from the progress that the first one left
 pub record IsFull (script : Script) (x : Progress) (es : List Event) : Type 0 where
@@ -56,19 +44,6 @@ events_of p (es ∷ rest) = Phase (p + 1) ∷ es ++ events_of (p + 1) rest
 -- an envelope still waits for its delivery
 abbrev pub waits : ℕ → List Undelivered → Bool
 waits k xs = list_any (λ (y : Undelivered). y.number == k) xs
-
--- the event delivers it
-abbrev pub is_delivery : ℕ → Event → Bool
-is_delivery k (Phase p) = false
-is_delivery k (Emit s t) = false
-is_delivery k (Release s t) = false
-is_delivery k (Cut a b) = false
-is_delivery k (Heal a b) = false
-is_delivery k (Crash a) = false
-is_delivery k (Restart a i) = false
-is_delivery k (Deliver j) = j == k
-is_delivery k (Tick a now) = false
-is_delivery k (Mill a r) = false
 
 -- in a live run what was sent and waits in a quiet phase is delivered in the rest of it, or in the next one
 abbrev pub DeliversWaiting : Script → List Event → Type 0

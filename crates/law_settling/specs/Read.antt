@@ -9,8 +9,8 @@ use Rattle.dpc_model.specs.declared.plans.Plan.{Plan}
 use Rattle.dpc_model.specs.declared.plans.StreamRef.TheVariants.{Source}
 use Rattle.dpc_model.specs.declared.scripts.Script.{Script}
 use Rattle.world_model.specs.Worlds.{World, run}
-use Rattle.world_model.specs.Schedules.{is_live}
-use Rattle.world_model.specs.Steady.{patience, IsSteady, OpensWell}
+use Rattle.world_model.specs.Schedules.{is_live, settling_phases}
+use Rattle.world_model.specs.Steady.{IsSteady, OpensWell}
 use Rattle.law_granting.specs.Taken.{port_of}
 use Rattle.law_schedules.specs.Journals.{phases_in}
 use Rattle.law_readers.specs.Settling.{CanSettle}
@@ -38,4 +38,4 @@ reading_phases = 8
 abbrev pub ReadsSources : Script → List Event → Type 0
 ReadsSources script events =
     CanSettle script → IsTrue (is_live script events) → OpensWell script events → IsSteady script events →
-    (before rest : List Event) → events ≡ before ++ rest → length script.phases + patience + reading_phases + 1 ≤ phases_in before → SourcesAreRead script.plan (run script.plan before)
+    (before rest : List Event) → events ≡ before ++ rest → length script.phases + settling_phases + reading_phases + 1 ≤ phases_in before → SourcesAreRead script.plan (run script.plan before)

@@ -17,25 +17,26 @@ use Rattle.node_model.specs.Nodes.{PlainNode}
 use Rattle.world_model.specs.Worlds.{World, Envelope, slot_of, is_up, link_up, role_up, happens, run, new_world}
 use Rattle.world_model.specs.Safe.{EachStep}
 use Rattle.world_model.specs.SessionLaw.{Channel}
-use Rattle.world_model.specs.Schedules.{Undelivered, Progress, next_progress, progress, may_follow, may_come, may_deliver, is_free, is_next, is_live_so_far, is_first_of_its_way, delivery_made, newly_sent}
+use Rattle.world_model.specs.Schedules.{Undelivered, Progress, next_progress, progress, may_follow, may_come, may_deliver, is_free, is_live_so_far, is_first_of_its_way, delivery_made, newly_sent}
 use Rattle.law_safety.specs.Plans.{IsCheckedPlan}
-use Rattle.law_safety.proofs.Tests.{both, eq-of}
+use Rattle.dpc_lists.proofs.Truths.{both, eq-of}
+use Rattle.dpc_lists.proofs.Elements.{nil-of}
+use Rattle.dpc_model.proofs.Alike.{same_sess-eq}
+use Rattle.world_model.proofs.Running.{not-next}
 use Rattle.law_safety.proofs.Happening.{IsFine}
 use Rattle.law_safety.proofs.Law.{run-good}
+use Rattle.dpc_lists.proofs.Each.{Each, each-append}
 use Rattle.law_granting.specs.Taken.{subscribes, subscribes_packet, node_inc, role_inc, IsAnsweredIn}
-use Rattle.law_granting.proofs.Each.{Each, each-append}
 use Rattle.law_readers.specs.Newest.{IsPortOf}
-use Rattle.law_readers.proofs.Running.{run-of}
 use Rattle.law_schedules.proofs.Journals.{progress-run}
 use Rattle.law_session_origins.proofs.Opening.{answered-run}
 use Rattle.law_session_origins.proofs.FirstSession.{new_world-past}
-use Rattle.law_settling.specs.Phased.{is_quiet}
+use Rattle.world_model.specs.Events.{is_quiet}
+use Rattle.law_safety.proofs.Growing.{run-plan}
 use Rattle.law_settling.proofs.Along.{every-prefix, progress-push, live-may}
 use Rattle.law_settling.proofs.Fresh.{still-sent}
 use Rattle.law_settling.proofs.Seen.{answered-first}
-use Rattle.law_settling.proofs.Standing.{same-fields}
 use Rattle.law_settling_readers.proofs.Once.{asks_so, only-one}
-use Rattle.dpc_model.specs.declared.scripts.Directive.{Directive}
 use Rattle.law_settling_readers.proofs.Comings.{IsComing, coming-of, not-gone, each-push, each-weak, run-is, inc-stays}
 use Rattle.law_settling_readers.proofs.Orderly.{each-next, each-sent, each-opened, IsOrderly, orderly-next, delivered-pending}
 
@@ -89,10 +90,7 @@ module _ (script : Script) (events : List Event) (checked : IsCheckedPlan script
       (λ ds y no h same. let yes = h same in let clash : true ≡ false = sym yes ∙ no in cc) (λ k high same. omega (arith, low, high, same)) due
 
   role-in : (done : List Event) → role_of (run script.plan done).plan a ≡ IsNode f r
-  role-in done = ap (λ (z : Plan). role_of z a) (run-of script.plan done) ∙ role
-
-  not-next : (z : Progress) (e : Event) → z.todo ≡ [] → is_next z e ≡ true → ⊥
-  not-next z e none h = let no : false ≡ true = rw none at h in cc
+  role-in done = ap (λ (z : Plan). role_of z a) (run-plan script.plan done) ∙ role
 
   -- the envelope that came, an event later
   come-next : (done : List Event) (i : ℕ) (e : Event) → may_follow script (progress script done) e ≡ true → HasCome i (progress script done) → HasCome i (next_progress script (progress script done) e)
@@ -155,11 +153,7 @@ module _ (script : Script) (events : List Event) (checked : IsCheckedPlan script
           let none : false ≡ true = sym (ap (λ (o : Option PlainNode). is_some o) up) ∙ is in cc
 
       todo-of : (z : Progress) → is_nil z.todo ≡ true → z.todo ≡ []
-      todo-of z h = by-list z.todo h
-        where
-          by-list : (ds : List Directive) → is_nil ds ≡ true → ds ≡ []
-          by-list [] h = refl
-          by-list (d ∷ ds) h = cc
+      todo-of z h = nil-of z.todo h
 
       in-phase : slice_get (progress script done).world.envelopes c.number ≡ Some c.envelope → may_follow script (progress script done) (Deliver c.number) ≡ true → IsInPhase (role_inc (run script.plan done) a (role_of (run script.plan done).plan a)) c.number (next_progress script (progress script done) (Deliver c.number))
       in-phase there may_it =
@@ -250,7 +244,7 @@ pub answered-once : (script : Script) (events : List Event) → IsCheckedPlan sc
     (done rest : List Event) → events ≡ done ++ rest → (i : ℕ) × IsAnsweredIn script.plan done (record { sender = a; reader = x; sess = u }) i
 answered-once script events checked live x p a s u port sends done rest is =
     (elim (same_sess (sess_of 1 1) u) as (λ b. same_sess (sess_of 1 1) u ≡ b → (i : ℕ) × IsAnsweredIn script.plan done (record { sender = a; reader = x; sess = u }) i) [
-      | true ↦ λ first. (1, record { opening = λ e. refl; subscribed = answered-run (record { sender = a; reader = x; sess = u }) (new_world script.plan) done (sym (same-fields (sess_of 1 1) u first)) (new_world-past script.plan) })
+      | true ↦ λ first. (1, record { opening = λ e. refl; subscribed = answered-run (record { sender = a; reader = x; sess = u }) (new_world script.plan) done (sym (same_sess-eq (sess_of 1 1) u first)) (new_world-past script.plan) })
       | false ↦ λ later. by-role (role_of script.plan a) refl later
     ]) refl
   where

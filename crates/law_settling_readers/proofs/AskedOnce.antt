@@ -12,12 +12,13 @@ use Rattle.dpc_model.specs.declared.messages.Message.{Message}
 use Rattle.dpc_model.specs.declared.messages.Message.TheVariants as message
 use Rattle.dpc_model.specs.declared.plans.Plan.{Plan}
 use Rattle.dpc_model.specs.declared.plans.StreamRef.{StreamRef}
+use Rattle.dpc_lists.proofs.Truths.{and-none}
 use Rattle.node_model.specs.Mails.{Packet, Plain, Mail, mail, mails, Stepped}
 use Rattle.node_model.specs.Nodes.{Home, PlainNode, streams_of, own_readers, shown}
 use Rattle.node_model.specs.NodeSteps.{packet_step, mill_step, tick_step, then_do, after_clock, with_marks_ended, may_start_afresh, with_fresh_start, choice_step, ask_step, processing_step, announcing_step, serving_step, snapshot_ask_step, rest_of_tick}
 use Rattle.node_model.specs.Clients.{ClientState, client_stream, client_tick_step}
+use Rattle.dpc_lists.proofs.Each.{Each}
 use Rattle.law_granting.specs.Taken.{subscribes_packet}
-use Rattle.law_granting.proofs.Each.{Each}
 use Rattle.law_readers.proofs.Passing.{Obliges, Takes, is_told, packet-passed, mill-passed, asking-passed, processing-passed, announcing-passed, recovering-passed}
 use Rattle.law_readers.proofs.Sessions.{each-acked, ticked-port}
 use Rattle.law_settling_readers.proofs.Counts.{one_if, count, count-append, count-none, count-sorted}
@@ -25,10 +26,6 @@ use Rattle.law_settling_readers.proofs.Counts.{one_if, count, count-append, coun
 -- the mail asks one of these actors for this session
 abbrev pub is_asking : (ℕ → Bool) → Sess → Mail → Bool
 is_asking a u m = a m.to && subscribes_packet u m.packet
-
-and-false : (b : Bool) → (b && false) ≡ false
-and-false true = refl
-and-false false = refl
 
 few-if : (b c : Bool) → one_if (b && c) ≤ 1
 few-if true true = omega arith
@@ -83,11 +80,11 @@ module _ (home : Home) (a : ℕ → Bool) (u : Sess) where
   Any ports subs acks base = Unit {0}
 
   told-quiet : (to : ℕ) (m : Message) → is_told m ≡ true → Quiet (mail to m)
-  told-quiet to (message.Beat b) e = and-false (a to)
-  told-quiet to (message.Ack i n) e = and-false (a to)
-  told-quiet to (message.Ask i n) e = and-false (a to)
-  told-quiet to (message.Grant i n) e = and-false (a to)
-  told-quiet to (message.SnapAsk i n) e = and-false (a to)
+  told-quiet to (message.Beat b) e = and-none (a to)
+  told-quiet to (message.Ack i n) e = and-none (a to)
+  told-quiet to (message.Ask i n) e = and-none (a to)
+  told-quiet to (message.Grant i n) e = and-none (a to)
+  told-quiet to (message.SnapAsk i n) e = and-none (a to)
   told-quiet to (message.Batch v index items) e = cc
   told-quiet to (message.Truncated v base) e = cc
   told-quiet to (message.Subscribe asked) e = cc
@@ -96,8 +93,8 @@ module _ (home : Home) (a : ℕ → Bool) (u : Sess) where
   quiet-obliges =
       record {
         told = told-quiet;
-        snapped = λ n to i try h. and-false (a to);
-        batched = λ n k sub l items h there tally. and-false (a (nth 0 (own_readers home) k));
+        snapped = λ n to i try h. and-none (a to);
+        batched = λ n k sub l items h there tally. and-none (a (nth 0 (own_readers home) k));
         counted = λ n h. tt;
         shut = λ n h. tt;
         emptied = λ n h. tt;
@@ -123,8 +120,8 @@ module _ (home : Home) (a : ℕ → Bool) (u : Sess) where
             | true ↦ elim (nat_lt asked.n shows.base) as (λ b. Each Quiet (elim (cond {A = Answered} b
                 (record { after = record { kept = Some asked.sess; is_open = false; batches = 0 }; answer = Some (message.Truncated asked.sess shows.base) })
                 (record { after = record { kept = Some asked.sess; is_open = true; batches = 1 }; answer = Some (message.Batch asked.sess 0 (first_batch shows asked)) })).answer as (λ _. List Mail) [ None ↦ [] | Some m ↦ mail (nth 0 (own_readers home) k) m ∷ [] ])) [
-                  | true ↦ (and-false (a (nth 0 (own_readers home) k)), tt)
-                  | false ↦ (and-false (a (nth 0 (own_readers home) k)), tt)
+                  | true ↦ (and-none (a (nth 0 (own_readers home) k)), tt)
+                  | false ↦ (and-none (a (nth 0 (own_readers home) k)), tt)
                 ]
           ]
 
@@ -195,4 +192,4 @@ client-few plan c now a u z =
     only (suc j) r e = cc
 
     none-acked : (n : ℕ) (ids : List ℕ) → count (is_asking a u) (mails (map (λ b. record { to = b; message = message.Ack 1 n }) ids)) ≡ 0
-    none-acked n ids = count-none (is_asking a u) (mails (map (λ b. record { to = b; message = message.Ack 1 n }) ids)) (each-acked (λ (m : Mail). is_asking a u m ≡ false) 1 n ids (λ to. and-false (a to)))
+    none-acked n ids = count-none (is_asking a u) (mails (map (λ b. record { to = b; message = message.Ack 1 n }) ids)) (each-acked (λ (m : Mail). is_asking a u m ≡ false) 1 n ids (λ to. and-none (a to)))

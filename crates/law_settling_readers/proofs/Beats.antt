@@ -28,7 +28,8 @@ use Rattle.world_model.specs.Worlds.{World, Envelope, Slot, home_of, slot_of, so
 use Rattle.law_safety.proofs.EventCases.{AreCases, by-event}
 use Rattle.law_safety.proofs.Happening.{IsFine}
 use Rattle.law_safety.proofs.Promises.{slot-here}
-use Rattle.law_granting.proofs.Each.{Each, each-append, each-weaker, each-sorted, each-to, each-batches, each-subscription, each-acks, each-beats}
+use Rattle.dpc_lists.proofs.Each.{Each, each-append, each-weaker}
+use Rattle.law_granting.proofs.Each.{each-sorted, each-to, each-batches, each-subscription, each-acks, each-beats}
 use Rattle.law_granting.proofs.Slots.{got-sent}
 use Rattle.law_granting.proofs.Asked.{each-unit}
 

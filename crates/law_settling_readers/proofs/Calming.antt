@@ -20,35 +20,29 @@ use Rattle.node_model.specs.Mails.{Plain, mail}
 use Rattle.node_model.specs.Nodes.{PlainNode}
 use Rattle.world_model.specs.Worlds.{Envelope, slot_of, from, can_come, happens}
 use Rattle.world_model.specs.Schedules.{Undelivered, Progress, next_progress, progress_from, may_come, may_follow, may_deliver, is_free, is_first_of_its_way}
-use Rattle.law_safety.proofs.Tests.{both, eq-of, eq-test, lt-of}
+use Rattle.dpc_lists.proofs.Truths.{both, eq-of, eq-test, not-less}
+use Rattle.dpc_model.proofs.Numbers.{le-or}
+use Rattle.dpc_lists.proofs.Elements.{get-changed}
+use Rattle.dpc_lists.proofs.Somes.{some-same}
 use Rattle.law_safety.proofs.Growing.{event-grows}
+use Rattle.dpc_lists.proofs.Each.{Each}
 use Rattle.law_granting.specs.Taken.{port_of}
-use Rattle.law_granting.proofs.Each.{Each}
 use Rattle.law_granting.proofs.Moves.{get-mapped, get-was}
 use Rattle.law_settling.specs.Phased.{opened}
-use Rattle.law_settling.proofs.Exact.{get-here}
 use Rattle.law_settling.proofs.Fresh.{still-sent}
 use Rattle.law_settling.proofs.Journeys.{IsStep}
 use Rattle.law_settling.proofs.Opening.{all-come}
 use Rattle.law_settling.proofs.PortExact.{port_after}
 use Rattle.law_settling.proofs.PortNow.{took-now}
-use Rattle.law_settling.proofs.PortSteps.{some-port}
 use Rattle.law_settling.proofs.Ports.{node-there}
 use Rattle.law_settling.proofs.Rules.{MayGo, Keeps, kept-full, last-good, some-phase, same-delivery}
-use Rattle.law_settling.proofs.Travels.{le-or}
-use Rattle.law_settling.proofs.Waitings.{waits, is_delivery, waits-on, comes, done-of}
+use Rattle.world_model.specs.Events.{is_delivery}
+use Rattle.law_settling.proofs.Waitings.{waits, waits-on, comes, done-of}
 use Rattle.law_settling_readers.proofs.Beats.{says-so}
 use Rattle.law_settling_readers.proofs.Comings.{not-gone, inc-stays}
 use Rattle.law_settling_readers.proofs.Orderly.{EachGoes, each-next, each-opened}
 use Rattle.law_settling_readers.proofs.Reading.{replica_at, replicas_in, sends_it}
 use Rattle.law_settling_readers.proofs.Watching.{WatchGoes, IsWatching, WatchWas, takes-sends, watch-was}
-
-pub not-less : (a c : ℕ) → c ≤ a → nat_lt a c ≡ false
-not-less a c less = by-test (nat_lt a c) refl
-  where
-    by-test : (t : Bool) → nat_lt a c ≡ t → nat_lt a c ≡ false
-    by-test false e = e
-    by-test true e = let more = lt-of a c e in absurd (omega (arith, less, more))
 
 -- ---- envelopes from a number on
 
@@ -224,9 +218,6 @@ module _ (script : Script) (x p f k : ℕ) where
       let node = node-there z.world st.most (replica_at script.plan f i) f found.0 st.fine st.up role_now in
       record { number = found.0; node = node.0; role = role; role_now = role_now; up = node.1 }
 
-  some-node : (a b : PlainNode) → ◌≡◌ {A = Option PlainNode} (Some a) (Some b) → a ≡ b
-  some-node a b d = cc
-
   pub comes-here : (z : Progress) (n : ℕ) (g : Envelope) → IsWatching script x p f k z → slice_get z.world.envelopes n ≡ Some g → comes z.world n ≡ true
   comes-here z n g good there = let st = good.stand in all-come z.world st.most n st.fine st.up (slice_get_within z.world.envelopes n g there)
 
@@ -241,7 +232,7 @@ module _ (script : Script) (x p f k : ℕ) where
         sent = still-sent z.world e n _ h.sent;
         late = h.late;
         waits = waits-on script z e n may.quiet other h.waits;
-        inc = λ r o role up. let one : stays.0 ≡ o = some-node stays.0 o (sym stays.1 ∙ up) in sym (ap (λ (m : PlainNode). m.grants.inc) one) ∙ stays.2 ∙ h.inc it.number it.node it.role it.up;
+        inc = λ r o role up. let one : stays.0 ≡ o = some-same stays.0 o (sym stays.1 ∙ up) in sym (ap (λ (m : PlainNode). m.grants.inc) one) ∙ stays.2 ∙ h.inc it.number it.node it.role it.up;
       }
 
   -- it comes, and is noted
@@ -257,7 +248,7 @@ module _ (script : Script) (x p f k : ℕ) where
       ap (λ (pl : Plan). sender_at z.world.plan (inputs_of z.world.plan (role_of z.world.plan x)) (replica_at pl f i)) (sym st.of_plan) ∙ st.line.sender i line in
       let can : can_come z.world g ≡ true = sym (ap (λ (o : Option Envelope). may_come z.world o) h.sent) ∙ comes-here z n g may.here h.sent in
       let taken = took-now z.world st.most x p (Frag f) st.fine st.many st.line.port st.calm n i g h.sent can refl place may.next.stand.calm q may.here.there in
-      let one : r ≡ port_after i (Plain (message.Beat b)) (without_ended_marks q) = some-port r taken.0 (sym now ∙ taken.1) ∙ taken.2.0 in
+      let one : r ≡ port_after i (Plain (message.Beat b)) (without_ended_marks q) = some-same r taken.0 (sym now ∙ taken.1) ∙ taken.2.0 in
       let sends = takes-sends script x p f k z q st may.here.there a i place in
       let says = fresh.0.says n g b h.late h.sent sends refl in
       let found : slice_get (changed i (after_beat b.inc b.state b.recovering) (without_ended_marks q).watches) i ≡ Some u = ap (λ (y : Port). slice_get y.watches i) (sym one) ∙ at in
@@ -273,13 +264,10 @@ module _ (script : Script) (x p f k : ℕ) where
           let inc = h.inc it.number it.node it.role it.up in
           let same : y.inc ≡ v.0.inc = ap (λ (o : Watch). o.inc) (sym v.2) in
           let new : nat_lt b.inc y.inc ≡ false = not-less b.inc y.inc (omega (arith, below, inc, same)) in
-          let is : u ≡ after_beat b.inc b.state b.recovering y = some-watch u (after_beat b.inc b.state b.recovering y) (sym found ∙ get-here i (after_beat b.inc b.state b.recovering) (without_ended_marks q).watches y at_y) in
+          let is : u ≡ after_beat b.inc b.state b.recovering y = some-same u (after_beat b.inc b.state b.recovering y) (sym found ∙ get-changed i (after_beat b.inc b.state b.recovering) (without_ended_marks q).watches y at_y) in
           let noted : u ≡ record y { inc = b.inc; ticks = 0; said = Some (b.state, b.recovering) } = is ∙ ap (λ (t : Bool). cond {A = Watch} t y (record y { inc = b.inc; ticks = 0; said = Some (b.state, b.recovering) })) new in
           let none : u.ticks ≡ 0 = ap (λ (o : Watch). o.ticks) noted in
           (said-stable u b (ap (λ (o : Watch). o.said) noted) says, λ several. omega (arith, none))
-        where
-          some-watch : (a b : Watch) → ◌≡◌ {A = Option Watch} (Some a) (Some b) → a ≡ b
-          some-watch a b d = cc
 
   pub told-kept : (K i : ℕ) → i < replicas_in script.plan f → Keeps script (IsWatching script x p f k) (λ z. Fresh script f K z × Told K i z)
   told-kept K i low z e may (fresh, inl calm) = (fresh-kept K z e may fresh, inl (calm-next K i z e may fresh calm))

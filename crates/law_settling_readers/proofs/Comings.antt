@@ -11,12 +11,12 @@ use Rattle.world_model.specs.Worlds.{World, Envelope, home_of, slot_of, can_come
 use Rattle.world_model.specs.Safe.{EachStep}
 use Rattle.world_model.specs.SessionLaw.{Channel}
 use Rattle.world_model.specs.Schedules.{Undelivered, is_first_of_its_way, same_way}
-use Rattle.law_safety.proofs.Tests.{both, eq-of}
+use Rattle.dpc_lists.proofs.Truths.{both, eq-of}
 use Rattle.law_safety.proofs.Happening.{IsFine}
+use Rattle.dpc_lists.proofs.Each.{Each}
 use Rattle.law_granting.specs.Taken.{subscribes, envelope_subscribes, subscribes_packet}
-use Rattle.law_granting.proofs.Each.{Each}
 use Rattle.law_granting.proofs.Saying.{own-delivered, own-milled, own-ticked}
-use Rattle.law_settling.specs.Phased.{is_quiet}
+use Rattle.world_model.specs.Events.{is_quiet}
 use Rattle.law_settling.proofs.Nodes.{NodeWent, node-went}
 use Rattle.law_settling_readers.proofs.Once.{asks_so}
 

@@ -1,7 +1,8 @@
 -- How many elements of a list pass a test.
-use Rattle.std.proofs.Common.{◌≡◌, ℕ, zero, suc, ◌+◌, ◌≤◌, Bool, true, false, cond, nat_lt, List, [], ◌∷◌, ◌++◌, map, refl, ap, ◌∙◌, arith, Option, Some, slice_get}
+use Rattle.std.proofs.Common.{◌≡◌, ℕ, zero, suc, ◌+◌, ◌≤◌, Bool, true, false, cond, nat_lt, List, [], ◌∷◌, ◌++◌, map, refl, ap, ◌∙◌, arith, Some, slice_get}
 use Rattle.dpc_lists.specs.Lists.{insert_by, sort_by}
-use Rattle.law_granting.proofs.Each.{Each}
+use Rattle.dpc_lists.proofs.Somes.{some-same}
+use Rattle.dpc_lists.proofs.Each.{Each}
 
 abbrev pub one_if : Bool → ℕ
 one_if b = cond {A = ℕ} b 1 0
@@ -56,10 +57,7 @@ found-of q (x ∷ xs) h =
 
 pub count-at : {X : Type 0} (q : X → Bool) (xs : List X) (i : ℕ) (x : X) → slice_get xs i ≡ Some x → q x ≡ true → 1 ≤ count q xs
 count-at q [] i x e p = cc
-count-at q (y ∷ ys) zero x e p = let same : y ≡ x = some-is y x e in let here : one_if (q y) ≡ 1 = ap (λ z. one_if (q z)) same ∙ ap one_if p in omega (arith, here)
-  where
-    some-is : {X : Type 0} (y x : X) → ◌≡◌ {A = Option X} (Some y) (Some x) → y ≡ x
-    some-is y x e = cc
+count-at q (y ∷ ys) zero x e p = let same : y ≡ x = some-same y x e in let here : one_if (q y) ≡ 1 = ap (λ z. one_if (q z)) same ∙ ap one_if p in omega (arith, here)
 count-at q (y ∷ ys) (suc i) x e p = let rest = count-at q ys i x e p in omega (arith, rest)
 
 -- one alone has one place

@@ -1,5 +1,5 @@
 -- A port that reads a fragment and misses something finds it out: a beat shows the fault, or three ticks bring no answer.
-use Rattle.std.proofs.Common.{◌≡◌, ℕ, zero, suc, ◌+◌, ◌<◌, ◌≤◌, Bool, true, false, cond, not, ◌&&◌, ◌||◌, ◌==◌, nat_le, min, List, [], ◌∷◌, map, length, refl, sym, ap, subst, ◌∙◌, arith, Option, Some, None, slice_get, ◌⊎◌, inl, inr}
+use Rattle.std.proofs.Common.{◌≡◌, ℕ, ◌+◌, ◌<◌, ◌≤◌, Bool, true, false, cond, not, ◌&&◌, ◌||◌, ◌==◌, nat_le, min, List, [], ◌∷◌, map, length, refl, sym, ap, subst, ◌∙◌, arith, Option, Some, None, slice_get, ◌⊎◌, inl, inr}
 use Rattle.std.proofs.lemmas.List.{length-map}
 use Rattle.dpc_lists.specs.Lists.{nth}
 use Rattle.dpc_model.specs.Reading.{is_sure}
@@ -22,18 +22,19 @@ use Rattle.node_model.specs.Mails.{Packet, Plain, SnapFor}
 use Rattle.node_model.specs.Nodes.{PlainNode}
 use Rattle.world_model.specs.Worlds.{World, Envelope, home_of, slot_of, happens}
 use Rattle.world_model.specs.Schedules.{Progress, next_progress}
-use Rattle.law_safety.proofs.Tests.{eq-of, eq-test, le-test}
+use Rattle.dpc_lists.proofs.Truths.{eq-of, eq-test, not-false, neither}
+use Rattle.dpc_model.proofs.Alike.{same_sess-eq, newer-trans}
+use Rattle.dpc_lists.proofs.Somes.{some-same}
 use Rattle.law_granting.specs.Taken.{port_of}
-use Rattle.law_settling.specs.Phased.{is_delivery}
-use Rattle.law_settling.proofs.Faults.{IsBroken, IsAnswered, IsSlow, IsTold}
+use Rattle.world_model.specs.Events.{is_delivery}
+use Rattle.law_settling.proofs.Faults.{IsBroken, IsAnswered, IsSlow, IsTold, told-of, below}
 use Rattle.law_settling.proofs.Fresh.{HasWhole, new-waits, still-sent}
 use Rattle.law_settling.proofs.Full.{tally-parts}
 use Rattle.law_settling.proofs.PortExact.{port_after}
 use Rattle.law_settling.proofs.PortGoing.{HasTicked, PortGoes}
 use Rattle.law_settling.proofs.PortNow.{took-now, tick-now}
-use Rattle.law_settling.proofs.Readings.{after-broken, after-answered, tally-says, none-says, newer-then}
+use Rattle.law_settling.proofs.Readings.{after-broken, after-answered, tally-says, none-says}
 use Rattle.law_settling.proofs.Rules.{MayGo}
-use Rattle.law_settling.proofs.Standing.{same-fields}
 use Rattle.law_settling.proofs.Ticking.{before_choice}
 use Rattle.law_settling.proofs.Waitings.{waits, waits-on}
 use Rattle.law_settling_readers.proofs.Marks.{Mark, marks_of, free_in}
@@ -117,17 +118,9 @@ counted-so q r is stays =
       whole = two.1;
       waits = one.1;
       inlet = ap (λ (z : Port). z.inlet) is ∙ ap (λ (b : Bool). cond b (with_next_session q.inlet) q.inlet) stays;
-      chosen = ap (λ (z : Port). z.chosen) is ∙ eq-of (choice_at y) y.chosen (not-not (choice_at y == y.chosen) two.0);
+      chosen = ap (λ (z : Port). z.chosen) is ∙ eq-of (choice_at y) y.chosen (not-false (choice_at y == y.chosen) two.0);
       ticks = ap (λ (z : Port). z.ticks) is ∙ ap (λ (b : Bool). cond {A = ℕ} b 0 (min 3 (q.ticks + 1))) stays;
     }
-  where
-    neither : (a b : Bool) → (a || b) ≡ false → (a ≡ false) × (b ≡ false)
-    neither true b e = cc
-    neither false b e = (refl, e)
-
-    not-not : (a : Bool) → not a ≡ false → a ≡ true
-    not-not true e = refl
-    not-not false e = cc
 
 -- no more replicas are free of marks than there are
 free-few : (ms : List Mark) → free_in ms ≤ length ms
@@ -138,7 +131,7 @@ free-few (Some b ∷ ms) = let rest = free-few ms in omega (arith, rest)
 -- a session that is newer than what is kept is newer than what was told
 newer-told : (l : Sess × ℕ) (sub : Sub) (u : Sess) → IsTold (Some l) sub → is_newer_than_kept u sub.kept ≡ true → is_newer u l.0 ≡ true
 newer-told l sub u (inl still) newer = let kept = (tally-parts sub l.0 l.1 still).0 in sym (ap (λ (o : Option Sess). is_newer_than_kept u o) kept) ∙ newer
-newer-told l sub u (inr past) newer = newer-then u past.0 l.0 (sym (ap (λ (o : Option Sess). is_newer_than_kept u o) past.1) ∙ newer) past.2
+newer-told l sub u (inr past) newer = newer-trans u past.0 l.0 (sym (ap (λ (o : Option Sess). is_newer_than_kept u o) past.1) ∙ newer) past.2
 
 -- what was told of a session still holds, or a newer one is kept
 told-next : (w : World) (home : _) (x a k : ℕ) (n m : PlainNode) (next : World) (tally : Option (Sess × ℕ)) → ReplicaGoes w home x a k n m next → IsTold tally (nth no_session n.subs k) → IsTold tally (nth no_session m.subs k)
@@ -254,18 +247,8 @@ module _ (script : Script) (x p f k : ℕ) where
             let early : h.port.ticks + 1 ≤ 2 = below h.port.ticks few in
             inl (omega (arith, early, low), record { port = n.0; there = n.1; answered = ap (λ (j : InletState). j.answered) counted.inlet ∙ h.answered; ticks = omega (arith, more, low, early) })
       ]
-    where
-      below : (n : ℕ) → nat_le 3 (min 3 (n + 1)) ≡ false → n + 1 ≤ 2
-      below zero e = omega arith
-      below (suc zero) e = omega arith
-      below (suc (suc n)) e =
-          let test = le-test 3 (min 3 (suc (suc n) + 1)) (omega arith) in
-          let clash : true ≡ false = sym test ∙ e in cc
 
   -- ---- a beat
-
-  some-node : (y m : PlainNode) → ◌≡◌ {A = Option PlainNode} (Some y) (Some m) → y ≡ m
-  some-node y m e = cc
 
   pub hearing-next : (n c : ℕ) (b : Beat) (z : Progress) (e : Event) → Goes z e → is_delivery n e ≡ false → IsHearing script x p f k n c b z → IsHearing script x p f k n c b (next_progress script z e) ⊎ AskedAnew (next_progress script z e)
   hearing-next n c b z e may other h =
@@ -279,7 +262,7 @@ module _ (script : Script) (x p f k : ℕ) where
           let old = asked-node script x p f k z may.here c h.low in
           let goes = replica-event script x p f k z e may (replica_at script.plan f c) old.0 old.1 old.2 old.3 in
           let role_there : role_of script.plan (replica_at script.plan f c) ≡ IsNode f old.0 = ap (λ (pl : Plan). role_of pl (replica_at script.plan f c)) (sym may.here.stand.of_plan) ∙ old.2 in
-          subst (λ (y : PlainNode). IsTold b.tally (nth no_session y.subs k)) (some-node goes.0 m (sym goes.1 ∙ up))
+          subst (λ (y : PlainNode). IsTold b.tally (nth no_session y.subs k)) (some-same goes.0 m (sym goes.1 ∙ up))
           (told-next z.world (home_of z.world.plan (f, old.0)) x (replica_at script.plan f c) k old.1 goes.0 (happens z.world e) b.tally goes.2 (h.told old.0 old.1 role_there old.3))
 
   -- a beat that comes shows the fault, or there is none
@@ -305,7 +288,7 @@ module _ (script : Script) (x p f k : ℕ) where
           elim (tally-says q.inlet l.0 l.1 h.answered.answered) [
             | inl broken ↦ inl (record { port = r; there = now; broken = ap (λ (i : InletState). i.broken) linked ∙ broken })
             | inr says ↦
-                let sess : l.0 ≡ q.inlet.sess = same-fields l.0 q.inlet.sess says.1 in
+                let sess : l.0 ≡ q.inlet.sess = same_sess-eq l.0 q.inlet.sess says.1 in
                 let node = asked-node script x p f k z may.here c h.low in
                 let role_there : role_of script.plan (replica_at script.plan f c) ≡ IsNode f node.0 = ap (λ (pl : Plan). role_of pl (replica_at script.plan f c)) (sym st.of_plan) ∙ node.2 in
                 let at : replica_at script.plan f c ≡ replica_at z.world.plan f c = ap (λ (pl : Plan). replica_at pl f c) (sym st.of_plan) in
@@ -342,11 +325,7 @@ module _ (script : Script) (x p f k : ℕ) where
             sent = t.3.1;
             waits = new-waits script z (Tick a now) t.3.0 _ t.3.2 t.3.1;
             told = λ r m role up. told-of (tally_of (nth no_session node.1.subs k)) (nth no_session m.subs k)
-                (ap (λ (y : PlainNode). tally_of (nth no_session y.subs k)) (sym (some-node t.0 m (sym t.1 ∙ up))) ∙ ap (λ (y : Sub). tally_of y) t.2);
+                (ap (λ (y : PlainNode). tally_of (nth no_session y.subs k)) (sym (some-same t.0 m (sym t.1 ∙ up))) ∙ ap (λ (y : Sub). tally_of y) t.2);
           },
         )
       ]
-    where
-      told-of : (l : Option (Sess × ℕ)) (sub : Sub) → tally_of sub ≡ l → IsTold l sub
-      told-of None sub e = tt
-      told-of (Some l) sub e = inl e

@@ -17,6 +17,7 @@ use Rattle.dpc_model.specs.declared.plans.Plan.{Plan}
 use Rattle.dpc_model.specs.declared.plans.StreamRef.{StreamRef}
 use Rattle.dpc_model.specs.declared.plans.StreamRef.TheVariants.{Frag}
 use Rattle.dpc_model.specs.declared.scripts.Script.{Script}
+use Rattle.dpc_lists.proofs.Somes.{some-same}
 use Rattle.node_model.specs.Mails.{Packet, Plain, SnapFor}
 use Rattle.world_model.specs.Worlds.{Envelope, happens}
 use Rattle.world_model.specs.Schedules.{Progress, next_progress}
@@ -49,11 +50,8 @@ module _ (script : Script) (x p f k : ℕ) where
   takes-from z seen a i place =
       let pl = z.world.plan in
       let found = sender-of pl (inputs_of pl (role_of pl x)) a p i place in
-      let same : found.stream ≡ Frag f = some-stream found.stream (Frag f) (sym found.at ∙ seen.stand.line.port.there) in
+      let same : found.stream ≡ Frag f = some-same found.stream (Frag f) (sym found.at ∙ seen.stand.line.port.there) in
       place-low a (senders_of pl (Frag f)) i (subst (λ (s : StreamRef). place_of (λ b. a == b) (senders_of pl s) ≡ Some i) same found.place)
-    where
-      some-stream : (y v : StreamRef) → ◌≡◌ {A = Option StreamRef} (Some y) (Some v) → y ≡ v
-      some-stream y v d = cc
 
   pub takes-sends : (z : Progress) → (seen : IsSeen script x p f k z) → (a i : ℕ) → sender_at z.world.plan (inputs_of z.world.plan (role_of z.world.plan x)) a ≡ Some (p, i) → sends_it script.plan f a ≡ true
   takes-sends z seen a i place =

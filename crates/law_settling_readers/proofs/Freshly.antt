@@ -1,5 +1,5 @@
 -- A port that asked a finished replica anew: what comes of its session, event by event.
-use Rattle.std.proofs.Common.{◌≡◌, ℕ, zero, suc, ◌+◌, ◌<◌, ◌≤◌, Bool, true, false, ◌&&◌, ◌==◌, nat_le, nat_lt, List, [], ◌∷◌, ◌++◌, map, length, refl, sym, ap, subst, ◌∙◌, arith, Option, Some, slice_get, ◌⊎◌, inl, inr}
+use Rattle.std.proofs.Common.{◌≡◌, ℕ, ◌+◌, ◌<◌, ◌≤◌, Bool, true, false, ◌&&◌, ◌==◌, nat_le, nat_lt, List, map, length, refl, sym, ap, subst, ◌∙◌, arith, Some, slice_get, inl, inr}
 use Rattle.dpc_model.specs.Reading.{Reader}
 use Rattle.dpc_model.specs.Inlets.{InletState, same_sess}
 use Rattle.dpc_model.specs.Actors.{role_of, inputs_of, sends_stream}
@@ -22,7 +22,11 @@ use Rattle.node_model.specs.NodeSteps.{with_marks_ended}
 use Rattle.world_model.specs.Worlds.{Envelope, home_of, node_place, slot_of, happens}
 use Rattle.world_model.specs.Safe.{HoldsOf}
 use Rattle.world_model.specs.Schedules.{Progress}
-use Rattle.law_safety.proofs.Tests.{both-of, eq-of, eq-test, lt-of, le-of}
+use Rattle.dpc_lists.proofs.Truths.{both-of, eq-of, eq-test, lt-of, le-of}
+use Rattle.dpc_lists.proofs.Elements.{get-added}
+use Rattle.dpc_model.proofs.Alike.{same_sess-self}
+use Rattle.dpc_lists.proofs.Somes.{some-same}
+use Rattle.node_model.proofs.Mailed.{batch-is, subscribe-is}
 use Rattle.law_safety.proofs.Frames.{marks-good, out_stable-held, held-map}
 use Rattle.law_safety.proofs.Happening.{node-here}
 use Rattle.law_safety.proofs.Numbering.{node-at}
@@ -60,16 +64,6 @@ pub record IsFresh (script : Script) (x p f t : ℕ) (u : Sess) (h : Reader) (c 
   pub batches : (j i : ℕ) (g : Envelope) (v : Sess) (items : List Item) → slice_get z.world.envelopes j ≡ Some g → sends_it script.plan f g.sender ≡ true → g.to ≡ x → g.packet ≡ Plain (message.Batch v i items) → same_sess v u ≡ true → (i ≡ 0) × Completes script h items
   pub truncations : (j base : ℕ) (g : Envelope) (v : Sess) → slice_get z.world.envelopes j ≡ Some g → sends_it script.plan f g.sender ≡ true → g.to ≡ x → g.packet ≡ Plain (message.Truncated v base) → same_sess v u ≡ true →
       (g.sender ≡ replica_at script.plan f c) × (nat_le base (length h.stable) ≡ false) × ((e b : ℕ) × (role_of script.plan x ≡ IsNode e b))
-
--- an envelope is an old one, or the one that was added
-pub got-added : (es : List Envelope) (a : Envelope) (j : ℕ) (f : Envelope) → slice_get (es ++ a ∷ []) j ≡ Some f → (slice_get es j ≡ Some f) ⊎ ((j ≡ length es) × (a ≡ f))
-got-added [] a zero f e = inr (refl, cc)
-got-added [] a (suc j) f e = cc
-got-added (y ∷ es) a zero f e = inl e
-got-added (y ∷ es) a (suc j) f e = elim (got-added es a j f e) [ inl old ↦ inl old | inr new ↦ inr (ap suc new.0, new.1) ]
-
-batch-is : {u v : Sess} {i j : ℕ} {xs ys : List Item} → Plain (message.Batch u i xs) ≡ Plain (message.Batch v j ys) → (u ≡ v) × (i ≡ j) × (xs ≡ ys)
-batch-is e = (cc, cc, cc)
 
 truncated-is : {u v : Sess} {i j : ℕ} → Plain (message.Truncated u i) ≡ Plain (message.Truncated v j) → (u ≡ v) × (i ≡ j)
 truncated-is e = (cc, cc)
@@ -121,20 +115,11 @@ module _ (script : Script) (x p f k : ℕ) where
       let asked = ask_sent script x f c u h in
       let low_w : c < replicas_in z.world.plan f = subst (λ (pl : Plan). c < replicas_in pl f) (sym st.of_plan) low in
       let sends : sends_it z.world.plan f (replica_at script.plan f c) ≡ true = ap (λ (pl : Plan). sends_it z.world.plan f (replica_at pl f c)) (sym st.of_plan) ∙ replica-sends script.plan x p f k z.world st fresh.port fresh.there c low_w in
-      let mine : asks_of (sends_it z.world.plan f) x u asked ≡ true = both-of (x == x && sends_it z.world.plan f (replica_at script.plan f c)) (same_sess u u) (both-of (x == x) (sends_it z.world.plan f (replica_at script.plan f c)) (eq-test x x refl) sends) (self u) in
+      let mine : asks_of (sends_it z.world.plan f) x u asked ≡ true = both-of (x == x && sends_it z.world.plan f (replica_at script.plan f c)) (same_sess u u) (both-of (x == x) (sends_it z.world.plan f (replica_at script.plan f c)) (eq-test x x refl) sends) (same_sess-self u) in
       let its : asks_of (sends_it z.world.plan f) x u g ≡ true = both-of (g.sender == x && sends_it z.world.plan f g.to) (subscribes_packet u g.packet) (both-of (g.sender == x) (sends_it z.world.plan f g.to) (eq-test g.sender x sender) to) (ap (λ (y : Packet). subscribes_packet u y) packet ∙ same) in
       let one = st.once u j fresh.number g asked there fresh.sent its mine in
-      let is : g ≡ asked = some-envelope g asked (sym there ∙ ap (λ (i : ℕ). slice_get z.world.envelopes i) one ∙ fresh.sent) in
-      (sub-same v (asks_with u h) (sym packet ∙ ap (λ (y : Envelope). y.packet) is), ap (λ (y : Envelope). y.to) is)
-    where
-      self : (w : Sess) → same_sess w w ≡ true
-      self w = both-of (w.inc == w.inc) (w.number == w.number) (eq-test w.inc w.inc refl) (eq-test w.number w.number refl)
-
-      some-envelope : (y v : Envelope) → ◌≡◌ {A = Option Envelope} (Some y) (Some v) → y ≡ v
-      some-envelope y v d = cc
-
-      sub-same : (y v : Subscribe) → Plain (message.Subscribe y) ≡ Plain (message.Subscribe v) → y ≡ v
-      sub-same y v d = cc
+      let is : g ≡ asked = some-same g asked (sym there ∙ ap (λ (i : ℕ). slice_get z.world.envelopes i) one ∙ fresh.sent) in
+      (subscribe-is v (asks_with u h) (sym packet ∙ ap (λ (y : Envelope). y.packet) is), ap (λ (y : Envelope). y.to) is)
 
   -- the answer of a replica completes
   answer-completes : (z : Progress) (u : Sess) (h : Reader) (q : Port) → IsSeen script x p f k z → port_of z.world x p ≡ Some q → q.inlet ≡ asked_inlet h u → (b r : ℕ) (n : PlainNode) → role_of z.world.plan b ≡ IsNode f r → (slot_of z.world b).node ≡ Some n →
@@ -160,7 +145,7 @@ module _ (script : Script) (x p f k : ℕ) where
       by-goes : (r : ℕ) (n m : PlainNode) → role_of z.world.plan g.sender ≡ IsNode f r → (slot_of z.world g.sender).node ≡ Some n → ReplicaGoes z.world (home_of z.world.plan (f, r)) x g.sender k n m (happens z.world e) → (i ≡ 0) × Completes script h items
       by-goes r n m role up (ReplicaGoes.KeepsSub sub none) = fresh.batches j i g v items (none j g there refl to (ap is_reply packet)) sender to packet same
       by-goes r n m role up (ReplicaGoes.Opens l d a asked opened sends) =
-          elim (got-added z.world.envelopes (answer_from (home_of z.world.plan (f, r)) g.sender x n a) j g (sym (ap (λ (es : List Envelope). slice_get es j) sends) ∙ there)) [
+          elim (get-added z.world.envelopes (answer_from (home_of z.world.plan (f, r)) g.sender x n a) j g (sym (ap (λ (es : List Envelope). slice_get es j) sends) ∙ there)) [
             | inl old ↦ fresh.batches j i g v items old sender to packet same
             | inr new ↦
                 let it = batch-is (ap (λ (y : Envelope). y.packet) new.1 ∙ packet) in
@@ -170,7 +155,7 @@ module _ (script : Script) (x p f k : ℕ) where
                 (sym it.1, subst (Completes script h) items_are (answer-completes z u h fresh.port may.here fresh.there fresh.inlet g.sender r n role up))
           ]
       by-goes r n m role up (ReplicaGoes.Refuses l d a asked low_n refused sends) =
-          elim (got-added z.world.envelopes (refusal_from g.sender x n a) j g (sym (ap (λ (es : List Envelope). slice_get es j) sends) ∙ there)) [
+          elim (get-added z.world.envelopes (refusal_from g.sender x n a) j g (sym (ap (λ (es : List Envelope). slice_get es j) sends) ∙ there)) [
             | inl old ↦ fresh.batches j i g v items old sender to packet same
             | inr new ↦ let clash : Plain (message.Truncated a.sess n.base) ≡ Plain (message.Batch v i items) = ap (λ (y : Envelope). y.packet) new.1 ∙ packet in cc
           ]
@@ -206,7 +191,7 @@ module _ (script : Script) (x p f k : ℕ) where
           (g.sender ≡ replica_at script.plan f c) × (nat_le base (length h.stable) ≡ false) × ((d b : ℕ) × (role_of script.plan x ≡ IsNode d b))
       by-goes r n m role up (ReplicaGoes.KeepsSub sub none) = fresh.truncations j base g v (none j g there refl to (ap is_reply packet)) sender to packet same
       by-goes r n m role up (ReplicaGoes.Opens l d a asked opened sends) =
-          elim (got-added z.world.envelopes (answer_from (home_of z.world.plan (f, r)) g.sender x n a) j g (sym (ap (λ (es : List Envelope). slice_get es j) sends) ∙ there)) [
+          elim (get-added z.world.envelopes (answer_from (home_of z.world.plan (f, r)) g.sender x n a) j g (sym (ap (λ (es : List Envelope). slice_get es j) sends) ∙ there)) [
             | inl old ↦ fresh.truncations j base g v old sender to packet same
             | inr new ↦ no-batch a.sess v 0 base (first_batch (shown (home_of z.world.plan (f, r)) (with_marks_ended n)) a) (ap (λ (y : Envelope). y.packet) new.1 ∙ packet)
           ]
@@ -214,7 +199,7 @@ module _ (script : Script) (x p f k : ℕ) where
           no-batch : {A : Type 0} (s v : Sess) (i base : ℕ) (items : List Item) → Plain (message.Batch s i items) ≡ Plain (message.Truncated v base) → A
           no-batch s v i base items e = cc
       by-goes r n m role up (ReplicaGoes.Refuses l d a asked low_n refused sends) =
-          elim (got-added z.world.envelopes (refusal_from g.sender x n a) j g (sym (ap (λ (es : List Envelope). slice_get es j) sends) ∙ there)) [
+          elim (get-added z.world.envelopes (refusal_from g.sender x n a) j g (sym (ap (λ (es : List Envelope). slice_get es j) sends) ∙ there)) [
             | inl old ↦ fresh.truncations j base g v old sender to packet same
             | inr new ↦
                 let it = truncated-is (ap (λ (y : Envelope). y.packet) new.1 ∙ packet) in

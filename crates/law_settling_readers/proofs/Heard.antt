@@ -14,17 +14,19 @@ use Rattle.dpc_model.specs.declared.messages.Event.{Event}
 use Rattle.dpc_model.specs.declared.messages.Event.TheVariants.{Deliver, Tick}
 use Rattle.dpc_model.specs.declared.plans.Plan.{Plan}
 use Rattle.dpc_model.specs.declared.scripts.Script.{Script}
+use Rattle.dpc_model.proofs.Numbers.{le-or}
+use Rattle.dpc_lists.proofs.Somes.{some-same}
 use Rattle.node_model.specs.Nodes.{PlainNode}
 use Rattle.world_model.specs.Worlds.{World, home_of, slot_of, role_up, run, new_world, happens}
-use Rattle.world_model.specs.Schedules.{Progress, first_progress, next_progress, progress_from, progress, is_live_so_far}
-use Rattle.world_model.specs.Steady.{NoneRecovers, TickIsHeard, phase_at, patience, SteadyFrom, IsSteady, OpensWell}
+use Rattle.world_model.specs.Schedules.{Progress, first_progress, next_progress, progress_from, progress, is_live_so_far, settling_phases}
+use Rattle.world_model.specs.Steady.{NoneRecovers, TickIsHeard, phase_at, SteadyFrom, IsSteady, OpensWell}
 use Rattle.law_granting.specs.Taken.{port_of}
 use Rattle.law_readers.specs.Settling.{CanSettle}
 use Rattle.law_schedules.proofs.Journals.{progress-run}
 use Rattle.law_settling.specs.Phased.{opened}
 use Rattle.law_settling.specs.Finished.{IsFinished}
 use Rattle.law_settling.proofs.Along.{every-prefix, progress-push, live-may, phase_after, next-at, phase-from, steady-at}
-use Rattle.law_settling.proofs.Travels.{le-or, arrives}
+use Rattle.law_settling.proofs.Travels.{arrives}
 use Rattle.law_settling.proofs.Fresh.{new-waits}
 use Rattle.law_settling.proofs.Journeys.{IsStep, IsJourney}
 use Rattle.law_settling.proofs.Rules.{MayGo, Keeps, kept-full, due-taken, opened-due, tick-due, first-good}
@@ -57,12 +59,9 @@ module _ (script : Script) (x p f k : ℕ) where
           sent = told.3.1;
           late = omega (arith, few, new);
           waits = new-waits script z (Tick a now) n _ told.3.2 told.3.1;
-          inc = λ r o role up. let one : m ≡ o = some-node m o (sym told.1 ∙ up) in sym (ap (λ (y : PlainNode). y.grants.inc) one);
+          inc = λ r o role up. let one : m ≡ o = some-same m o (sym told.1 ∙ up) in sym (ap (λ (y : PlainNode). y.grants.inc) one);
         },
       )
-    where
-      some-node : (a b : PlainNode) → ◌≡◌ {A = Option PlainNode} (Some a) (Some b) → a ≡ b
-      some-node a b d = cc
 
   -- within a phase each replica ticks
   lead-told : (K i : ℕ) (z : Progress) (es : List Event) → i < replicas_in script.plan f → IsStep script (IsWatching script x p f k) z es → Fresh script f K z → Fresh script f K (progress_from script (opened script z) es) × Told script x p f k K i (progress_from script (opened script z) es)
@@ -116,7 +115,7 @@ module _ (script : Script) (x p f k : ℕ) where
 
 -- ---- a steady run
 
-run-heard : (script : Script) (events done rest : List Event) (e : Event) → IsSteady script events → events ≡ done ++ e ∷ rest → length script.phases + patience < (next_progress script (progress script done) e).phase → TickIsHeard (happens (run script.plan done) e) e
+run-heard : (script : Script) (events done rest : List Event) (e : Event) → IsSteady script events → events ≡ done ++ e ∷ rest → length script.phases + settling_phases < (next_progress script (progress script done) e).phase → TickIsHeard (happens (run script.plan done) e) e
 unfolding run progress
 run-heard script events done rest e steady is far =
     let phase : (next_progress script (progress script done) e).phase ≡ phase_at (phase_after 0 done) e = next-at script (progress script done) e ∙ ap (λ (n : ℕ). phase_at n e) (phase-from script (first_progress script) done) in
@@ -129,7 +128,7 @@ none-ticked script x h = let clash : false ≡ true = h in cc
 -- ---- along the journal
 
 module _ (script : Script) (events : List Event) (x p f k base : ℕ) (can : CanSettle script) (line : IsReader script.plan x p f k)
-    (live : is_live_so_far script events ≡ true) (well : OpensWell script events) (steady : IsSteady script events) (past : length script.phases + patience ≤ base)
+    (live : is_live_so_far script events ≡ true) (well : OpensWell script events) (steady : IsSteady script events) (past : length script.phases + settling_phases ≤ base)
     (finished : (done rest : List Event) → events ≡ done ++ rest → base < (progress script done).phase → (a r : ℕ) (n : PlainNode) → role_of script.plan a ≡ IsNode f r → (slot_of (run script.plan done) a).node ≡ Some n → IsFinished (home_of script.plan (f, r)) n)
     (below : (done rest : List Event) → events ≡ done ++ rest → (q : Port) (i r : ℕ) (v : Watch) (n : PlainNode) → port_of (run script.plan done) x p ≡ Some q → i < replicas_in script.plan f → role_of script.plan (replica_at script.plan f i) ≡ IsNode f r →
     (slot_of (run script.plan done) (replica_at script.plan f i)).node ≡ Some n → slice_get q.watches i ≡ Some v → v.inc ≤ n.grants.inc) where
@@ -163,7 +162,7 @@ module _ (script : Script) (events : List Event) (x p f k base : ℕ) (can : Can
 
   watching-at : (done rest : List Event) → events ≡ done ++ rest → base < (progress script done).phase → IsWatching script x p f k (progress script done)
   watching-at done rest is far =
-      let late : length script.phases + patience < (progress script done).phase = omega (arith, past, far) in
+      let late : length script.phases + settling_phases < (progress script done).phase = omega (arith, past, far) in
       let fin = finished done rest is far in
       let q = port-at script events done rest x p f k can line live well steady is late fin in
       let world = progress-run script done in

@@ -21,7 +21,7 @@ use Rattle.world_model.specs.Schedules.{progress, is_live_so_far}
 use Rattle.law_safety.specs.Plans.{IsCheckedPlan}
 use Rattle.std.proofs.Common.{◌<◌, false, nat_lt, ◌++◌, append_assoc, slice_get, Some}
 use Rattle.std.proofs.lemmas.List.FromFn.{length-range_with_len}
-use Rattle.law_safety.proofs.Tests.{lt-of, not-lt}
+use Rattle.dpc_lists.proofs.Truths.{lt-of, not-lt}
 use Rattle.law_safety.proofs.Law.{new_world-fine}
 use Rattle.law_granting.specs.Taken.{port_of}
 use Rattle.law_granting.proofs.Asked.{IsAskingWorld}
@@ -29,7 +29,6 @@ use Rattle.law_granting.proofs.Running.{new_world-asking, run-asking}
 use Rattle.law_schedules.specs.Journals.{phases_in}
 use Rattle.law_schedules.proofs.Journals.{prefix-live, phases-counted, progress-run}
 use Rattle.law_readers.specs.Newest.{IsPortOf}
-use Rattle.law_readers.proofs.Running.{run-of}
 use Rattle.law_session_origins.specs.Numbers.{replicas_at, first_replica}
 use Rattle.law_session_origins.proofs.RoleNumbers.{has-numbers}
 use Rattle.law_settling.specs.Finished.{IsFinished}
@@ -41,10 +40,11 @@ use Rattle.law_settling_readers.proofs.Reading.{replica_at, replicas_in, IsReade
 use Rattle.law_settling_readers.proofs.Watches.{watches-below}
 use Rattle.law_settling_readers.proofs.Heard.{heard-late}
 use Rattle.law_settling_readers.proofs.Readers.{reader-of, whole-late}
-use Rattle.law_safety.proofs.Tests.{both-of, eq-test}
+use Rattle.dpc_lists.proofs.Truths.{both-of, eq-test}
 use Rattle.law_safety.proofs.Emptied.{shape-of}
 use Rattle.law_safety.proofs.Happening.{node-here}
 use Rattle.law_safety.proofs.Law.{run-good}
+use Rattle.law_safety.proofs.Growing.{run-plan}
 use Rattle.law_granting.specs.Taken.{subscribes_packet}
 use Rattle.law_schedules.proofs.Journals.{live-far}
 use Rattle.law_settling.proofs.Sources.{whole-prefix}
@@ -111,7 +111,7 @@ known-below plan done x p f k i r q v n checked line there low role up known =
     let w = run plan done in
     let most = watches-below plan done checked x p a i f r q v (line.sender i low) role there known in
     let asking : IsAskingWorld w = subst IsAskingWorld (sym (run-is plan done)) (run-asking (new_world plan) 1 done (new_world-fine plan checked) (new_world-asking plan)) in
-    let last = (asking.nodes a f r n (ap (λ (pl : Plan). role_of pl a) (run-of plan done) ∙ role) up).inc in
+    let last = (asking.nodes a f r n (ap (λ (pl : Plan). role_of pl a) (run-plan plan done) ∙ role) up).inc in
     omega (arith, most, last)
 
 pub readers-law : (script : Script) (events : List Event) → ReadersHaveStreams script events

@@ -8,7 +8,8 @@ use Rattle.dpc_model.specs.declared.messages.NodeState.{NodeState}
 use Rattle.dpc_model.specs.declared.messages.NodeState.TheVariants as state
 use Rattle.dpc_model.specs.declared.messages.Rank.{Rank}
 use Rattle.dpc_model.specs.declared.messages.Rank.TheVariants.{Stable, Absent}
-use Rattle.law_safety.proofs.Tests.{eq-test, le-of}
+use Rattle.dpc_lists.proofs.Truths.{eq-test, le-of}
+use Rattle.dpc_model.proofs.Numbers.{zero-or}
 use Rattle.law_settling_readers.proofs.Counts.{one_if, count}
 
 abbrev pub Mark : Type 0
@@ -235,15 +236,11 @@ Fits c ms = (nth None ms c ≡ None) ⊎ (free_in ms ≡ 0)
 
 pub choice-fits : (q : Port) → AreHeard q.watches → q.chosen < length (marks_of q.watches) → Fits (choice_at q) (marks_of q.watches)
 choice-fits q heard low =
-    elim (none-or (free_in (marks_of q.watches))) [
+    elim (zero-or (free_in (marks_of q.watches))) [
       | inl none ↦ inr none
       | inr some ↦ by-mark (nth None (marks_of q.watches) q.chosen) refl some
     ]
   where
-    none-or : (n : ℕ) → (n ≡ 0) ⊎ (1 ≤ n)
-    none-or zero = inl refl
-    none-or (suc n) = inr (omega arith)
-
     by-mark : (m : Mark) → nth None (marks_of q.watches) q.chosen ≡ m → 1 ≤ free_in (marks_of q.watches) → Fits (choice_at q) (marks_of q.watches)
     by-mark None e some = inl (ap (λ (j : ℕ). nth None (marks_of q.watches) j) (heard-stays q heard low (inl e)) ∙ e)
     by-mark (Some b) e some = inl (heard-turns q heard low b e some).1

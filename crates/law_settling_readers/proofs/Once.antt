@@ -1,5 +1,5 @@
 -- In a run the senders of a stream are asked for a session of a port at most once.
-use Rattle.std.proofs.Common.{◌≡◌, ℕ, zero, suc, ◌+◌, ◌≤◌, Bool, true, false, ◌&&◌, ◌==◌, List, [], ◌∷◌, ◌++◌, map, length, refl, sym, ap, subst, ◌∙◌, arith, Some, slice_get, ◌⊎◌, inl, inr}
+use Rattle.std.proofs.Common.{◌≡◌, ℕ, ◌+◌, ◌≤◌, Bool, true, false, ◌&&◌, ◌==◌, List, [], ◌∷◌, ◌++◌, map, length, refl, sym, ap, subst, ◌∙◌, arith, Some, slice_get, inl, inr}
 use Rattle.std.proofs.lemmas.List.{append-nil}
 use Rattle.std.proofs.lemmas.Option.{slice_get_within}
 use Rattle.dpc_lists.specs.Lists.{nth}
@@ -22,20 +22,23 @@ use Rattle.node_model.specs.Clients.{client_tick_step}
 use Rattle.world_model.specs.Worlds.{World, Envelope, home_of, slot_of, source_at, client_at, from, happens, run, new_world}
 use Rattle.world_model.specs.SessionLaw.{Channel}
 use Rattle.law_safety.specs.Plans.{IsCheckedPlan}
-use Rattle.law_safety.proofs.Tests.{both, both-of, eq-of, eq-test}
+use Rattle.dpc_lists.proofs.Truths.{both, eq-of, eq-test}
+use Rattle.dpc_model.proofs.Numbers.{zero-or}
+use Rattle.dpc_lists.proofs.Elements.{get-behind}
+use Rattle.dpc_model.proofs.Alike.{same_sess-eq, same_sess-self}
 use Rattle.law_safety.proofs.EventCases.{AreCases, by-event}
 use Rattle.law_safety.proofs.Happening.{IsFine}
 use Rattle.law_safety.proofs.Law.{run-good}
+use Rattle.dpc_lists.proofs.Each.{Each}
+use Rattle.world_model.proofs.Running.{new_world-none}
 use Rattle.law_granting.specs.Taken.{subscribes_packet, role_port}
-use Rattle.law_granting.proofs.Each.{Each}
 use Rattle.law_granting.proofs.Asked.{same-or}
 use Rattle.law_readers.specs.Newest.{IsPortOf}
 use Rattle.law_readers.proofs.Running.{every-run}
-use Rattle.law_readers.proofs.Known.{asks-place, none-newer, run-clients, new-empty}
+use Rattle.law_readers.proofs.Known.{asks-place, none-newer, run-clients}
 use Rattle.law_readers.proofs.Read.{ReadStep, reached-port}
 use Rattle.law_readers.proofs.Steps.{read-cases}
 use Rattle.law_settling.proofs.Readings.{never-next}
-use Rattle.law_settling.proofs.Standing.{same-fields}
 use Rattle.law_settling_readers.proofs.Counts.{count, count-append, count-none, count-map, count-same, IsFound, found-of, one-place}
 use Rattle.law_settling_readers.proofs.AskedOnce.{is_asking, took-quiet, milled-quiet, ticked-few, client-few}
 
@@ -70,10 +73,6 @@ asks-parts to x u e h =
     let two = both (e.sender == x) (to e.to) one.0 in
     let sub = sub-of u e.packet one.1 in
     record { reader = eq-of e.sender x two.0; sender = two.1; asked = sub.0; packet = sub.1; session = sub.2 }
-
-get-behind : {X : Type 0} (xs ys : List X) (i : ℕ) → slice_get (xs ++ ys) (length xs + i) ≡ slice_get ys i
-get-behind [] ys i = let none : 0 + i ≡ i = omega arith in ap (λ (j : ℕ). slice_get ys j) none
-get-behind (x ∷ xs) ys i = let next : length (x ∷ xs) + i ≡ suc (length xs + i) = omega arith in ap (λ (j : ℕ). slice_get (x ∷ xs ++ ys) j) next ∙ get-behind xs ys i
 
 -- ---- what an event sends
 
@@ -182,32 +181,25 @@ module _ (plan : Plan) (x p : ℕ) (a : ℕ → Bool) (s : StreamRef) (u : Sess)
                 let reached = newer.asked g.place g.item old.asked g.there old.reader (sends g.item.to old.sender) old.packet in
                 let at : role_port w x p (role_of plan x) ≡ Some it.0 = ap (λ (z : Plan). role_port w x p (role_of z x)) (sym (run-good plan before checked).of_plan) ∙ it.1 in
                 let not_newer = reached-port w x p (role_of plan x) old.asked.sess it.0 reached at in
-                let one : old.asked.sess ≡ u = same-fields old.asked.sess u old.session in
-                let two : new.asked.sess ≡ u = same-fields new.asked.sess u new.session in
+                let one : old.asked.sess ≡ u = same_sess-eq old.asked.sess u old.session in
+                let two : new.asked.sess ≡ u = same_sess-eq new.asked.sess u new.session in
                 let is : new.asked.sess ≡ (with_next_session it.0.inlet).sess = ap (λ (y : Subscribe). y.sess) it.2 in
-                never-next it.0.inlet.sess old.asked.sess not_newer (subst (λ (v : Sess). same_sess old.asked.sess v ≡ true) (one ∙ sym two ∙ is) (self old.asked.sess))
+                never-next it.0.inlet.sess old.asked.sess not_newer (subst (λ (v : Sess). same_sess old.asked.sess v ≡ true) (one ∙ sym two ∙ is) (same_sess-self old.asked.sess))
           ]
-        where
-          self : (v : Sess) → same_sess v v ≡ true
-          self v = both-of (v.inc == v.inc) (v.number == v.number) (eq-test v.inc v.inc refl) (eq-test v.number v.number refl)
 
       by-count : (more : List Envelope) → (happens (run plan before) e).envelopes ≡ (run plan before).envelopes ++ more → ReadStep plan x p s (run plan before) (happens (run plan before) e) → count At more ≤ 1 →
           count At (happens (run plan before) e).envelopes ≡ count At (run plan before).envelopes + count At more → count At (happens (run plan before) e).envelopes ≤ 1
       by-count more grows step low sum =
-          elim (some-or (count At more)) [
+          elim (zero-or (count At more)) [
             | inl none ↦ omega (arith, none, h, sum)
-            | inr some ↦ elim (some-or (count At (run plan before).envelopes)) [
+            | inr some ↦ elim (zero-or (count At (run plan before).envelopes)) [
               | inl none ↦ omega (arith, none, low, sum)
               | inr old ↦ absurd (clash more grows step (found-of At more some) (found-of At (run plan before).envelopes old))
             ]
           ]
-        where
-          some-or : (n : ℕ) → (n ≡ 0) ⊎ (1 ≤ n)
-          some-or zero = inl refl
-          some-or (suc n) = inr (omega arith)
 
   pub asked-once : (events : List Event) → count At (run plan events).envelopes ≤ 1
-  asked-once events = every-run plan (λ w. count At w.envelopes ≤ 1) (first (new_world plan).envelopes (new-empty plan)) once-next events
+  asked-once events = every-run plan (λ w. count At w.envelopes ≤ 1) (first (new_world plan).envelopes (new_world-none plan)) once-next events
     where
       first : (es : List Envelope) → es ≡ [] → count At es ≤ 1
       first [] e = omega arith

@@ -9,9 +9,9 @@ use Rattle.dpc_model.specs.declared.scripts.Directive.{Directive}
 use Rattle.dpc_model.specs.declared.scripts.Script.{Script}
 use Rattle.world_model.specs.Worlds.{World, happens}
 use Rattle.world_model.specs.Schedules.{Undelivered, Progress, next_progress, noting, phase_of, delivery_made, becomes_pending, is_lost, pending_in, newly_sent}
-use Rattle.law_safety.proofs.Tests.{eq-of, eq-test}
+use Rattle.dpc_lists.proofs.Truths.{eq-of, eq-test}
 use Rattle.law_safety.proofs.Growing.{event-grows}
-use Rattle.law_granting.proofs.Each.{Each, each-append}
+use Rattle.dpc_lists.proofs.Each.{Each, each-append}
 
 -- ---- what holds of each
 

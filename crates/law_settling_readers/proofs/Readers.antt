@@ -13,11 +13,14 @@ use Rattle.dpc_model.specs.declared.scripts.Script.{Script}
 use Rattle.node_model.specs.Nodes.{PlainNode}
 use Rattle.node_model.specs.Clients.{client_stream}
 use Rattle.world_model.specs.Worlds.{World, home_of, slot_of, client_at, run}
-use Rattle.world_model.specs.Schedules.{progress, is_live_so_far}
-use Rattle.world_model.specs.Steady.{patience, IsSteady, OpensWell}
+use Rattle.world_model.specs.Schedules.{progress, is_live_so_far, settling_phases}
+use Rattle.world_model.specs.Steady.{IsSteady, OpensWell}
 use Rattle.law_safety.specs.Plans.{IsCheckedPlan}
-use Rattle.law_safety.proofs.Tests.{eq-of, eq-test}
+use Rattle.dpc_lists.proofs.Truths.{eq-of, eq-test}
+use Rattle.dpc_lists.proofs.Elements.{some-there}
+use Rattle.dpc_lists.proofs.Somes.{some-same}
 use Rattle.law_safety.proofs.Numbering.{actors-pass, all-nth, any-at}
+use Rattle.law_safety.proofs.Growing.{run-plan}
 use Rattle.law_granting.specs.Taken.{role_port, port_of}
 use Rattle.law_granting.proofs.Prefix.{reader-found}
 use Rattle.law_schedules.proofs.Journals.{progress-run}
@@ -30,11 +33,9 @@ use Rattle.law_settling.specs.Finished.{IsFinished}
 use Rattle.law_settling.proofs.Fresh.{HasWhole}
 use Rattle.law_settling.proofs.Lines.{place-found, place-low}
 use Rattle.law_settling.proofs.PortSteps.{client-inputs}
-use Rattle.law_settling.proofs.Seen.{get-inside}
 use Rattle.law_settling.proofs.Travels.{arrives}
 use Rattle.law_settling_readers.proofs.Marks.{AreHeard}
 use Rattle.law_settling_readers.proofs.Reading.{replica_at, replicas_in, IsReader, IsSeen, stand-at, port-at, quiet-at, clocked-at}
-use Rattle.law_readers.proofs.Running.{run-of}
 use Rattle.law_settling_readers.proofs.Staged.{Stage, reading_stages, top-stage, whole-last, stages-lead}
 
 -- an actor that sends a fragment's stream is one of its replicas
@@ -61,7 +62,7 @@ reader-of plan x p f once port =
         back = known.1;
         replica = λ i low. sender-node plan f (replica_at plan f i) (all-nth (λ (b : ℕ). sends_stream (Frag f) (role_of plan b)) 0 (senders_of plan (Frag f)) i low (actors-pass (sends_stream (Frag f)) plan));
         sender = λ i low.
-            let found = get-inside (senders_of plan (Frag f)) i low in
+            let found = some-there (senders_of plan (Frag f)) i low in
             let it : found.0 ≡ replica_at plan f i = sym (ap (λ (o : Option ℕ). unwrap_or o 0) found.1) in
             finds-senders plan once x p i (replica_at plan f i) (Frag f) port.there (found.1 ∙ ap {B = Option ℕ} Some it);
       },
@@ -76,13 +77,10 @@ kept-here plan events x p f c a r n q checked port client role up there =
     let base = (clients-kept plan events checked x c f (record { client = client; stream = stream })).bases a r n role up in
     subst (λ (z : Port). n.base ≤ length z.inlet.held.stable) (by-place reads.0 there) base
   where
-    some-port : (y z : Port) → ◌≡◌ {A = Option Port} (Some y) (Some z) → y ≡ z
-    some-port y z e = cc
-
     by-place : p ≡ 0 → role_port (run plan events) x p (IsClient c) ≡ Some q → (client_at (run plan events) c).port ≡ q
-    by-place first e = some-port (client_at (run plan events) c).port q (ap (λ (b : Bool). cond {A = Option Port} b (Some (client_at (run plan events) c).port) None) (sym (eq-test p 0 first)) ∙ e)
+    by-place first e = some-same (client_at (run plan events) c).port q (ap (λ (b : Bool). cond {A = Option Port} b (Some (client_at (run plan events) c).port) None) (sym (eq-test p 0 first)) ∙ e)
 
-module _ (script : Script) (events : List Event) (x p f k base : ℕ) (can : CanSettle script) (line : IsReader script.plan x p f k) (live : is_live_so_far script events ≡ true) (well : OpensWell script events) (steady : IsSteady script events) (past : length script.phases + patience ≤ base)
+module _ (script : Script) (events : List Event) (x p f k base : ℕ) (can : CanSettle script) (line : IsReader script.plan x p f k) (live : is_live_so_far script events ≡ true) (well : OpensWell script events) (steady : IsSteady script events) (past : length script.phases + settling_phases ≤ base)
     (finished : (done rest : List Event) → events ≡ done ++ rest → base < (progress script done).phase → (a r : ℕ) (n : PlainNode) → role_of script.plan a ≡ IsNode f r → (slot_of (run script.plan done) a).node ≡ Some n → IsFinished (home_of script.plan (f, r)) n)
     (heard : (done rest : List Event) → events ≡ done ++ rest → base < (progress script done).phase → (q : Port) → port_of (progress script done).world x p ≡ Some q → AreHeard q.watches) where
   -- a state in which all replicas have finished, and the port heard so
@@ -90,7 +88,7 @@ module _ (script : Script) (events : List Event) (x p f k base : ℕ) (can : Can
   seen-at done rest is far =
       let plan = script.plan in
       let w = run plan done in
-      let late : length script.phases + patience < (progress script done).phase = omega (arith, past, far) in
+      let late : length script.phases + settling_phases < (progress script done).phase = omega (arith, past, far) in
       let fin = finished done rest is far in
       let st = stand-at script events done rest x p f k can line live well steady is late fin in
       let port = port-at script events done rest x p f k can line live well steady is late fin in
@@ -103,7 +101,7 @@ module _ (script : Script) (events : List Event) (x p f k base : ℕ) (can : Can
         there = port.1;
         heard = heard done rest is far;
         kept = subst (λ (v : World). AreKept v.plan v) (sym world)
-            (subst (λ (pl : Plan). AreKept pl w) (sym (run-of plan done)) (λ c a r n q client role at there. kept-here plan done x p f c a r n q can.plan line.port client role at (ap (λ (o : Role). role_port w x p o) (sym client) ∙ there)));
+            (subst (λ (pl : Plan). AreKept pl w) (sym (run-plan plan done)) (λ c a r n q client role at there. kept-here plan done x p f c a r n q can.plan line.port client role at (ap (λ (o : Role). role_port w x p o) (sym client) ∙ there)));
       }
     where
       AreKept : Plan → World → Type 0

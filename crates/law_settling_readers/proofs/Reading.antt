@@ -21,11 +21,12 @@ use Rattle.dpc_model.specs.declared.scripts.Script.{Script}
 use Rattle.node_model.specs.Mails.{Plain}
 use Rattle.node_model.specs.Nodes.{PlainNode, own_readers}
 use Rattle.world_model.specs.Worlds.{World, Envelope, home_of, slot_of, run}
-use Rattle.world_model.specs.Steady.{NoneRecovers, patience, IsSteady, OpensWell}
+use Rattle.world_model.specs.Steady.{NoneRecovers, IsSteady, OpensWell}
 use Rattle.world_model.specs.Safe.{HoldsOf}
-use Rattle.world_model.specs.Schedules.{Progress, progress, may_follow, is_live_so_far}
+use Rattle.world_model.specs.Schedules.{Progress, progress, may_follow, is_live_so_far, settling_phases}
 use Rattle.law_safety.specs.Plans.{IsCheckedPlan}
-use Rattle.law_safety.proofs.Tests.{eq-test}
+use Rattle.dpc_lists.proofs.Truths.{eq-test}
+use Rattle.dpc_lists.proofs.Elements.{some-there}
 use Rattle.law_safety.proofs.Numbering.{actors-pass, all-nth}
 use Rattle.law_safety.proofs.Happening.{IsFine, node-here}
 use Rattle.law_safety.proofs.Emptied.{shape-of}
@@ -45,7 +46,6 @@ use Rattle.law_settling.proofs.Opening.{IsAllUp}
 use Rattle.law_settling.proofs.Ports.{port-there, clocked-of}
 use Rattle.law_settling.proofs.Walking.{may-of}
 use Rattle.law_settling.proofs.Splitting.{IsQuietAt}
-use Rattle.law_settling.proofs.Seen.{get-inside}
 use Rattle.law_settling_readers.proofs.Answered.{answered-once}
 use Rattle.law_settling_readers.proofs.Once.{asks_of, only-one}
 use Rattle.law_settling_readers.proofs.Watched.{port-watched}
@@ -154,7 +154,7 @@ stand-of script events done rest x p f k checked live is line up calm finished =
 -- ---- at each point of a live run at which all replicas have finished
 
 module _ (script : Script) (events done rest : List Event) (x p f k : ℕ) (can : CanSettle script) (line : IsReader script.plan x p f k) (live : is_live_so_far script events ≡ true) (well : OpensWell script events) (steady : IsSteady script events)
-    (is : events ≡ done ++ rest) (past : length script.phases + patience < (progress script done).phase)
+    (is : events ≡ done ++ rest) (past : length script.phases + settling_phases < (progress script done).phase)
     (finished : (a r : ℕ) (n : PlainNode) → role_of script.plan a ≡ IsNode f r → (slot_of (run script.plan done) a).node ≡ Some n → IsFinished (home_of script.plan (f, r)) n) where
   pub stand-at : Stand script.plan x p f k (progress script done).world
   stand-at =
@@ -197,7 +197,7 @@ module _ (plan : Plan) (x p f k : ℕ) (w : World) (st : Stand plan x p f k w) (
       let a = replica_at w.plan f i in
       let many = (shape-of (home_of w.plan (f, r)) st.most n (node-here w st.most a f r n st.fine role up).orderly.shape).subs in
       let placed = st.line.low in
-      let found = get-inside n.subs k (omega (arith, many, placed)) in
+      let found = some-there n.subs k (omega (arith, many, placed)) in
       let it : found.0 ≡ nth no_session n.subs k = sym (ap (λ (o : Option Sub). unwrap_or o no_session) found.1) in
       let at : slice_get (subs_of w a (role_of w.plan a)) k ≡ Some (nth no_session n.subs k) = ap (λ (o : Role). slice_get (subs_of w a o) k) role ∙ ap (λ (o : Option PlainNode). slice_get (node_subs o) k) up ∙ found.1 ∙ ap {B = Option Sub} Some it in
       reached-port w x p (role_of w.plan x) v q (st.newer.kept a k (nth no_session n.subs k) v (replica-sends i low) at st.line.back kept) there

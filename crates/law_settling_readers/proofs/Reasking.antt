@@ -26,7 +26,9 @@ use Rattle.node_model.specs.Nodes.{PlainNode, shown}
 use Rattle.node_model.specs.NodeSteps.{with_marks_ended}
 use Rattle.world_model.specs.Worlds.{Envelope, home_of, slot_of, happens}
 use Rattle.world_model.specs.Schedules.{Progress, next_progress}
-use Rattle.law_safety.proofs.Tests.{eq-test}
+use Rattle.dpc_lists.proofs.Truths.{eq-test}
+use Rattle.dpc_lists.proofs.Elements.{get-added}
+use Rattle.dpc_lists.proofs.Somes.{some-same}
 use Rattle.law_granting.specs.Taken.{port_of}
 use Rattle.law_settling.proofs.Fresh.{tick_count, new-waits}
 use Rattle.law_settling.proofs.Readings.{next-newer, never-next}
@@ -39,7 +41,7 @@ use Rattle.law_settling.proofs.PortGoing.{HasTicked}
 use Rattle.law_settling_readers.proofs.Reading.{replica_at, replicas_in, sends_it, IsSeen, chosen-low, old-ask, old-batch, old-truncation, old-kept}
 use Rattle.law_settling_readers.proofs.Replying.{is_reply}
 use Rattle.law_settling_readers.proofs.Serving.{ReplicaGoes, answer_from, refusal_from}
-use Rattle.law_settling_readers.proofs.Freshly.{IsFresh, ask_sent, got-added, sender-node, replica-event, plan-sends}
+use Rattle.law_settling_readers.proofs.Freshly.{IsFresh, ask_sent, sender-node, replica-event, plan-sends}
 
 -- the port's subscription waits
 pub record IsAsking (script : Script) (x p f k t : ℕ) (u : Sess) (h : Reader) (c : ℕ) (ms : List Mark) (n : ℕ) (z : Progress) : Type 0 where
@@ -159,7 +161,7 @@ module _ (script : Script) (x p f k : ℕ) where
           by-goes : (s : ℕ) (n m : PlainNode) → sends_it z.world.plan f g.sender ≡ true → ReplicaGoes z.world (home_of z.world.plan (f, s)) x g.sender k n m (happens z.world e) → ⊥
           by-goes s n m sends_w (ReplicaGoes.KeepsSub sub none) = never v (old-reply j g v (none j g at refl to (replies g v reply)) sends_w to reply) same
           by-goes s n m sends_w (ReplicaGoes.Opens l d a asked opened grows) =
-              elim (got-added z.world.envelopes (answer_from (home_of z.world.plan (f, s)) g.sender x n a) j g (sym (ap (λ (es : List Envelope). slice_get es j) grows) ∙ at)) [
+              elim (get-added z.world.envelopes (answer_from (home_of z.world.plan (f, s)) g.sender x n a) j g (sym (ap (λ (es : List Envelope). slice_get es j) grows) ∙ at)) [
                 | inl old ↦ never v (old-reply j g v old sends_w to reply) same
                 | inr new ↦
                     let sess = sess-of (answer_from (home_of z.world.plan (f, s)) g.sender x n a) g a v new.1 (inl (0, first_batch (shown (home_of z.world.plan (f, s)) (with_marks_ended n)) a, refl)) reply in
@@ -167,7 +169,7 @@ module _ (script : Script) (x p f k : ℕ) where
                     never a.sess (old-ask script.plan x p f k z.world may.here.stand q there l d a asked.there asked.sender to_it asked.packet) (subst (λ (o : Sess). same_sess o (with_next_session q.inlet).sess ≡ true) (sym sess) same)
               ]
           by-goes s n m sends_w (ReplicaGoes.Refuses l d a asked low_n refused grows) =
-              elim (got-added z.world.envelopes (refusal_from g.sender x n a) j g (sym (ap (λ (es : List Envelope). slice_get es j) grows) ∙ at)) [
+              elim (get-added z.world.envelopes (refusal_from g.sender x n a) j g (sym (ap (λ (es : List Envelope). slice_get es j) grows) ∙ at)) [
                 | inl old ↦ never v (old-reply j g v old sends_w to reply) same
                 | inr new ↦
                     let sess = sess-of (refusal_from g.sender x n a) g a v new.1 (inr (n.base, refl)) reply in
@@ -191,15 +193,9 @@ module _ (script : Script) (x p f k : ℕ) where
                   let role_w : role_of z.world.plan b ≡ IsNode f s = ap (λ (pl : Plan). role_of pl b) st.of_plan ∙ role in
                   let n = node-there z.world st.most b f s st.fine st.up role_w in
                   let goes = replica-event script x p f k z e may b s n.0 role_w n.1 in
-                  let one : goes.0 ≡ m = some-node goes.0 m (sym goes.1 ∙ up) in
+                  let one : goes.0 ≡ m = some-same goes.0 m (sym goes.1 ∙ up) in
                   by-goes n.0 goes.0 n.1 role_w (ap (λ (o : PlainNode). (nth no_session o.subs k).kept) one ∙ is) goes.2
                 where
-                  some-node : (a d : PlainNode) → ◌≡◌ {A = Option PlainNode} (Some a) (Some d) → a ≡ d
-                  some-node a d e = cc
-
-                  some-sess : (a d : Sess) → ◌≡◌ {A = Option Sess} (Some a) (Some d) → a ≡ d
-                  some-sess a d e = cc
-
                   low-choice : choice_at (before_choice q) < replicas_in z.world.plan f
                   low-choice =
                       let next = may.next.stand in
@@ -214,10 +210,10 @@ module _ (script : Script) (x p f k : ℕ) where
                       old-kept script.plan x p f k z.world st q there c s n v low-choice (ap (λ (pl : Plan). role_of z.world.plan (replica_at pl f c)) st.of_plan ∙ role_w) (ap (λ (pl : Plan). (slot_of z.world (replica_at pl f c)).node) st.of_plan ∙ up_n)
                       (ap (λ (d : Sub). d.kept) (sym sub) ∙ kept)
                   by-goes n o up_n role_w kept (ReplicaGoes.Opens l d a asked opened grows) =
-                      let same : a.sess ≡ v = some-sess a.sess v (sym (ap (λ (y : Sub). y.kept) opened) ∙ kept) in
+                      let same : a.sess ≡ v = some-same a.sess v (sym (ap (λ (y : Sub). y.kept) opened) ∙ kept) in
                       let to_it : sends_it z.world.plan f d.to ≡ true = ap (λ (b : ℕ). sends_it z.world.plan f b) asked.to ∙ ap (λ (w : _). sends_stream (Frag f) w) role_w ∙ eq-test f f refl in
                       subst (λ (y : Sess). is_newer y q.inlet.sess ≡ false) same (old-ask script.plan x p f k z.world may.here.stand q there l d a asked.there asked.sender to_it asked.packet)
                   by-goes n o up_n role_w kept (ReplicaGoes.Refuses l d a asked low_n refused grows) =
-                      let same : a.sess ≡ v = some-sess a.sess v (sym (ap (λ (y : Sub). y.kept) refused) ∙ kept) in
+                      let same : a.sess ≡ v = some-same a.sess v (sym (ap (λ (y : Sub). y.kept) refused) ∙ kept) in
                       let to_it : sends_it z.world.plan f d.to ≡ true = ap (λ (b : ℕ). sends_it z.world.plan f b) asked.to ∙ ap (λ (w : _). sends_stream (Frag f) w) role_w ∙ eq-test f f refl in
                       subst (λ (y : Sess). is_newer y q.inlet.sess ≡ false) same (old-ask script.plan x p f k z.world may.here.stand q there l d a asked.there asked.sender to_it asked.packet)

@@ -16,12 +16,14 @@ use Rattle.dpc_model.specs.declared.messages.Subscribe.{Subscribe}
 use Rattle.dpc_model.specs.declared.messages.Message.TheVariants as message
 use Rattle.dpc_model.specs.declared.plans.Plan.{Plan}
 use Rattle.dpc_model.specs.declared.scripts.Script.{Script}
+use Rattle.dpc_lists.proofs.Elements.{get-last}
+use Rattle.dpc_lists.proofs.Somes.{some-same}
 use Rattle.node_model.specs.Mails.{Plain}
 use Rattle.node_model.specs.Nodes.{PlainNode, shown}
 use Rattle.node_model.specs.NodeSteps.{with_marks_ended}
 use Rattle.world_model.specs.Worlds.{Envelope, home_of, slot_of, can_come, happens}
 use Rattle.world_model.specs.Schedules.{Progress, next_progress, may_come}
-use Rattle.law_settling.specs.Phased.{is_delivery}
+use Rattle.world_model.specs.Events.{is_delivery}
 use Rattle.law_settling.specs.Finished.{IsFinished}
 use Rattle.law_settling.proofs.Opening.{all-come}
 use Rattle.law_settling.proofs.Fresh.{HasWhole, new-waits, still-sent}
@@ -52,10 +54,6 @@ Replying script x p f t most z = (u : Sess) × (h : Reader) × (c : ℕ) × (ms 
 -- the port has the whole, or one replica more truncated
 abbrev pub Settled : Script → ℕ → ℕ → ℕ → ℕ → Progress → Type 0
 Settled script x p f bound z = HasWhole script x p z ⊎ ((most : ℕ) × Turned script x p f most z × (most + 1 ≤ bound))
-
-at-end : (es : List Envelope) (a : Envelope) → slice_get (es ++ a ∷ []) (length es) ≡ Some a
-at-end [] a = refl
-at-end (y ∷ es) a = at-end es a
 
 module _ (script : Script) (x p f k : ℕ) where
   abbrev Goes : Progress → Event → Type 0
@@ -104,11 +102,11 @@ module _ (script : Script) (x p f k : ℕ) where
           | inl grows ↦
               let items = first_batch (shown (home_of z.world.plan (f, r)) (with_marks_ended n)) (asks_with u h) in
               let there : slice_get (happens z.world e).envelopes i ≡ Some (record { sender = replica_at script.plan f c; to = x; packet = Plain (message.Batch u 0 items) }) =
-              ap (λ (es : List Envelope). slice_get es i) grows ∙ at-end z.world.envelopes (answer_from (home_of z.world.plan (f, r)) (replica_at script.plan f c) x n v) ∙ ap {B = Option Envelope} (λ (y : Subscribe). Some (answer_from (home_of z.world.plan (f, r)) (replica_at script.plan f c) x n y)) same in
+              ap (λ (es : List Envelope). slice_get es i) grows ∙ get-last z.world.envelopes (answer_from (home_of z.world.plan (f, r)) (replica_at script.plan f c) x n v) ∙ ap {B = Option Envelope} (λ (y : Subscribe). Some (answer_from (home_of z.world.plan (f, r)) (replica_at script.plan f c) x n y)) same in
               record { fresh = fresh; low = low; fits = fits; sent = inl (items, there); waits = new-waits script z e i _ (omega arith) there }
           | inr grows ↦
               let there : slice_get (happens z.world e).envelopes i ≡ Some (record { sender = replica_at script.plan f c; to = x; packet = Plain (message.Truncated u n.base) }) =
-              ap (λ (es : List Envelope). slice_get es i) grows ∙ at-end z.world.envelopes (refusal_from (replica_at script.plan f c) x n v) ∙ ap {B = Option Envelope} (λ (y : Subscribe). Some (refusal_from (replica_at script.plan f c) x n y)) same in
+              ap (λ (es : List Envelope). slice_get es i) grows ∙ get-last z.world.envelopes (refusal_from (replica_at script.plan f c) x n v) ∙ ap {B = Option Envelope} (λ (y : Subscribe). Some (refusal_from (replica_at script.plan f c) x n y)) same in
               record { fresh = fresh; low = low; fits = fits; sent = inr (n.base, there); waits = new-waits script z e i _ (omega arith) there }
         ],
         omega arith,
@@ -126,9 +124,6 @@ module _ (script : Script) (x p f k : ℕ) where
             by-goes fresh node.0 node.1 m.0 node.2 node.3 m.1 m.2
       ]
     where
-      some-node : (a b : PlainNode) → ◌≡◌ {A = Option PlainNode} (Some a) (Some b) → a ≡ b
-      some-node a b d = cc
-
       on : IsFresh script x p f t u h c ms (next_progress script z e) → (m : PlainNode) → (slot_of (happens z.world e) (replica_at script.plan f c)).node ≡ Some m → is_newer_than_kept u (nth no_session m.subs k).kept ≡ true → IsAsking script x p f k t u h c ms n (next_progress script z e)
       on fresh m up newer =
           record {
@@ -137,7 +132,7 @@ module _ (script : Script) (x p f k : ℕ) where
             low = asking.low;
             fits = asking.fits;
             waits = waits-on script z e n may.quiet other asking.waits;
-            newer = λ r o role up_o. let one : m ≡ o = some-node m o (sym up ∙ up_o) in ap (λ (y : PlainNode). is_newer_than_kept u (nth no_session y.subs k).kept) (sym one) ∙ newer;
+            newer = λ r o role up_o. let one : m ≡ o = some-same m o (sym up ∙ up_o) in ap (λ (y : PlainNode). is_newer_than_kept u (nth no_session y.subs k).kept) (sym one) ∙ newer;
           }
 
       older : (j : ℕ) (g : Envelope) (v : Subscribe) → slice_get z.world.envelopes j ≡ Some g → g.sender ≡ x → g.to ≡ replica_at script.plan f c → g.packet ≡ Plain (message.Subscribe v) → is_newer v.sess u ≡ false

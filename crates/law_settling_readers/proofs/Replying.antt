@@ -5,24 +5,24 @@ use Rattle.dpc_model.specs.Actors.{replicas_of}
 use Rattle.dpc_model.specs.Granting.{grants, with_promise, may_enter_by}
 use Rattle.dpc_model.specs.NodeStates.{is_up_failure}
 use Rattle.dpc_model.specs.Ports.{no_port, sender_at, on_truncated, all_truncated}
-use Rattle.dpc_model.specs.Inlets.{same_sess, AfterBatch, take_batch}
+use Rattle.dpc_model.specs.Inlets.{same_sess}
 use Rattle.dpc_model.specs.Sessions.{Shown, Answered, first_batch, is_newer_than_kept, no_session}
-use Rattle.dpc_model.specs.declared.batches.Taken.{Taken}
-use Rattle.dpc_model.specs.declared.batches.Taken.TheVariants.{Used, Old, Broken}
 use Rattle.dpc_model.specs.declared.sessions.Sub.{Sub}
-use Rattle.dpc_model.specs.declared.tuples.Item.{Item}
 use Rattle.dpc_model.specs.declared.messages.Sess.{Sess}
 use Rattle.dpc_model.specs.declared.messages.Beat.{Beat}
 use Rattle.dpc_model.specs.declared.messages.Subscribe.{Subscribe}
 use Rattle.dpc_model.specs.declared.messages.Message.{Message}
 use Rattle.dpc_model.specs.declared.messages.Message.TheVariants as message
+use Rattle.dpc_lists.proofs.Somes.{none-some, some-same}
+use Rattle.dpc_lists.proofs.Elements.{nth-here}
+use Rattle.dpc_lists.proofs.Places.{place-nth}
 use Rattle.node_model.specs.Mails.{Packet, Plain, SnapFor, Mail, mail, Stepped}
 use Rattle.node_model.specs.Nodes.{Home, PlainNode, streams_of, own_readers, shown}
-use Rattle.node_model.specs.NodeSteps.{idle_step, with_port, after_loss, after_taking, with_stamps_of, on_batch, on_subscribe, on_truncation, on_upstream_beat, on_peer_beat, on_ack, on_ask, on_grant, on_message, on_snap, with_marks_ended, packet_step, replica_number, reader_place, enter_step, on_snap_ask}
-use Rattle.law_safety.proofs.Delivered.{place-nth}
-use Rattle.law_granting.proofs.Each.{Each}
+use Rattle.node_model.specs.NodeSteps.{idle_step, with_port, after_loss, on_subscribe, on_truncation, on_ack, on_ask, on_grant, on_message, on_snap, with_marks_ended, packet_step, replica_number, reader_place, enter_step, on_snap_ask}
+use Rattle.node_model.proofs.Mailed.{subscribe-is, batch-subs, beat-subs, ack-subs}
+use Rattle.dpc_lists.proofs.Each.{Each}
 use Rattle.law_settling.proofs.Exact.{same-or}
-use Rattle.law_settling.proofs.Answering.{nth-here, nth-there, opened_sub}
+use Rattle.law_settling.proofs.Answering.{nth-there, opened_sub}
 
 -- a packet of a session: a batch, or a truncation
 abbrev pub is_reply : Packet → Bool
@@ -54,12 +54,6 @@ pub data NodeDid (shows : Shown) (b k z : ℕ) (packet : Packet) (n : PlainNode)
   Left : nth no_session t.after.subs k ≡ nth no_session n.subs k → Each (NoReply b) t.sends → ((v : Subscribe) → IsAskedBy b k z packet (nth no_session n.subs k) v → ⊥) → NodeDid shows b k z packet n t
   Answers : (v : Subscribe) → IsAskedBy b k z packet (nth no_session n.subs k) v → nth no_session t.after.subs k ≡ opened_sub v → t.sends ≡ mail b (message.Batch v.sess 0 (first_batch shows v)) ∷ [] → NodeDid shows b k z packet n t
   Refuses : (v : Subscribe) → IsAskedBy b k z packet (nth no_session n.subs k) v → nat_lt v.n shows.base ≡ true → nth no_session t.after.subs k ≡ refused_sub v → t.sends ≡ mail b (message.Truncated v.sess shows.base) ∷ [] → NodeDid shows b k z packet n t
-
-some-same : (i k : ℕ) → ◌≡◌ {A = Option ℕ} (Some i) (Some k) → i ≡ k
-some-same i k e = cc
-
-none-some : {k : ℕ} → ◌≡◌ {A = Option ℕ} None (Some k) → ⊥
-none-some e = cc
 
 module _ (home : Home) (b k : ℕ) (place : place_of (λ a. b == a) (own_readers home) ≡ Some k) where
   abbrev Did : ℕ → Packet → PlainNode → Stepped PlainNode → Type 0
@@ -103,13 +97,10 @@ module _ (home : Home) (b k : ℕ) (place : place_of (λ a. b == a) (own_readers
       older : is_newer_than_kept v.sess (nth no_session n.subs i).kept ≡ false → (u : Subscribe) → IsAskedBy b k z (Plain (message.Subscribe v)) (nth no_session n.subs k) u → ⊥
       older e u asked =
           let is = asked.packet_is in
-          let same : v ≡ u = sub-same v u is in
+          let same : v ≡ u = subscribe-is v u is in
           let here : i ≡ k = place-same z refl asked.from in
           let no : false ≡ true = sym e ∙ ap (λ (j : ℕ). is_newer_than_kept v.sess (nth no_session n.subs j).kept) here ∙ ap (λ (a : Subscribe). is_newer_than_kept a.sess (nth no_session n.subs k).kept) same ∙ asked.newer in
           cc
-        where
-          sub-same : (v u : Subscribe) → Plain (message.Subscribe v) ≡ Plain (message.Subscribe u) → v ≡ u
-          sub-same v u e = cc
 
       newly : (a : Answered) → is_newer_than_kept v.sess (nth no_session n.subs i).kept ≡ true → (i ≡ k) ⊎ (i ≢ k) →
           (IsAskedBy b k z (Plain (message.Subscribe v)) (nth no_session n.subs k) v → nth no_session (step a).after.subs k ≡ a.after → (step a).sends ≡ elim a.answer as (λ _. List Mail) [ None ↦ [] | Some m ↦ mail b m ∷ [] ] → Did z (Plain (message.Subscribe v)) n (step a)) →
@@ -133,31 +124,6 @@ module _ (home : Home) (b k : ℕ) (place : place_of (λ a. b == a) (own_readers
           )
 
   -- ---- packets
-
-  took-subs : (p : ℕ) (t : AfterBatch) (n : PlainNode) → (after_taking home p t n).subs ≡ n.subs
-  took-subs p t n = by-answer t.answer
-    where
-      by-answer : (x : Taken) → (with_stamps_of home x (with_port p (λ q. record q { inlet = t.after }) n)).subs ≡ n.subs
-      by-answer (Used items) = refl
-      by-answer Old = refl
-      by-answer Broken = refl
-
-  batch-subs : (u : Sess) (index : ℕ) (items : List Item) (o : Option (ℕ × ℕ)) (n : PlainNode) → (on_batch home u index items o n).subs ≡ n.subs
-  batch-subs u index items None n = refl
-  batch-subs u index items (Some pr) n = elim ((nth no_port n.ports pr.0).chosen == pr.1) as (λ c. (cond c (after_taking home pr.0 (take_batch (nth no_port n.ports pr.0).inlet u index items) n) n).subs ≡ n.subs) [
-    | true ↦ took-subs pr.0 (take_batch (nth no_port n.ports pr.0).inlet u index items) n
-    | false ↦ refl
-  ]
-
-  beat-subs : (bt : Beat) (o : Option ℕ) (r : Option (ℕ × ℕ)) (n : PlainNode) → (on_peer_beat bt o (on_upstream_beat bt r n)).subs ≡ n.subs
-  beat-subs bt None None n = refl
-  beat-subs bt None (Some pr) n = refl
-  beat-subs bt (Some q) None n = refl
-  beat-subs bt (Some q) (Some pr) n = refl
-
-  ack-subs : (i count : ℕ) (o : Option ℕ) (n : PlainNode) → (on_ack home i count o n).subs ≡ n.subs
-  ack-subs i count None n = refl
-  ack-subs i count (Some j) n = refl
 
   lost-recovers : (m : PlainNode) → (after_loss home m).recovering ≡ true
   unfolding after_loss
@@ -192,11 +158,11 @@ module _ (home : Home) (b k : ℕ) (place : place_of (λ a. b == a) (own_readers
       by-place : (o : Option ℕ) → reader_place home z ≡ o → Did z (Plain (message.Subscribe v)) n (on_subscribe home v o n)
       by-place None e = Left refl tt (λ u asked. none-some (sym e ∙ ap (λ (a : ℕ). place_of (λ x. a == x) (own_readers home)) asked.from ∙ place))
       by-place (Some i) e = subscribed-did i z v n few e
-  message-did z (message.Batch u index items) n whole fine few calm = left z (Plain (message.Batch u index items)) n _ (λ v e. cc) (batch-subs u index items (sender_at home.plan (streams_of home) z) n) tt
+  message-did z (message.Batch u index items) n whole fine few calm = left z (Plain (message.Batch u index items)) n _ (λ v e. cc) (batch-subs home u index items (sender_at home.plan (streams_of home) z) n) tt
   message-did z (message.Truncated u base) n whole fine few calm = left z (Plain (message.Truncated u base)) n _ (λ v e. cc) (truncation-subs u base (sender_at home.plan (streams_of home) z) n calm) tt
   message-did z (message.Beat bt) n whole fine few calm = left z (Plain (message.Beat bt)) n _ (λ v e. cc) (beat-subs bt (replica_number home z) (sender_at home.plan (streams_of home) z) n) tt
   message-did z (message.Ack i count) n whole fine few calm =
-      left z (Plain (message.Ack i count)) n _ (λ v e. cc) (elim n.recovering as (λ c. (cond c n (on_ack home i count (reader_place home z) n)).subs ≡ n.subs) [ true ↦ refl | false ↦ ack-subs i count (reader_place home z) n ]) tt
+      left z (Plain (message.Ack i count)) n _ (λ v e. cc) (elim n.recovering as (λ c. (cond c n (on_ack home i count (reader_place home z) n)).subs ≡ n.subs) [ true ↦ refl | false ↦ ack-subs home i count (reader_place home z) n ]) tt
   message-did z (message.Ask i ask) n whole fine few calm = let d = ask-did i ask (replica_number home z) n in left z (Plain (message.Ask i ask)) n _ (λ v e. cc) d.0 d.1
   message-did z (message.Grant i ask) n whole fine few calm = subst (λ (t : Stepped PlainNode). Did z (Plain (message.Grant i ask)) n t) (sym (grant-none i ask n fine)) (left z (Plain (message.Grant i ask)) n (idle_step n) (λ v e. cc) refl tt)
   message-did z (message.SnapAsk i try) n whole fine few calm = by-recovering n.recovering

@@ -1,5 +1,5 @@
 -- What an event of a quiet phase makes of a reader's session at a finished replica, and what the replica sends it.
-use Rattle.std.proofs.Common.{◌≡◌, ℕ, ◌+◌, ◌<◌, ◌≤◌, true, false, ◌&&◌, ◌==◌, nat_le, nat_lt, List, [], ◌∷◌, ◌++◌, map, length, refl, sym, ap, subst, ◌∙◌, arith, Option, Some, slice_get, ◌⊎◌, inl, inr}
+use Rattle.std.proofs.Common.{◌≡◌, ℕ, ◌+◌, ◌<◌, ◌≤◌, true, false, ◌&&◌, ◌==◌, nat_le, nat_lt, List, [], ◌∷◌, ◌++◌, map, length, refl, sym, ap, subst, ◌∙◌, arith, Some, slice_get, ◌⊎◌, inl, inr}
 use Rattle.dpc_lists.specs.Lists.{nth, changed, place_of}
 use Rattle.dpc_model.specs.Limits.{most_milled}
 use Rattle.dpc_model.specs.Actors.{role_of, readers_of}
@@ -17,16 +17,18 @@ use Rattle.node_model.specs.NodeSteps.{with_marks_ended, packet_step, mill_step,
 use Rattle.node_model.specs.Sources.{source_packet_step, source_tick_step}
 use Rattle.node_model.specs.Clients.{client_after_packet, client_tick_step}
 use Rattle.world_model.specs.Worlds.{World, Envelope, Slot, home_of, slot_of, source_at, client_at, from, node_stepped, source_stepped, client_stepped, can_come, can_mill, happens}
-use Rattle.law_safety.proofs.Tests.{both, le-of}
+use Rattle.dpc_lists.proofs.Truths.{both, le-of}
+use Rattle.dpc_lists.proofs.Somes.{some-same}
+use Rattle.node_model.proofs.Mailed.{subscribe-is}
 use Rattle.law_safety.proofs.Emptied.{shape-of}
 use Rattle.law_safety.proofs.EventCases.{AreCases, by-event}
 use Rattle.law_safety.proofs.Happening.{IsFine, node-here}
 use Rattle.law_safety.proofs.Promises.{slot-here}
-use Rattle.law_granting.proofs.Each.{Each}
+use Rattle.dpc_lists.proofs.Each.{Each}
 use Rattle.law_granting.proofs.Asked.{same-or, each-unit}
 use Rattle.law_granting.proofs.Slots.{slot-there, got-sent}
 use Rattle.law_schedules.specs.Journals.{Ticks}
-use Rattle.law_settling.specs.Phased.{is_quiet}
+use Rattle.world_model.specs.Events.{is_quiet}
 use Rattle.law_settling.specs.Finished.{IsFinished}
 use Rattle.law_settling.proofs.Answering.{opened_sub}
 use Rattle.law_settling.proofs.PortSteps.{sent-place}
@@ -96,9 +98,6 @@ module _ (w : World) (most x f r a k : ℕ) (fine : IsFine w most) (role : role_
   rests : (n : PlainNode) (next : World) → (slot_of next a).node ≡ Some n → NoNewReply w a x next → Goes n next
   rests n next up none done = (n, up, KeepsSub refl none)
 
-  some-node : (y z : PlainNode) → ◌≡◌ {A = Option PlainNode} (Some y) (Some z) → y ≡ z
-  some-node y z e = cc
-
   -- a node's step: its own, or another's
   steps : (y g q : ℕ) (c : PlainNode) (t : Stepped PlainNode) (n : PlainNode) → role_of w.plan y ≡ IsNode g q → (slot_of w y).node ≡ Some c → (slot_of w a).node ≡ Some n →
       (a ≡ y → home_of w.plan (g, q) ≡ Here → c ≡ n → IsFinished Here t.after → ReplicaGoes w Here x a k n t.after (node_stepped y t w)) → Goes n (node_stepped y t w)
@@ -109,7 +108,7 @@ module _ (w : World) (most x f r a k : ℕ) (fine : IsFine w most) (role : role_
         | inl same ↦
             let slot : slot_of (node_stepped y t w) y ≡ record (slot_of w y) { node = Some t.after } = slot-here w most y g q (λ (z : Slot). record z { node = Some t.after }) fine role_y in
             let now : (slot_of (node_stepped y t w) a).node ≡ Some t.after = ap (λ (z : ℕ). (slot_of (node_stepped y t w) z).node) same ∙ ap (λ (z : Slot). z.node) slot in
-            let one : c ≡ n = some-node c n (sym up ∙ ap (λ (z : ℕ). (slot_of w z).node) (sym same) ∙ here) in
+            let one : c ≡ n = some-same c n (sym up ∙ ap (λ (z : ℕ). (slot_of w z).node) (sym same) ∙ here) in
             let roles : IsNode g q ≡ IsNode f r = sym role_y ∙ ap (λ (z : ℕ). role_of w.plan z) (sym same) ∙ role in
             (t.after, now, own same (same-home g q roles) one (done t.after now))
       ]
@@ -196,17 +195,14 @@ module _ (w : World) (most x f r a k : ℕ) (fine : IsFine w most) (role : role_
         let sends : (happens w (Deliver j)).envelopes ≡ w.envelopes ++ map (from a) t.sends = ap (λ (z : World). z.envelopes) event ∙ ap (λ (z : ℕ). w.envelopes ++ map (from z) t.sends) asked.to in
         by-did sends (took-did g n here done (after t.after now))
       where
-        same-sub : (u v : Subscribe) → Plain (message.Subscribe u) ≡ Plain (message.Subscribe v) → u ≡ v
-        same-sub u v e = cc
-
         by-did : (happens w (Deliver j)).envelopes ≡ w.envelopes ++ map (from a) (packet_step Here g.sender g.packet n).sends → NodeDid (shown Here (with_marks_ended n)) x k g.sender g.packet (with_marks_ended n) (packet_step Here g.sender g.packet n) →
             ((happens w (Deliver j)).envelopes ≡ w.envelopes ++ answer_from Here a x n v ∷ []) ⊎ ((nat_lt v.n n.base ≡ true) × ((happens w (Deliver j)).envelopes ≡ w.envelopes ++ refusal_from a x n v ∷ []))
         by-did sends (NodeDid.Left sub none not_asked) = absurd (not_asked v (record { packet_is = asked.packet; from = asked.sender; newer = asked.newer }))
         by-did sends (NodeDid.Answers u it sub mails) =
-            let same : u ≡ v = same-sub u v (sym it.packet_is ∙ asked.packet) in
+            let same : u ≡ v = subscribe-is u v (sym it.packet_is ∙ asked.packet) in
             inl (sends ∙ ap (λ (ms : List Mail). w.envelopes ++ map (from a) ms) mails ∙ ap (λ (z : Subscribe). w.envelopes ++ answer_from Here a x n z ∷ []) same)
         by-did sends (NodeDid.Refuses u it low_n sub mails) =
-            let same : u ≡ v = same-sub u v (sym it.packet_is ∙ asked.packet) in
+            let same : u ≡ v = subscribe-is u v (sym it.packet_is ∙ asked.packet) in
             inr (ap (λ (z : Subscribe). nat_lt z.n n.base) (sym same) ∙ low_n, sends ∙ ap (λ (ms : List Mail). w.envelopes ++ map (from a) ms) mails ∙ ap (λ (z : Subscribe). w.envelopes ++ refusal_from a x n z ∷ []) same)
 
     -- a tick that is not void tells the reader its session

@@ -10,7 +10,8 @@ use Rattle.dpc_model.specs.declared.scripts.Script.{Script}
 use Rattle.world_model.specs.Worlds.{is_up, role_up}
 use Rattle.world_model.specs.Schedules.{Progress, next_progress, progress_from}
 use Rattle.law_granting.specs.Taken.{port_of}
-use Rattle.law_settling.specs.Phased.{is_delivery, opened}
+use Rattle.world_model.specs.Events.{is_delivery}
+use Rattle.law_settling.specs.Phased.{opened}
 use Rattle.law_settling.proofs.Faults.{IsBroken, IsAnswered, IsSlow}
 use Rattle.law_settling.proofs.Fresh.{HasWhole}
 use Rattle.law_settling.proofs.Journeys.{IsJourney}

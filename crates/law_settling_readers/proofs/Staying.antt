@@ -18,7 +18,7 @@ use Rattle.dpc_model.specs.declared.scripts.Script.{Script}
 use Rattle.node_model.specs.Mails.{Packet, Plain, SnapFor}
 use Rattle.world_model.specs.Orderly.{item_fits, items_carried, carries_fitting, packet_way, is_fitting}
 use Rattle.world_model.specs.Worlds.{happens}
-use Rattle.law_safety.proofs.Tests.{both, lt-of, le-of}
+use Rattle.dpc_lists.proofs.Truths.{both, lt-of, le-of}
 use Rattle.law_safety.proofs.Numbering.{all-at}
 use Rattle.law_settling.proofs.Fresh.{HasWhole}
 use Rattle.law_settling.proofs.Rules.{Keeps}

@@ -20,7 +20,8 @@ use Rattle.node_model.specs.NodeSteps.{idle_step, peers_of, peer_watches, with_m
 use Rattle.law_safety.proofs.Dues.{due-range}
 use Rattle.law_safety.proofs.Frames.{out_stable-held}
 use Rattle.law_safety.proofs.Giving.{none-tentative}
-use Rattle.law_granting.proofs.Each.{Each, each-append, each-sorted, each-subscription, each-acks, each-beats}
+use Rattle.dpc_lists.proofs.Each.{Each, each-append}
+use Rattle.law_granting.proofs.Each.{each-sorted, each-subscription, each-acks, each-beats}
 use Rattle.law_settling.specs.Finished.{IsFinished}
 use Rattle.law_settling.proofs.Exact.{IsIn, in-right, in-sorted}
 use Rattle.law_settling.proofs.Failing.{served-is}

@@ -13,11 +13,11 @@ use Rattle.dpc_model.specs.declared.plans.StreamRef.TheVariants.{Frag}
 use Rattle.dpc_model.specs.declared.scripts.Script.{Script}
 use Rattle.world_model.specs.Worlds.{happens}
 use Rattle.world_model.specs.Schedules.{Progress, next_progress, may_follow}
-use Rattle.law_safety.proofs.Tests.{eq-of, eq-test, le-of}
+use Rattle.dpc_lists.proofs.Truths.{eq-of, eq-test}
+use Rattle.dpc_lists.proofs.Elements.{nth-here}
 use Rattle.law_granting.specs.Taken.{port_of}
-use Rattle.law_settling.proofs.Answering.{nth-here}
 use Rattle.law_settling.proofs.Fresh.{HasWhole, tick_count, Reopens, Holds, stay-says, still-sent}
-use Rattle.law_settling.proofs.Reopening.{not-ticked}
+use Rattle.law_settling.proofs.Reopening.{not-ticked, early}
 use Rattle.law_settling.proofs.Rules.{MayGo}
 use Rattle.law_settling.proofs.Ticking.{before_choice}
 use Rattle.law_settling_readers.proofs.Marks.{Mark, marks_of, free_in, Fits, free-marked, free-fewer, heard-stays, heard-turns}
@@ -67,9 +67,6 @@ module _ (script : Script) (x p f k : ℕ) where
       fewer : (base : ℕ) → 1 ≤ free_in (marked_at c base ms) → Fits c ms → free_in (marked_at c base ms) + 1 ≤ free_in ms
       fewer base some (inl none) = free-fewer c base ms (marks-low t u h c ms z may.here fresh) none
       fewer base some (inr all) = let less = free-marked c base ms in absurd (omega (arith, some, less, all))
-
-      early : (n : ℕ) → n ≤ 1 → nat_le 3 (min 3 (n + 1)) ≡ true → ⊥
-      early n less test = let three = le-of 3 (min 3 (n + 1)) test in omega (arith, less, three)
 
       ticks : (now : ℕ) (r : Port) → e ≡ Tick x now → port_of (happens z.world e) x p ≡ Some r → HasTicked z.world x (Frag f) (happens z.world e) fresh.port r → Out
       ticks now r event there ticked =

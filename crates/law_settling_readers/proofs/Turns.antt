@@ -6,7 +6,7 @@ use Rattle.dpc_model.specs.declared.messages.Event.TheVariants.{Deliver}
 use Rattle.dpc_model.specs.declared.messages.Sess.{Sess}
 use Rattle.dpc_model.specs.declared.scripts.Script.{Script}
 use Rattle.world_model.specs.Schedules.{Progress, next_progress}
-use Rattle.law_settling.specs.Phased.{is_delivery}
+use Rattle.world_model.specs.Events.{is_delivery}
 use Rattle.law_settling.proofs.Fresh.{HasWhole}
 use Rattle.law_settling.proofs.Rules.{MayGo, Keeps, same-delivery}
 use Rattle.law_settling_readers.proofs.Marks.{Mark, free_in}

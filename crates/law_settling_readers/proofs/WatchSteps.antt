@@ -19,14 +19,16 @@ use Rattle.dpc_model.specs.declared.plans.StreamRef.{StreamRef}
 use Rattle.dpc_model.specs.declared.plans.StreamRef.TheVariants.{Source}
 use Rattle.node_model.specs.Mails.{Snap, Packet, Plain, SnapFor, mail, Stepped}
 use Rattle.dpc_model.specs.NodeStates.{is_up_failure}
+use Rattle.dpc_lists.proofs.Elements.{get-only}
+use Rattle.dpc_lists.proofs.Places.{place-nth}
+use Rattle.dpc_model.proofs.Subs.{nth-there}
+use Rattle.dpc_lists.proofs.Somes.{some-same}
 use Rattle.node_model.specs.Nodes.{Home, PlainNode, streams_of}
 use Rattle.node_model.specs.NodeSteps.{idle_step, then_do, replica_number, reader_place, with_port, emptied_port, adopted_ports, enter_step, after_loss, after_adoption, after_taking, on_batch, on_subscribe, on_truncation, on_upstream_beat, on_peer_beat, on_ack, on_ask, on_grant, on_snap_ask, on_snap, on_message, on_packet, with_marks_ended, packet_step, mill_step, after_clock, may_start_afresh, choice_step, ask_step, announcing_step, serving_step, snapshot_ask_step, rest_of_tick, with_fresh_start, tick_step}
 use Rattle.node_model.specs.Clients.{ClientState, client_stream, client_after_batch, client_message, client_packet, client_marks_ended, client_after_packet, client_tick_step}
-use Rattle.law_safety.proofs.Delivered.{place-nth}
+use Rattle.node_model.proofs.Mailed.{kept-port}
 use Rattle.law_safety.proofs.Pointwise.{sender-of}
-use Rattle.law_granting.proofs.AtWork.{nth-there}
 use Rattle.law_granting.proofs.Moves.{get-mapped, get-was, stamped-ports, reconciling-ports, processing-ports}
-use Rattle.law_readers.proofs.Sessions.{kept-port}
 
 -- the actor that has a place at a reader of these streams
 abbrev pub placed_at : Plan → List StreamRef → ℕ → ℕ → ℕ
@@ -109,10 +111,7 @@ module _ (L : ℕ → ℕ → ℕ → Type 0) where
       among : (tss : List (List Tuple)) (ps : List Port) (p : ℕ) (r : Port) → slice_get (adopted_ports b tss ps) p ≡ Some r → (q : Port) × (slice_get ps p ≡ Some q) × (r.watches ≡ q.watches)
       among [] ps p r e = cc
       among (ts ∷ tss) [] p r e = cc
-      among (ts ∷ tss) (q ∷ ps) zero r e = (q, refl, ap (λ (x : Port). x.watches) (some-port r (emptied_port ts b q) (sym e)))
-        where
-          some-port : (x y : Port) → ◌≡◌ {A = Option Port} (Some x) (Some y) → x ≡ y
-          some-port x y f = cc
+      among (ts ∷ tss) (q ∷ ps) zero r e = (q, refl, ap (λ (x : Port). x.watches) (some-same r (emptied_port ts b q) (sym e)))
       among (ts ∷ tss) (q ∷ ps) (suc p) r e = among tss ps p r e
 
   -- ---- a packet
@@ -270,14 +269,10 @@ module _ (L : ℕ → ℕ → Type 0) (plan : Plan) (c : ℕ) where
   client-packet-told a (Some pr) (Plain m) x place beat h =
       client-message-told pr.1 m x (λ b same. beat b pr.1 (ap (λ (z : Message). Plain z) same) at) h
     where
-      only : (s t : StreamRef) (i : ℕ) → slice_get (s ∷ []) i ≡ Some t → i ≡ 0
-      only s t zero d = refl
-      only s t (suc i) d = cc
-
       at : nth 0 (senders_of plan (client_stream plan c)) pr.1 ≡ a
       at =
           let k = sender-of plan (client_stream plan c ∷ []) a pr.0 pr.1 place in
-          subst (λ (i : ℕ). placed_at plan (client_stream plan c ∷ []) i pr.1 ≡ a) (only (client_stream plan c) k.stream pr.0 k.at) (placed-is plan (client_stream plan c ∷ []) a pr.0 pr.1 place)
+          subst (λ (i : ℕ). placed_at plan (client_stream plan c ∷ []) i pr.1 ≡ a) (get-only (client_stream plan c) k.stream pr.0 k.at) (placed-is plan (client_stream plan c ∷ []) a pr.0 pr.1 place)
 
   pub client-took-told : (a : ℕ) (packet : Packet) (x : ClientState) → ((b : Beat) (r : ℕ) → packet ≡ Plain (message.Beat b) → nth 0 (senders_of plan (client_stream plan c)) r ≡ a → L r b.inc) → AreTold L x.port.watches →
       AreTold L (client_after_packet plan c a packet x).port.watches

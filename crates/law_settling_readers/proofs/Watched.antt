@@ -9,7 +9,8 @@ use Rattle.dpc_model.specs.declared.plans.StreamRef.TheVariants.{Source}
 use Rattle.node_model.specs.Nodes.{PlainNode, streams_of}
 use Rattle.node_model.specs.Clients.{client_stream, new_client}
 use Rattle.world_model.specs.Worlds.{World, home_of, slot_of, client_at}
-use Rattle.law_safety.proofs.Tests.{eq-of}
+use Rattle.dpc_lists.proofs.Truths.{eq-of}
+use Rattle.dpc_lists.proofs.Somes.{some-same}
 use Rattle.law_safety.proofs.Pointwise.{port-at as sound-port}
 use Rattle.law_safety.proofs.SoundPorts.{port-of}
 use Rattle.world_model.specs.Orderly.{is_port_sound}
@@ -19,9 +20,6 @@ use Rattle.law_safety.proofs.Clienting.{IsGoodClient, new_client-good}
 use Rattle.law_safety.proofs.Happening.{IsFine, node-here}
 use Rattle.law_granting.specs.Taken.{node_port, role_port, port_of}
 use Rattle.law_readers.specs.Newest.{IsPortOf}
-
-some-port : (y z : Port) → ◌≡◌ {A = Option Port} (Some y) (Some z) → y ≡ z
-some-port y z d = cc
 
 module _ (w : World) (most x p : ℕ) (s : StreamRef) (fine : IsFine w most) (many : length w.clients ≡ length w.plan.clients) (port : IsPortOf w.plan x p s) where
   -- the stream of a client's only port
@@ -57,7 +55,7 @@ module _ (w : World) (most x p : ℕ) (s : StreamRef) (fine : IsFine w most) (ma
               let good = node-here w most x g r n fine is up in
               let stream : slice_get (streams_of (home_of w.plan (g, r))) p ≡ Some s = ap (λ (ss : List StreamRef). slice_get ss p) (sym (home-inputs (home_of w.plan (g, r)) r)) ∙ ap (λ (z : Role). slice_get (inputs_of w.plan z) p) (sym is) ∙ port.there in
               let found = sound-port w.plan n.grants.inc most p s (streams_of (home_of w.plan (g, r))) n.ports good.orderly.ports stream in
-              let it : found.0 ≡ q = some-port found.0 q (sym found.1 ∙ f) in
+              let it : found.0 ≡ q = some-same found.0 q (sym found.1 ∙ f) in
               sound-low s n.grants.inc q refl (subst (λ (z : Port). is_port_sound w.plan s n.grants.inc most z ≡ true) it found.2)
       by-role (IsClient c) is e =
           (elim (p == 0) as (λ b. (p == 0) ≡ b → cond {A = Option Port} b (Some (client_at w c).port) None ≡ Some q → KnowsAll q) [
@@ -65,6 +63,6 @@ module _ (w : World) (most x p : ℕ) (s : StreamRef) (fine : IsFine w most) (ma
             | true ↦ λ f g.
                 let stream = client-stream-is c is (eq-of p 0 f) in
                 let good = good-client c (client-below w.plan x c is) in
-                let it : (client_at w c).port ≡ q = some-port (client_at w c).port q g in
+                let it : (client_at w c).port ≡ q = some-same (client_at w c).port q g in
                 sound-low (client_stream w.plan c) 1 q stream (subst (λ (z : Port). is_port_sound w.plan (client_stream w.plan c) 1 most z ≡ true) it good.sound)
           ]) refl e

@@ -21,12 +21,13 @@ use Rattle.node_model.specs.Clients.{ClientState, client_stream, new_client, cli
 use Rattle.world_model.specs.Worlds.{World, Envelope, Slot, home_of, node_place, slot_of, source_at, client_at, from, node_stepped, source_stepped, client_stepped, restart_slot, happens, run, new_world}
 use Rattle.law_safety.specs.Plans.{IsCheckedPlan}
 use Rattle.law_safety.proofs.Numbering.{home-inputs}
-use Rattle.law_safety.proofs.Tests.{eq-of}
+use Rattle.dpc_lists.proofs.Truths.{eq-of}
+use Rattle.dpc_lists.proofs.Somes.{some-same}
 use Rattle.law_safety.proofs.EventCases.{AreCases, by-event}
 use Rattle.law_safety.proofs.Happening.{IsFine}
 use Rattle.law_safety.proofs.Promises.{slot-here}
 use Rattle.law_safety.proofs.Law.{run-good}
-use Rattle.law_safety.proofs.Growing.{event-grows}
+use Rattle.law_safety.proofs.Growing.{event-grows, run-plan}
 use Rattle.law_granting.specs.Asking.{AreAsksInOrder, TellsSo}
 use Rattle.law_granting.specs.Taken.{node_port, role_port, port_of}
 use Rattle.law_granting.proofs.Keys.{nth-changed}
@@ -34,14 +35,8 @@ use Rattle.law_granting.proofs.Slots.{slot-there, advances-restart}
 use Rattle.law_granting.proofs.Asked.{same-or}
 use Rattle.law_granting.proofs.Moves.{get-mapped}
 use Rattle.law_granting.proofs.Running.{new-slot, run-order}
-use Rattle.law_readers.proofs.Running.{every-run, run-of}
+use Rattle.law_readers.proofs.Running.{every-run}
 use Rattle.law_settling_readers.proofs.WatchSteps.{placed_at, placed-is, AreTold, told-new, PortsTold, delivered-told, milled-told, ticked-node-told, client-took-told, client-ticked-told}
-
-some-node : (m n : PlainNode) → ◌≡◌ {A = Option PlainNode} (Some m) (Some n) → m ≡ n
-some-node m n e = cc
-
-some-port : (y z : Port) → ◌≡◌ {A = Option Port} (Some y) (Some z) → y ≡ z
-some-port y z e = cc
 
 -- ---- an incarnation doesn't fall
 
@@ -115,7 +110,7 @@ module _ (L : ℕ → ℕ → ℕ → Type 0) (x : ℕ) (w : World) where
   told-client c role told p r there =
       (elim (p == 0) as (λ b. (p == 0) ≡ b → cond {A = Option Port} b (Some (client_at w c).port) None ≡ Some r → AreTold (L p) r.watches) [
         | false ↦ λ f g. cc
-        | true ↦ λ f g. subst (λ (i : ℕ). AreTold (L i) r.watches) (sym (eq-of p 0 f)) (subst (λ (z : Port). AreTold (L 0) z.watches) (some-port (client_at w c).port r g) told)
+        | true ↦ λ f g. subst (λ (i : ℕ). AreTold (L i) r.watches) (sym (eq-of p 0 f)) (subst (λ (z : Port). AreTold (L 0) z.watches) (some-same (client_at w c).port r g) told)
       ]) refl (sym port-is ∙ there)
     where
       port-is : port_of w x p ≡ role_port w x p (IsClient c)
@@ -144,7 +139,7 @@ restart-told L home i slot first h = by-node slot.node refl
     by-node : (o : Option PlainNode) → slot.node ≡ o → SlotTold L (elim o as (λ _. Slot) [ Some n ↦ slot | None ↦ cond (nat_lt slot.last_inc i) (record { last_inc = i; node = Some (restarted_node home i) }) slot ])
     by-node (Some n) up = h
     by-node None up = elim (nat_lt slot.last_inc i) as (λ b. SlotTold L (cond {A = Slot} b (record { last_inc = i; node = Some (restarted_node home i) }) slot)) [
-      | true ↦ λ n e. subst (λ (z : PlainNode). PortsTold L z.ports) (some-node (restarted_node home i) n e) (restarted-told L home i first)
+      | true ↦ λ n e. subst (λ (z : PlainNode). PortsTold L z.ports) (some-same (restarted_node home i) n e) (restarted-told L home i first)
       | false ↦ h
     ]
 
@@ -176,7 +171,7 @@ module _ (w : World) (most x : ℕ) (L : ℕ → ℕ → ℕ → Type 0) (fine :
         ReaderTold L x (record w { nodes = changed (node_place w.plan y) (λ (slot : Slot). record slot { node = Some s.after }) w.nodes; envelopes = w.envelopes ++ map (from y) s.sends })
     stepped-told y g r n s role up step =
         changed-told y g r (λ (slot : Slot). record slot { node = Some s.after }) (w.envelopes ++ map (from y) s.sends) role
-        (λ same m e. subst (λ (z : PlainNode). PortsTold L z.ports) (some-node s.after m e) (step same (old n (ap (λ (z : ℕ). (slot_of w z).node) same ∙ up))))
+        (λ same m e. subst (λ (z : PlainNode). PortsTold L z.ports) (some-same s.after m e) (step same (old n (ap (λ (z : ℕ). (slot_of w z).node) same ∙ up))))
 
     node-cases : AreCases w (λ e next. ReaderTold L x next)
     node-cases =
@@ -294,7 +289,7 @@ new-below plan x = by-role (role_of plan x) refl
     by-role : (role : Role) → role_of plan x ≡ role → ReaderTold (IsBelow plan x (new_world plan)) x (new_world plan)
     by-role (IsNode f q) is =
         told-node (IsBelow plan x (new_world plan)) x (new_world plan) f q is
-        (λ n up. subst (λ (z : PlainNode). PortsTold (IsBelow plan x (new_world plan)) z.ports) (some-node (new_node (home_of plan (f, q))) n (sym (ap (λ (s : Slot). s.node) (new-slot plan x f q is)) ∙ up)) (new-node (home_of plan (f, q))))
+        (λ n up. subst (λ (z : PlainNode). PortsTold (IsBelow plan x (new_world plan)) z.ports) (some-same (new_node (home_of plan (f, q))) n (sym (ap (λ (s : Slot). s.node) (new-slot plan x f q is)) ∙ up)) (new-node (home_of plan (f, q))))
     by-role (IsClient c) is = told-client (IsBelow plan x (new_world plan)) x (new_world plan) c is (clients c (range_with_len 0 (length plan.clients)) c)
     by-role (IsSource s) is = told-source (IsBelow plan x (new_world plan)) x (new_world plan) s is
     by-role Nobody is = told-nobody (IsBelow plan x (new_world plan)) x (new_world plan) is
@@ -304,7 +299,7 @@ run-below plan events x checked =
     every-run plan (λ w. ReaderTold (IsBelow plan x w) x w) (new-below plan x)
     (λ before e h.
     let w = run plan before in
-    let same = run-of plan before in
+    let same = run-plan plan before in
     subst (λ (z : Plan). ReaderTold (IsBelow z x (happens w e)) x (happens w e)) same
     (step-below w (1 + length before) x e (run-good plan before checked).fine (run-order plan before checked) (subst (λ (z : Plan). ReaderTold (IsBelow z x w) x w) (sym same) h))) events
 

@@ -24,16 +24,16 @@ use Rattle.world_model.specs.Worlds.{World, Envelope, slot_of, client_at, happen
 use Rattle.world_model.specs.Schedules.{Progress, next_progress, may_follow}
 use Rattle.world_model.specs.Steady.{NoneRecovers, NoneThree, IsHeardAt, AreHeard as AreAllHeard, HeardBy, TickIsHeard}
 use Rattle.law_safety.proofs.Pointwise.{sender-of}
-use Rattle.law_safety.proofs.Tests.{eq-test}
+use Rattle.dpc_lists.proofs.Truths.{eq-test}
+use Rattle.dpc_lists.proofs.Somes.{some-same}
 use Rattle.law_granting.specs.Taken.{node_port, role_port, port_of}
 use Rattle.law_granting.proofs.Moves.{get-mapped, get-was}
 use Rattle.law_schedules.specs.Journals.{Ticks}
-use Rattle.law_settling.specs.Phased.{is_quiet}
 use Rattle.law_settling.proofs.Lines.{place-low}
 use Rattle.law_settling.proofs.PortExact.{port_after}
 use Rattle.law_settling.proofs.PortGoing.{PortGoes, port-goes}
-use Rattle.law_settling.proofs.PortSteps.{some-port}
-use Rattle.law_settling.proofs.Rules.{is_tick, same-tick}
+use Rattle.world_model.specs.Events.{is_tick, is_quiet}
+use Rattle.law_settling.proofs.Rules.{same-tick}
 use Rattle.law_settling.proofs.Splitting.{IsQuietAt}
 use Rattle.law_settling_readers.proofs.Reading.{replica_at, replicas_in, sends_it, Stand, replica-sends}
 
@@ -169,12 +169,9 @@ module _ (script : Script) (x p f k : ℕ) where
   takes-sends z q st there a i place =
       let pl = z.world.plan in
       let found = sender-of pl (inputs_of pl (role_of pl x)) a p i place in
-      let same : found.stream ≡ Frag f = some-stream found.stream (Frag f) (sym found.at ∙ st.line.port.there) in
+      let same : found.stream ≡ Frag f = some-same found.stream (Frag f) (sym found.at ∙ st.line.port.there) in
       let from = place-low a (senders_of pl (Frag f)) i (subst (λ (s : StreamRef). place_of (λ b. a == b) (senders_of pl s) ≡ Some i) same found.place) in
       ap (λ (v : Plan). sends_it v f a) (sym st.of_plan) ∙ ap (λ (b : ℕ). sends_it z.world.plan f b) (sym from.1) ∙ replica-sends script.plan x p f k z.world st q there i from.0
-    where
-      some-stream : (y v : StreamRef) → ◌≡◌ {A = Option StreamRef} (Some y) (Some v) → y ≡ v
-      some-stream y v d = cc
 
   -- the port before an event, and what became of one replica's watch
   pub record WatchWas (z : Progress) (e : Event) (r : Port) (i : ℕ) (u : Watch) : Type 0 where
@@ -188,7 +185,7 @@ module _ (script : Script) (x p f k : ℕ) where
   pub watch-was : (z : Progress) (e : Event) → is_quiet e ≡ true → Stand script.plan x p f k z.world → NoneRecovers (happens z.world e).nodes → (q r : Port) → port_of z.world x p ≡ Some q → port_of (happens z.world e) x p ≡ Some r → (i : ℕ) (u : Watch) → slice_get r.watches i ≡ Some u → WatchWas z e r i u
   watch-was z e quiet st calm_next q r there now i u at =
       let n = port-goes z.world st.most x p (Frag f) st.fine st.many st.line.port st.calm e quiet calm_next q there in
-      let one : n.0 ≡ r = some-port n.0 r (sym n.1 ∙ now) in
+      let one : n.0 ≡ r = some-same n.0 r (sym n.1 ∙ now) in
       let goes = subst (λ (y : Port). PortGoes z.world x p (Frag f) e (happens z.world e) q y) one n.2 in
       let k = watch-goes z.world x p e (Frag f) (happens z.world e) q r goes i u at in
       record { port = q; there = there; many = watches-many z.world x p e (Frag f) (happens z.world e) q r goes; watch = k.0; at = k.1; goes = k.2 }
@@ -197,15 +194,12 @@ module _ (script : Script) (x p f k : ℕ) where
 
 none-third : (ws : List Watch) → NoneThree ws → (i : ℕ) (v : Watch) → slice_get ws i ≡ Some v → v.ticks ≡ 3 → ⊥
 none-third [] h i v at three = cc
-none-third (w ∷ ws) h zero v at three = h.0 (ap (λ (y : Watch). y.ticks) (some-watch w v at) ∙ three)
-  where
-    some-watch : (y z : Watch) → ◌≡◌ {A = Option Watch} (Some y) (Some z) → y ≡ z
-    some-watch y z d = cc
+none-third (w ∷ ws) h zero v at three = h.0 (ap (λ (y : Watch). y.ticks) (some-same w v at) ∙ three)
 none-third (w ∷ ws) h (suc i) v at three = none-third ws h.1 i v at three
 
 port-heard : (ports : List Port) (p : ℕ) (q : Port) → AreAllHeard ports → slice_get ports p ≡ Some q → IsHeardAt q
 port-heard [] p q h at = cc
-port-heard (y ∷ ports) zero q h at = subst (λ (z : Port). IsHeardAt z) (some-port y q at) h.0
+port-heard (y ∷ ports) zero q h at = subst (λ (z : Port). IsHeardAt z) (some-same y q at) h.0
 port-heard (y ∷ ports) (suc p) q h at = port-heard ports p q h.1 at
 
 tick-heard : (w : World) (x p : ℕ) → HeardBy w x (role_of w.plan x) → NoneThird x p w
@@ -220,7 +214,7 @@ tick-heard w x p h q there several = none-third q.watches (by-role (role_of w.pl
     by-role Nobody g e = cc
     by-role (IsNode f r) g e = by-node (slot_of w x).node g e
     by-role (IsClient c) g e = (elim (p == 0) as (λ t. cond {A = Option Port} t (Some (client_at w c).port) None ≡ Some q → IsHeardAt q) [
-      | true ↦ λ d. subst (λ (z : Port). IsHeardAt z) (some-port (client_at w c).port q d) g
+      | true ↦ λ d. subst (λ (z : Port). IsHeardAt z) (some-same (client_at w c).port q d) g
       | false ↦ λ d. cc
     ]) e
 

@@ -20,7 +20,9 @@ use Rattle.world_model.specs.Worlds.{home_of, slot_of, run}
 use Rattle.world_model.specs.Safe.{HoldsOf}
 use Rattle.world_model.specs.SessionLaw.{Channel, Fits, bound_of, taken_whole}
 use Rattle.law_safety.specs.Plans.{IsChecked, IsPlace, IsCheckedPlan}
-use Rattle.law_safety.proofs.Tests.{lt-of}
+use Rattle.dpc_lists.proofs.Truths.{lt-of}
+use Rattle.dpc_lists.proofs.Elements.{some-there}
+use Rattle.dpc_model.proofs.Prefixes.{prefix-taken}
 use Rattle.law_safety.proofs.Frames.{IsGood}
 use Rattle.law_safety.proofs.Law.{run-good}
 use Rattle.law_safety.proofs.Distinct.{readers-distinct}
@@ -35,8 +37,8 @@ use Rattle.law_readers.proofs.Steps.{ports-have-read, port-holds}
 use Rattle.law_readers.proofs.Known.{run-clients}
 use Rattle.law_readers.proofs.Viewed.{views-held, node-order, counted}
 use Rattle.law_settling.specs.Finished.{IsFinished}
-use Rattle.law_settling.proofs.Seen.{range-below, index-passes, get-inside}
-use Rattle.law_settling.proofs.Full.{tally-parts, take-prefix, not-not, asks_with}
+use Rattle.law_settling.proofs.Seen.{range-below, index-passes}
+use Rattle.law_settling.proofs.Full.{tally-parts, not-not, asks_with}
 
 -- ---- what a finished replica shows
 
@@ -65,7 +67,7 @@ run-holds plan events x p s q checked port there =
 -- ---- the answer
 
 held-fits : (plan : Plan) (s : StreamRef) (u : Sess) (h : Reader) → HoldsOf plan s h → Fits plan s (asks_with u h) h
-held-fits plan s u h holds = record { stable = take-prefix h.stable (ideal plan s) holds.stable; count = refl; bound = holds.bound; tentative = not-not (is_sure h) }
+held-fits plan s u h holds = record { stable = prefix-taken h.stable (ideal plan s) holds.stable; count = refl; bound = holds.bound; tentative = not-not (is_sure h) }
 
 pub first-whole : (home : Home) (most : ℕ) (n : PlainNode) (u : Sess) (h : Reader) → IsPlace home → IsGood home most n → IsFinished home n → HoldsOf home.plan (Frag home.frag) h →
     (f : Folded) × (fold_items h (first_batch (shown home n) (asks_with u h)) ≡ Some f) × (f.after.bound ≡ home.plan.end) × (is_sure f.after ≡ true)
@@ -104,7 +106,7 @@ module _ (plan : Plan) (events : List Event) (x p f r a k i : ℕ) (checked : Is
       by-next (suc j) e =
           let read : HasRead plan x (Frag f) (run plan events).envelopes q = ports-have-read plan events checked x p (Frag f) q port there whole in
           let many = read.many in
-          let item = get-inside read.batches j (omega (arith, many, e)) in
+          let item = some-there read.batches j (omega (arith, many, e)) in
           let batch = read.each j item.0 item.1 in
           let index : index_of Line batch.envelope ≡ Some j = subst (λ (z : Channel). index_of z batch.envelope ≡ Some j) line-is batch.index in
           let o = order in
@@ -123,7 +125,7 @@ module _ (plan : Plan) (events : List Event) (x p f r a k i : ℕ) (checked : Is
       let low_next = next-low in
       let parts = tally-parts (nth no_session n.subs k) q.inlet.sess m tally in
       let count = parts.2 in
-      let found = get-inside n.subs k few in
+      let found = some-there n.subs k few in
       let it : found.0 ≡ nth no_session n.subs k = sym (ap (λ (o : Option Sub). unwrap_or o no_session) found.1) in
       let took : TookAll plan w x p (Frag f) q a = record {
         port = there;

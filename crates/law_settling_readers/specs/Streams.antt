@@ -14,8 +14,8 @@ use Rattle.dpc_model.specs.declared.plans.StreamRef.TheVariants.{Frag}
 use Rattle.dpc_model.specs.declared.scripts.Script.{Script}
 use Rattle.node_model.specs.Nodes.{PlainNode, no_fragment}
 use Rattle.world_model.specs.Worlds.{World, home_of, slot_of, run}
-use Rattle.world_model.specs.Schedules.{is_live}
-use Rattle.world_model.specs.Steady.{patience, IsSteady, OpensWell}
+use Rattle.world_model.specs.Schedules.{is_live, settling_phases}
+use Rattle.world_model.specs.Steady.{IsSteady, OpensWell}
 use Rattle.law_granting.specs.Taken.{port_of}
 use Rattle.law_schedules.specs.Journals.{phases_in}
 use Rattle.law_readers.specs.Newest.{IsPortOf}
@@ -67,7 +67,7 @@ serving_phases m = 3 * m + 12
 abbrev pub ReadersHaveStreams : Script → List Event → Type 0
 ReadersHaveStreams script events =
     CanSettle script → IsTrue (is_live script events) → OpensWell script events → IsSteady script events →
-    (before mid rest : List Event) (f : ℕ) → events ≡ before ++ (mid ++ rest) → length script.phases + patience < phases_in before →
+    (before mid rest : List Event) (f : ℕ) → events ≡ before ++ (mid ++ rest) → length script.phases + settling_phases < phases_in before →
     ((done more : List Event) → events ≡ done ++ more → length before ≤ length done → AreFinished script.plan (run script.plan done) f) →
     phases_in before + serving_phases (nth no_fragment script.plan.frags f).replicas ≤ phases_in (before ++ mid) →
     (x p : ℕ) → IsPortOf script.plan x p (Frag f) → PortHasStream script.plan (run script.plan (before ++ mid)) x p (Frag f)

@@ -10,7 +10,7 @@ use Rattle.dpc_model.specs.declared.plans.FragSpec.{FragSpec}
 use Rattle.dpc_model.specs.declared.plans.Plan.{Plan}
 use Rattle.dpc_model.specs.declared.scripts.Phase.{Phase}
 use Rattle.dpc_model.specs.declared.scripts.Script.{Script}
-use Rattle.world_model.specs.Schedules.{quiet_limit, last_clock}
+use Rattle.world_model.specs.Schedules.{settling_phases, quiet_limit, last_clock}
 use Rattle.script_rules.specs.Places.{is_between}
 use Rattle.script_rules.specs.Checking.{IsChecked, is_phase_in_range, is_directive_in_range}
 use Rattle.script_rules.specs.Facts.{has_sizes}
@@ -43,7 +43,7 @@ most_low n (f ∷ fs) low h =
     let few = replicas_low f p.0 in
     most_low (max n f.replicas) fs (omega (arith, low, few)) p.1
 
-limit_low : (f r : ℕ) → f ≤ 16 → r ≤ 4 → (f + 1) * (r + 1) * 38 ≤ 3230
+limit_low : (f r : ℕ) → f ≤ 16 → r ≤ 4 → (f + 1) * (r + 1) * settling_phases ≤ 3230
 limit_low f r few low =
     let one : (f + 1) * (r + 1) ≤ (f + 1) * 5 = mul-le-mul_left (f + 1) (omega (arith, low)) in
     omega (arith, one, few)

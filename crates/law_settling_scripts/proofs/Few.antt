@@ -1,6 +1,6 @@
 -- A checked script has at most 16 fragments, each of which reads a stream once.
 use Rattle.std.proofs.Common.{◌≡◌, ℕ, zero, suc, ◌+◌, ◌-◌, ◌<◌, ◌≤◌, Bool, true, false, not, List, [], ◌∷◌, ◌++◌, map, length, refl, sym, ap, subst, ◌∙◌, arith, Some, slice_get}
-use Rattle.std.specs.Prelude.{◌||◌, nat_lt, unwrap_or}
+use Rattle.std.specs.Prelude.{nat_lt, unwrap_or}
 use Rattle.dpc_model.specs.declared.operators.Wire.TheVariants.{Port}
 use Rattle.std.proofs.lemmas.Bool.{and_parts, ltb-true}
 use Rattle.std.proofs.lemmas.List.{length-append}
@@ -12,7 +12,6 @@ use Rattle.dpc_model.specs.declared.plans.FragSpec.{FragSpec}
 use Rattle.dpc_model.specs.declared.plans.ClientSpec.{ClientSpec}
 use Rattle.dpc_model.specs.declared.plans.Plan.{Plan}
 use Rattle.dpc_model.specs.declared.plans.StreamRef.{StreamRef}
-use Rattle.dpc_model.specs.declared.plans.StreamRef.TheVariants.{Source, Frag}
 use Rattle.dpc_model.specs.declared.scripts.Script.{Script}
 use Rattle.dpc_lists.proofs.Elements.{length-changed}
 use Rattle.script_rules.specs.Statements.{Statement, HeaderLine, SourceLine, LogLine, FragmentLine, PatienceLine, OperatorLine, ClientLine, BeginLine, SendLine, LinkLine, NodeLine, TickLine, SettleLine}
@@ -21,7 +20,8 @@ use Rattle.script_rules.specs.Checking.{IsChecked, statements_of}
 use Rattle.script_rules.specs.Facts.{reads_once}
 use Rattle.script_rules.proofs.Passing.{IsFine, Passes, all_said, checked_passes}
 use Rattle.script_rules.proofs.SaysItself.{says_itself}
-use Rattle.law_safety.proofs.Tests.{eq-test}
+use Rattle.dpc_lists.proofs.Truths.{or-right}
+use Rattle.dpc_model.proofs.Alike.{same_stream-self}
 
 -- ---- few fragments
 
@@ -63,18 +63,10 @@ few_frags s c = subst (λ (x : Script). length x.plan.frags ≤ 16) (says_itself
 
 -- ---- each stream once
 
-itself : (s : StreamRef) → same_stream s s ≡ true
-itself (Source n) = eq-test n n refl
-itself (Frag n) = eq-test n n refl
-
 any-there : (q : StreamRef → Bool) (ss : List StreamRef) (p : ℕ) (s : StreamRef) → slice_get ss p ≡ Some s → q s ≡ true → list_any q ss ≡ true
 any-there q [] p s e h = absurd cc
 any-there q (x ∷ ss) zero s e h = let same : x ≡ s = cc in let here : q x ≡ true = ap q same ∙ h in rw here refl
 any-there q (x ∷ ss) (suc p) s e h = or-right (q x) (list_any q ss) (any-there q ss p s e h)
-  where
-    or-right : (a b : Bool) → b ≡ true → (a || b) ≡ true
-    or-right true b f = refl
-    or-right false b f = f
 
 not_yes : (b : Bool) → not b ≡ true → b ≡ true → ⊥
 not_yes true h k = absurd cc
@@ -86,11 +78,11 @@ once_at (x ∷ ss) zero zero s h e f = refl
 once_at (x ∷ ss) zero (suc q) s h e f =
     let same : x ≡ s = cc in
     let parts = and_parts (not (list_any (same_stream x) ss)) (reads_once ss) h in
-    absurd (not_yes (list_any (same_stream x) ss) parts.0 (any-there (same_stream x) ss q s f (ap (λ (y : StreamRef). same_stream y s) same ∙ itself s)))
+    absurd (not_yes (list_any (same_stream x) ss) parts.0 (any-there (same_stream x) ss q s f (ap (λ (y : StreamRef). same_stream y s) same ∙ same_stream-self s)))
 once_at (x ∷ ss) (suc p) zero s h e f =
     let same : x ≡ s = cc in
     let parts = and_parts (not (list_any (same_stream x) ss)) (reads_once ss) h in
-    absurd (not_yes (list_any (same_stream x) ss) parts.0 (any-there (same_stream x) ss p s e (ap (λ (y : StreamRef). same_stream y s) same ∙ itself s)))
+    absurd (not_yes (list_any (same_stream x) ss) parts.0 (any-there (same_stream x) ss p s e (ap (λ (y : StreamRef). same_stream y s) same ∙ same_stream-self s)))
 once_at (x ∷ ss) (suc p) (suc q) s h e f = ap suc (once_at ss p q s (and_parts (not (list_any (same_stream x) ss)) (reads_once ss) h).1 e f)
 
 frag_once : (fs : List FragSpec) (i : ℕ) → list_all (λ (f : FragSpec). reads_once f.inputs) fs ≡ true → reads_once (nth [] (map (λ (f : FragSpec). f.inputs) fs) i) ≡ true

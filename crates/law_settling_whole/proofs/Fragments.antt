@@ -15,9 +15,9 @@ use Rattle.dpc_model.specs.declared.plans.StreamRef.TheVariants.{Source, Frag}
 use Rattle.dpc_model.specs.declared.scripts.Script.{Script}
 use Rattle.node_model.specs.Nodes.{no_fragment, streams_of}
 use Rattle.world_model.specs.Worlds.{World, home_of, run}
-use Rattle.world_model.specs.Schedules.{is_live}
-use Rattle.world_model.specs.Steady.{patience, IsSteady, OpensWell}
-use Rattle.law_safety.proofs.Tests.{lt-of, not-lt}
+use Rattle.world_model.specs.Schedules.{is_live, settling_phases}
+use Rattle.world_model.specs.Steady.{IsSteady, OpensWell}
+use Rattle.dpc_lists.proofs.Truths.{lt-of, not-lt}
 use Rattle.law_granting.specs.Taken.{port_of}
 use Rattle.law_schedules.specs.Journals.{phases_in}
 use Rattle.law_readers.specs.Newest.{IsPortOf}
@@ -56,8 +56,8 @@ starts-late : (first more f : ℕ) → first ≤ starts first more f
 starts-late first more zero = omega arith
 starts-late first more (suc f) = let low = starts-late first more f in omega (arith, low)
 
--- a fragment takes no more than 38(R + 1) phases, R being the most replicas
-enough : (m most : ℕ) → m ≤ 4 → m ≤ most → finishing_phases m m + serving_phases m ≤ 38 * (most + 1)
+-- a fragment takes no more than R + 1 times so many phases, R being the most replicas
+enough : (m most : ℕ) → m ≤ 4 → m ≤ most → finishing_phases m m + serving_phases m ≤ settling_phases * (most + 1)
 enough zero most low few = omega (arith, few)
 enough (suc zero) most low few = omega (arith, few)
 enough (suc (suc zero)) most low few = omega (arith, few)
@@ -137,23 +137,23 @@ AreFew plan most = (f : ℕ) → ((nth no_fragment plan.frags f).replicas ≤ 4)
 module _ (script : Script) (events : List Event) (most : ℕ) (can : CanSettle script) (lives : is_live script events ≡ true) (well : OpensWell script events) (steady : IsSteady script events)
     (serves : ReadersHaveStreams script events) (few : AreFew script.plan most) where
   abbrev pub start : ℕ → ℕ
-  start f = starts (length script.phases + patience + reading_phases + 1) (38 * (most + 1)) f
+  start f = starts (length script.phases + settling_phases + reading_phases + 1) (settling_phases * (most + 1)) f
 
   -- from its phase on each port that reads a fragment before number b has its stream
   abbrev pub AreServed : ℕ → Type 0
   AreServed b =
-      (g : ℕ) → g < b → (done rest : List Event) → events ≡ done ++ rest → start g + 38 * (most + 1) ≤ phases_in done →
+      (g : ℕ) → g < b → (done rest : List Event) → events ≡ done ++ rest → start g + settling_phases * (most + 1) ≤ phases_in done →
       (x p : ℕ) → IsPortOf script.plan x p (Frag g) → PortHasStream script.plan (run script.plan done) x p (Frag g)
 
   -- so has then every port that reads sources and such fragments
   pub port-has : (b : ℕ) → AreServed b → (done rest : List Event) → events ≡ done ++ rest → start b ≤ phases_in done →
       (x p : ℕ) (s : StreamRef) → slice_get (inputs_of script.plan (role_of script.plan x)) p ≡ Some s → IsBelow b s → HasAll script.plan (run script.plan done) x p
   port-has b served done rest is late x p (Source k) reads below =
-      let first = starts-late (length script.phases + patience + reading_phases + 1) (38 * (most + 1)) b in
+      let first = starts-late (length script.phases + settling_phases + reading_phases + 1) (settling_phases * (most + 1)) b in
       let read = sources-read script events can lives well steady done rest is (omega (arith, late, first)) x p k reads in
       record { port = read.port; there = read.there; bound = read.has.bound; sure = read.has.sure }
   port-has b served done rest is late x p (Frag g) reads below =
-      let grows = starts-grow (length script.phases + patience + reading_phases + 1) (38 * (most + 1)) g b below in
+      let grows = starts-grow (length script.phases + settling_phases + reading_phases + 1) (settling_phases * (most + 1)) g b below in
       let read = served g below done rest is (omega (arith, late, grows)) x p (record { there = reads; only = λ q there. can.once x q p (Frag g) there reads }) in
       record { port = read.port; there = read.there; bound = read.has.bound; sure = read.has.sure }
 
@@ -175,7 +175,7 @@ module _ (script : Script) (events : List Event) (most : ℕ) (can : CanSettle s
       let split : events ≡ before ++ ((mid ++ extra.0) ++ more) = at ∙ ap (λ (es : List Event). es ++ more) parts ∙ append_assoc before (mid ++ extra.0) more in
       let sum_1 = phases-add before (mid ++ extra.0) in
       let sum_2 = phases-add mid extra.0 in
-      let first = starts-late (length script.phases + patience + reading_phases + 1) (38 * (most + 1)) f in
+      let first = starts-late (length script.phases + settling_phases + reading_phases + 1) (settling_phases * (most + 1)) f in
       subst (λ (es : List Event). AreFinished script.plan (run script.plan es) f) (sym parts)
       (replicas-finish script events can lives well steady before (mid ++ extra.0) more f split (omega (arith, begins, first)) (omega (arith, takes, sum_1, sum_2)) whole-late)
     where
@@ -192,14 +192,14 @@ module _ (script : Script) (events : List Event) (most : ℕ) (can : CanSettle s
       (x p : ℕ) → IsPortOf script.plan x p (Frag f) → PortHasStream script.plan (run script.plan done) x p (Frag f)
   served-behind f served before mid more done rest is parts begins takes x p port =
       let split : events ≡ before ++ mid ++ (more ++ rest) = is ∙ ap (λ (es : List Event). es ++ rest) parts ∙ append_assoc (before ++ mid) more rest in
-      let first = starts-late (length script.phases + patience + reading_phases + 1) (38 * (most + 1)) f in
+      let first = starts-late (length script.phases + settling_phases + reading_phases + 1) (settling_phases * (most + 1)) f in
       let sum_1 = phases-add before mid in
       let sum_2 = phases-add (before ++ mid) more in
       let served_in = takes.1 in
       subst (λ (es : List Event). PortHasStream script.plan (run script.plan es) x p (Frag f)) (sym parts)
       (serves can lives well steady (before ++ mid) more rest f split (omega (arith, begins, first, sum_1)) (are-finished f served before mid (more ++ rest) split begins takes.0) (omega (arith, served_in, sum_2)) x p port)
 
-  next-served : (f : ℕ) → AreServed f → (done rest : List Event) → events ≡ done ++ rest → start f + 38 * (most + 1) ≤ phases_in done →
+  next-served : (f : ℕ) → AreServed f → (done rest : List Event) → events ≡ done ++ rest → start f + settling_phases * (most + 1) ≤ phases_in done →
       (x p : ℕ) → IsPortOf script.plan x p (Frag f) → PortHasStream script.plan (run script.plan done) x p (Frag f)
   next-served f served done rest is late =
       let m = (nth no_fragment script.plan.frags f).replicas in

@@ -22,14 +22,14 @@ use Rattle.dpc_model.proofs.Numbers.{client-role}
 use Rattle.node_model.specs.Nodes.{no_fragment}
 use Rattle.node_model.specs.Clients.{ClientState, client_stream, client_settled, new_client}
 use Rattle.world_model.specs.Worlds.{World, client_at, run, all_settled}
-use Rattle.world_model.specs.Schedules.{is_live, quiet_limit}
-use Rattle.world_model.specs.Steady.{patience, IsSteady, OpensWell, Settles}
+use Rattle.world_model.specs.Schedules.{is_live, quiet_limit, settling_phases}
+use Rattle.world_model.specs.Steady.{IsSteady, OpensWell, Settles}
 use Rattle.script_rules.specs.Places.{is_between}
 use Rattle.script_rules.specs.Facts.{is_there, has_sizes}
 use Rattle.script_rules.specs.Checking.{IsChecked}
 use Rattle.script_rules.proofs.Ranges.{between}
 use Rattle.script_rules.proofs.SaysItself.{checked_has_facts}
-use Rattle.law_safety.proofs.Tests.{both-of, eq-test, lt-of}
+use Rattle.dpc_lists.proofs.Truths.{both-of, eq-test, lt-of}
 use Rattle.law_safety.proofs.Worlding.{reading-at}
 use Rattle.law_safety.proofs.Law.{run-good}
 use Rattle.law_granting.specs.Taken.{role_port, port_of}
@@ -81,7 +81,7 @@ one-at-least (x ∷ fs) some h =
     omega (arith, one, more)
 
 -- the quiet phases are enough for all fragments
-limit-is-far : (n f most : ℕ) → 1 ≤ most → starts (n + patience + reading_phases + 1) (38 * (most + 1)) f ≤ n + (f + 1) * (most + 1) * 38
+limit-is-far : (n f most : ℕ) → 1 ≤ most → starts (n + settling_phases + reading_phases + 1) (settling_phases * (most + 1)) f ≤ n + (f + 1) * (most + 1) * settling_phases
 limit-is-far n zero most some = omega (arith, some)
 limit-is-far n (suc f) most some =
     let rest = limit-is-far n f most some in
@@ -125,7 +125,7 @@ all-done script events checked serves lives well steady full =
     let can = can_settle script checked in
     let few : AreFew script.plan most = λ f. (four-at-most frags f form.sizes, none-more 0 frags f) in
     let far = limit-is-far (length script.phases) (length frags) most (one-at-least frags form.some_frag form.sizes) in
-    let late : starts (length script.phases + patience + reading_phases + 1) (38 * (most + 1)) (length frags) ≤ phases_in events = omega (arith, far, full) in
+    let late : starts (length script.phases + settling_phases + reading_phases + 1) (settling_phases * (most + 1)) (length frags) ≤ phases_in events = omega (arith, far, full) in
     let w = run script.plan events in
     let g = run-good script.plan events can.plan in
     none-waits (client_settled w.plan) w.clients (λ c x there.

@@ -1,24 +1,15 @@
 -- The parts of a run, and its reports.
-use Rattle.std.proofs.Common.{◌≡◌, List, [], ◌∷◌, refl, ap, ◌∙◌}
+use Rattle.std.proofs.Common.{◌≡◌, List, refl, ap, ◌∙◌}
 use Rattle.dpc_model.specs.Fragments.{ideal_upto, ideal}
 use Rattle.dpc_model.specs.declared.messages.Event.{Event}
 use Rattle.dpc_model.specs.declared.plans.Plan.{Plan}
-use Rattle.world_model.specs.Worlds.{World, new_world, happens, run_from, run}
+use Rattle.world_model.specs.Worlds.{World, run}
+use Rattle.law_safety.proofs.Growing.{run-plan}
 use Rattle.report.specs.Text.{report_text, report_short, ideal_text}
-use Rattle.law_safety.proofs.Growing.{event-grows}
-use Rattle.law_safety.proofs.Law.{new_world-plan}
 use Rattle.law_upgrade.specs.Upgrading.{upgraded_plan, upgraded_world}
 use Rattle.law_upgrade.proofs.Events.{run-same}
 
 -- ---- the parts of a run
-
-run-from-plan : (w : World) (es : List Event) → (run_from w es).plan ≡ w.plan
-run-from-plan w [] = refl
-run-from-plan w (e ∷ es) = run-from-plan (happens w e) es ∙ (event-grows w e).plan
-
-run-plan : (plan : Plan) (es : List Event) → (run plan es).plan ≡ plan
-unfolding run
-run-plan plan es = run-from-plan (new_world plan) es ∙ new_world-plan plan
 
 pub plan-upgraded : (plan : Plan) (es : List Event) → (run (upgraded_plan plan) es).plan ≡ upgraded_plan plan
 plan-upgraded plan es = run-plan (upgraded_plan plan) es

@@ -1,8 +1,8 @@
 -- What a further draw, entry or phase leaves.
-use Rattle.std.proofs.Common.{◌≡◌, ℕ, suc, ◌+◌, ◌-◌, ◌*◌, ◌/◌, ◌%◌, ◌^◌, ◌<◌, ◌≤◌, ℤ, pos, true, nat_lt, List, [], ◌∷◌, ◌++◌, length, slice_index_or, Some, refl, sym, ap, ◌∙◌, arith}
-use Rattle.std.proofs.lemmas.Bool.{lt-ltb}
+use Rattle.std.proofs.Common.{◌≡◌, ℕ, suc, ◌+◌, ◌-◌, ◌*◌, ◌/◌, ◌%◌, ◌^◌, ◌<◌, ◌≤◌, ℤ, pos, List, [], ◌∷◌, ◌++◌, length, slice_index_or, Some, refl, sym, ap, ◌∙◌, arith}
 use Rattle.std.proofs.lemmas.List.FromFn.{map-range_with_len_more, length-map-range_with_len, get_or-map-range_with_len}
 use Rattle.dpc_model.specs.declared.tuples.Tuple.{Tuple}
+use Rattle.dpc_lists.proofs.Truths.{lt-test}
 use Rattle.load_gen.specs.Generated.{entries, failures, phases, next_state, state_after, entry, entries_of, failure, ending, begun, ended, failure_draw, failure_draws, phase_of, phases_of}
 
 pub state-more : (seed i : ℕ) → state_after seed (i + 1) ≡ next_state (state_after seed i)
@@ -57,14 +57,11 @@ phases-is = refl
 pub last-entries : (seed first x i : ℕ) → x ≡ state_after seed (first + 2 * i) → i ≡ 10000 → x ≡ state_after seed (first + 2 * entries)
 last-entries seed first x i e f = e ∙ ap (λ n. state_after seed (first + 2 * n)) (f ∙ sym entries-is)
 
-nat_lt-above : (a b : ℕ) → a < b → nat_lt a b ≡ true
-nat_lt-above a b l = lt-ltb a b l
-
 -- what ends and what begins in a phase, by the draws that were kept
 pub ended-is : (seed p d : ℕ) → p % 5 ≡ 2 → 2 < p → p ≤ 200 → ending (p / 5) (slice_index_or (failure_draws seed failures) (p / 5 - 1) d) ≡ ended seed p
 ended-is seed p d e low high =
     let is = failures-is in
-    rw (draw-at seed (p / 5) failures d (omega (arith, e, low)) (omega (arith, high, is)), e, nat_lt-above 2 p low) refl
+    rw (draw-at seed (p / 5) failures d (omega (arith, e, low)) (omega (arith, high, is)), e, lt-test 2 p low) refl
 
 pub begun-is : (seed p d : ℕ) → p % 5 ≡ 0 → 1 ≤ p → p ≤ 200 →
     Some (failure (p / 5) (slice_index_or (failure_draws seed failures) (p / 5 - 1) d)) ≡ begun seed p

@@ -1,10 +1,8 @@
 -- Which event of a longer journal would pass a limit first.
-use Rattle.std.proofs.Common.{◌≡◌, true, false, cond, List, [], ◌∷◌, ◌++◌, Some, None, refl, ◌∙◌}
+use Rattle.std.proofs.Common.{◌≡◌, true, false, cond, List, [], ◌∷◌, ◌++◌, Some, None, refl}
 use Rattle.dpc_model.specs.declared.messages.Event.{Event}
-use Rattle.dpc_model.specs.declared.plans.Plan.{Plan}
-use Rattle.world_model.specs.Worlds.{World, Sums, new_world, happens, run_from, run, sums_after, passes_limit}
+use Rattle.world_model.specs.Worlds.{World, Sums, happens, run_from, sums_after, passes_limit}
 use Rattle.world_core.specs.Runs.{excess_from}
-use Rattle.law_safety.proofs.Growing.{event-grows}
 
 -- where there was one, it is the same of more events
 pub excess-more : (w : World) (es fs : List Event) (s : Sums) → excess_from w es ≡ Some s → excess_from w (es ++ fs) ≡ Some s
@@ -23,12 +21,3 @@ excess-behind w (x ∷ es) fs e =
       | true ↦ λ h. absurd (cc)
       | false ↦ λ h. excess-behind (happens w x) es fs h
     ]) e
-
--- a run keeps its plan
-run_from-plan : (w : World) (es : List Event) → (run_from w es).plan ≡ w.plan
-run_from-plan w [] = refl
-run_from-plan w (e ∷ es) = run_from-plan (happens w e) es ∙ (event-grows w e).plan
-
-pub run-plan : (plan : Plan) (es : List Event) → (run plan es).plan ≡ plan
-unfolding run new_world
-run-plan plan es = run_from-plan (new_world plan) es

@@ -10,7 +10,7 @@ use Rattle.dpc_model.specs.declared.messages.Event.{Event}
 use Rattle.dpc_model.specs.declared.plans.Plan.{Plan}
 use Rattle.world_model.specs.Worlds.{World, Sums, new_world, happens, run, passes_limit}
 use Rattle.world_model.specs.Schedules.{Told, tell}
-use Rattle.law_safety.proofs.Runs.{run-push}
+use Rattle.world_model.proofs.Running.{run-push}
 use Rattle.world_core.specs.Runs.{RunOf, world_of, WouldReach, excess}
 use Rattle.world_core.specs.declared.faults.ApplyFault.{ApplyFault}
 use Rattle.world_core.specs.declared.faults.ApplyFault.TheVariants as of_apply

@@ -1,6 +1,5 @@
 -- What a node leaves and sends that takes a subscription, an acknowledgement, an ask or a grant, or is asked for a snapshot.
-use Rattle.std.proofs.Common.{◌≡◌, ℕ, suc, ◌<◌, Bool, true, false, ◌==◌, List, [], ◌∷◌, length, refl, sym, ap, subst, ◌∙◌, arith, Option, Some, None, Result, Ok, Err, Box, Global}
-use Rattle.std.proofs.lemmas.Grind.{common_steps}
+use Rattle.std.proofs.Common.{◌≡◌, ℕ, ◌<◌, Bool, true, false, ◌==◌, List, [], ◌∷◌, length, refl, sym, ap, subst, ◌∙◌, arith, Option, Some, None, Result, Ok, Err, Box, Global}
 use Rattle.std.specs.Prelude.{if◌then◌else◌, IfOk}
 use Rattle.dpc_lists.specs.Lists.{nth, changed, place_of}
 use Rattle.dpc_model.specs.Parts.{Stream, Neighbours, stream_by, shown_of}
@@ -15,7 +14,7 @@ use Rattle.dpc_model.specs.declared.messages.NodeState.{NodeState}
 use Rattle.dpc_model.specs.declared.messages.Subscribe.{Subscribe}
 use Rattle.dpc_model.specs.declared.tuples.Tuple.{Tuple}
 use Rattle.dpc_model.specs.declared.tuples.Item.{Item}
-use Rattle.dpc_lists.proofs.Places.{place-within}
+use Rattle.dpc_lists.proofs.Places.{place-within, place-nth}
 use Rattle.soutput.specs.Laws.{outputs_at}
 use Rattle.node_links.specs.Linking.{LinksValue}
 use Rattle.node_model.specs.Mails.{Snap, Stepped, mail}
@@ -53,20 +52,6 @@ one-mail : (home : Home) (a b : ℕ) (m : Message) → a ≡ b → AreMails home
 one-mail home a b m e = (record { to = e; packet = refl }, tt)
 
 -- ---- readers
-
--- the element at a place that was found is the one that was looked for
-pub nth-place : (a : ℕ) (xs : List ℕ) (k : ℕ) → place_of (λ b. a == b) xs ≡ Some k → nth 0 xs k ≡ a
-nth-place a [] k e = absurd (cc)
-nth-place a (x ∷ xs) k e = here (λ i f. nth-place a xs i f) (a == x) refl (place_of (λ b. a == b) xs) refl e
-  where
-    later : Option ℕ → Option ℕ
-    later o = elim o [ None ↦ None | Some i ↦ Some (suc i) ]
-
-    here : ((i : ℕ) → place_of (λ b. a == b) xs ≡ Some i → nth 0 xs i ≡ a) → (b : Bool) → (a == x) ≡ b → (o : Option ℕ) → place_of (λ b. a == b) xs ≡ o →
-        (if b then Some 0 else later o) ≡ Some k → nth 0 (x ∷ xs) k ≡ a
-    here rest true t o f e = let first : 0 ≡ k = cc in rw (sym first) (grind (arith, common_steps, t))
-    here rest false t None f e = absurd (cc)
-    here rest false t (Some i) f e = let next : suc i ≡ k = cc in rw (sym next) (rest i f)
 
 pub reader-is : (home : Home) (v : NodeValue) (p : PlainNode) (a : ℕ) (o : Option ℕ) → StandsForNode home v p → o ≡ place_of (λ b. a == b) v.readers → o ≡ reader_place home a
 reader-is home v p a o h e = e ∙ ap (λ (rs : List ℕ). place_of (λ b. a == b) rs) h.readers
@@ -142,7 +127,7 @@ subscribed home v p path a k asked answer told h up found set has sent =
     let outputs : outputs_of step.after ≡ record (outputs_of p) { subs = changed k (λ _. (answer_in ops v.path (is_stable v.state) k asked (inputs_of p) (outputs_of p)).after) p.subs } =
     ap (λ (b : Answered). record (outputs_of p) { subs = changed k (λ _. b.after) p.subs }) (sym same) in
     let mails : told ≡ answer_mail a given.answer = sent ∙ ap (answer_mail a) (has.answer ∙ ap (λ (b : Answered). b.answer) same) in
-    let to : a ≡ nth 0 (own_readers home) k = sym (nth-place a (own_readers home) k (sym found)) in
+    let to : a ≡ nth 0 (own_readers home) k = sym (place-nth a (own_readers home) k (sym found)) in
     subst (λ (s : Stepped PlainNode). IsTakenAs (record v { path = path }) told home s) (sym is)
     (record {
       after = stand-path home v p step.after path (inputs_of p) _ h set has.stands refl outputs refl refl refl refl;
@@ -182,7 +167,7 @@ asked home v p links a r inc ask granted told h found test made sent =
         record {
           after = subst (λ (l : LinksValue). StandsForNode home (record v { links = l }) q) (sym made) (stand-links home v p q _ h (ap given h.links) refl refl refl refl refl);
           sends = subst (λ (ms : List code_mail.Mail). AreMails home ms (mail (nth 0 (replicas_of home.plan home.frag) r) (message.Grant inc ask) ∷ [])) (sym sent)
-              (one-mail home a (nth 0 (replicas_of home.plan home.frag) r) (message.Grant inc ask) (sym (nth-place a (replicas_of home.plan home.frag) r (sym found))));
+              (one-mail home a (nth 0 (replicas_of home.plan home.frag) r) (message.Grant inc ask) (sym (place-nth a (replicas_of home.plan home.frag) r (sym found))));
         }
     answered false made sent = silently home (record v { links = links }) p told (subst (λ (l : LinksValue). StandsForNode home (record v { links = l }) p) (sym made) h) sent
 

@@ -6,6 +6,7 @@ use Rattle.dpc_lists.specs.Lists.{list_all}
 use Rattle.dpc_model.specs.Parts.{Neighbours}
 use Rattle.dpc_model.specs.Replicas.{is_absent}
 use Rattle.dpc_model.specs.declared.messages.Message.TheVariants as message
+use Rattle.dpc_lists.proofs.Truths.{and-none}
 use Rattle.node_links.specs.Linking.{LinksValue, peers_in, asking, after_asking}
 use Rattle.node_links.specs.declared.links.Asked.{Asked}
 use Rattle.node_links.specs.declared.links.Asked.TheVariants as asked
@@ -127,11 +128,7 @@ promised v links told same from none = record {
     rests : (home : Home) (p : PlainNode) → is_none p.grants.promise ≡ false → ask_step home p ≡ idle_step p
     rests home p free =
         ask-is home p (wants_to_reconcile home p) false (list_all is_absent (peer_watches home p)) refl free refl
-        ∙ silent-same (wants_to_reconcile home p) false (list_all is_absent (peer_watches home p)) home p (and-false (wants_to_reconcile home p))
-      where
-        and-false : (b : Bool) → (b && false) ≡ false
-        and-false true = refl
-        and-false false = refl
+        ∙ silent-same (wants_to_reconcile home p) false (list_all is_absent (peer_watches home p)) home p (and-none (wants_to_reconcile home p))
 
 -- every other one is absent
 pub alone : (v : NodeValue) (told : Option Asked) (home : Home) (p : PlainNode) → StandsForNode home v p → told ≡ asking v.links.me v.links.known → told ≡ Some asked.Enter →

@@ -22,7 +22,7 @@ use Rattle.sunion.specs.Laws.{new_inputs}
 use Rattle.pipeline.specs.Flowing.{PipelineValue, StandsForData}
 use Rattle.pipeline.specs.Recovery.{IsSetFor, opened_outputs, restarted_inputs, restarted_outputs}
 use Rattle.law_node.proofs.Viewed.{inlets}
-use Rattle.law_node.specs.Making.{IsReplica}
+use Rattle.node_model.specs.Making.{IsReplica}
 use Rattle.node_core.specs.Standing.{NodeValue, StandsForNode}
 
 there : {X : Type 0} (d : X) (xs : List X) (i : ℕ) → i < length xs → slice_get xs i ≡ Some (nth d xs i)

@@ -1,6 +1,5 @@
 -- Work that was done apart: whether the node still stands where it was taken, and what it is to be put back.
 use Rattle.std.proofs.Common.{◌≡◌, ◌↔◌, ℕ, ◌-◌, ◌<◌, ◌≤◌, Bool, true, false, not, ◌||◌, ◌==◌, nat_lt, List, length, refl, sym, ap, subst, ◌∙◌, arith, IsTrue, Result, Ok, Err}
-use Rattle.std.proofs.lemmas.Grind.{common_steps}
 use Rattle.dpc_model.specs.PartStands.{at_cursor}
 use Rattle.dpc_model.specs.declared.tuples.Tuple.{Tuple}
 use Rattle.dpc_model.specs.declared.tuples.Tagged.{Tagged}
@@ -14,6 +13,7 @@ use Rattle.law_node.specs.Fitting.{IsFit}
 use Rattle.law_node.proofs.Buckets.{buckets-are}
 use Rattle.law_node.proofs.Fits.{are-ready, some-ready}
 use Rattle.dpc_model.specs.Limits.{most_milled}
+use Rattle.dpc_lists.proofs.Truths.{eq-of, not-false, neither}
 use Rattle.node_core.specs.declared.faults.Point.{Point}
 use Rattle.node_core.specs.declared.faults.CommitFault.{CommitFault}
 use Rattle.node_core.specs.declared.faults.CommitFault.TheVariants.{Stale}
@@ -58,17 +58,6 @@ none-fits home v p o h e some fits = let none = none-ready home v p h e in let f
 
 -- ---- whether it is stale
 
-neither : (a b : Bool) → (a || b) ≡ false → (a ≡ false) × (b ≡ false)
-neither true b e = cc
-neither false b e = (refl, e)
-
-not-not : (a : Bool) → not a ≡ false → a ≡ true
-not-not true e = refl
-not-not false e = cc
-
-same-numbers : (a b : ℕ) → (a == b) ≡ true → a ≡ b
-same-numbers a b e = grind (arith, common_steps, e)
-
 pub record StandsThere (had needed : Point) : Type 0 where
   pub inc : had.inc ≡ needed.inc
   pub cursor : had.cursor ≡ needed.cursor
@@ -80,9 +69,9 @@ not-stale had needed e =
     let b = neither (not (had.inc == needed.inc) || not (had.cursor == needed.cursor)) (nat_lt had.ready needed.ready) a.0 in
     let c = neither (not (had.inc == needed.inc)) (not (had.cursor == needed.cursor)) b.0 in
     record {
-      inc = same-numbers had.inc needed.inc (not-not (had.inc == needed.inc) c.0);
-      cursor = same-numbers had.cursor needed.cursor (not-not (had.cursor == needed.cursor) c.1);
-      fits = not-not had.fits a.1;
+      inc = eq-of had.inc needed.inc (not-false (had.inc == needed.inc) c.0);
+      cursor = eq-of had.cursor needed.cursor (not-false (had.cursor == needed.cursor) c.1);
+      fits = not-false had.fits a.1;
     }
 
 -- ---- what is put back

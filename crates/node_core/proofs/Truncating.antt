@@ -1,6 +1,5 @@
 -- What a node leaves that ends marks, and where a replica truncated what was asked for.
 use Rattle.std.proofs.Common.{◌≡◌, ℕ, zero, suc, ◌+◌, ◌*◌, ◌<◌, Bool, true, false, not, ◌&&◌, List, [], ◌∷◌, map, length, refl, sym, ap, subst, ◌∙◌, arith, Option, Some}
-use Rattle.std.proofs.lemmas.Grind.{common_steps}
 use Rattle.std.specs.List.{AllZip}
 use Rattle.std.specs.Prelude.{if◌then◌else◌}
 use Rattle.dpc_lists.specs.Lists.{nth, changed}
@@ -10,7 +9,9 @@ use Rattle.dpc_model.specs.Parts.{Inputs, Upstream, Neighbours}
 use Rattle.dpc_model.specs.PartStands.{InletValue, StandsForInlet}
 use Rattle.dpc_model.specs.Replicas.{with_mark, after_count}
 use Rattle.dpc_model.specs.declared.messages.Sess.{Sess}
-use Rattle.dpc_lists.proofs.Elements.{length-changed}
+use Rattle.dpc_lists.proofs.Elements.{length-changed, changed-to-same, nth-here}
+use Rattle.dpc_lists.proofs.Truths.{not-twice}
+use Rattle.dpc_model.proofs.Alike.{same_sess-self}
 use Rattle.upstream.specs.Upstreams.{with_marks_ended, with_truncation, port_by}
 use Rattle.sunion.specs.Unions.{no_value}
 use Rattle.node_links.specs.Linking.{LinksValue, with_upstream, no_upstream}
@@ -84,19 +85,6 @@ marks-ended home v new p n h many is =
 
 -- ---- truncations
 
-same-itself : (s : Sess) → same_sess s s ≡ true
-same-itself s = grind (arith, common_steps)
-
-kept-there : {X : Type 0} (none : X) (i : ℕ) (xs : List X) → changed i (λ _. nth none xs i) xs ≡ xs
-kept-there none i [] = refl
-kept-there none zero (x ∷ xs) = refl
-kept-there none (suc i) (x ∷ xs) = ap (λ ys. x ∷ ys) (kept-there none i xs)
-
-changed-at : {X : Type 0} (none : X) (f : X → X) (i : ℕ) (xs : List X) → i < length xs → nth none (changed i f xs) i ≡ f (nth none xs i)
-changed-at none f i [] low = absurd (omega (arith, low))
-changed-at none f zero (x ∷ xs) low = refl
-changed-at none f (suc i) (x ∷ xs) low = changed-at none f i xs (omega (arith, low))
-
 -- the session of a port
 session-at : (home : Home) (v : NodeValue) (p : PlainNode) (port : ℕ) → StandsForNode home v p → port < length v.path.union.union.inlets →
     (nth no_value v.path.union.union.inlets port).state.sess ≡ (nth no_port p.ports port).inlet.sess
@@ -104,11 +92,7 @@ session-at home v p port h low =
     sess-shown (spec_of home).ops v.path (inputs_of p) (outputs_of p) port low h.path ∙ ap (λ (i : InletState). i.sess) (inlet-at port p.ports)
 
 same-session : (s u t : Sess) (b : Bool) → u ≡ t → b ≡ not (same_sess s u) → same_sess s t ≡ not b
-same-session s u t b e told = ap (λ (x : Sess). same_sess s x) (sym e) ∙ twice (same_sess s u) b told
-  where
-    twice : (c b : Bool) → b ≡ not c → c ≡ not b
-    twice true b e = ap not (sym e)
-    twice false b e = ap not (sym e)
+same-session s u t b e told = ap (λ (x : Sess). same_sess s x) (sym e) ∙ not-twice (same_sess s u) b told
 
 -- a node whose port has a mark
 abbrev pub marked : Sess → ℕ → ℕ → ℕ → PlainNode → PlainNode
@@ -130,7 +114,7 @@ truncation-left home v p a port r base s u h found low is other =
     let old = nth no_port p.ports port in
     let differs : same_sess s old.inlet.sess ≡ false = same-session s u old.inlet.sess true (is ∙ session-at home v p port h low) other in
     let stays : on_truncated r s base old ≡ old = ap (λ (b : Bool). record old { watches = if b then changed r (with_mark base) old.watches else old.watches }) differs in
-    let same : marked s port r base p ≡ p = ap (λ (q : Port). with_port port (λ _. q) p) stays ∙ ap (λ (ports : List Port). record p { ports = ports }) (kept-there no_port port p.ports) in
+    let same : marked s port r base p ≡ p = ap (λ (q : Port). with_port port (λ _. q) p) stays ∙ ap (λ (ports : List Port). record p { ports = ports }) (changed-to-same no_port port p.ports) in
     let left : on_truncation home s base (sender_at home.plan (streams_of home) a) p ≡ p =
     ap (λ (o : Option (ℕ × ℕ)). on_truncation home s base o p) (sym found) ∙ truncation-is home s port r base p false _ differs refl ∙ same in
     subst (λ (n : PlainNode). StandsForNode home v n) (sym left) h
@@ -142,7 +126,7 @@ mark-stands home v p links port r base s h same is =
     let old = nth no_port p.ports port in
     let m = marked s port r base p in
     let marks : Port → Port = λ q. record q { watches = (on_truncated r old.inlet.sess base q).watches } in
-    let alike : marks old ≡ on_truncated r s base old = ap (λ (b : Bool). record old { watches = if b then changed r (with_mark base) old.watches else old.watches }) (same-itself old.inlet.sess ∙ sym same) in
+    let alike : marks old ≡ on_truncated r s base old = ap (λ (b : Bool). record old { watches = if b then changed r (with_mark base) old.watches else old.watches }) (same_sess-self old.inlet.sess ∙ sym same) in
     let here : with_port port marks p ≡ m =
     ap (λ (ports : List Port). record p { ports = ports }) (sym (changed-there no_port marks port p.ports)) ∙ ap (λ (q : Port). with_port port (λ _. q) p) alike in
     let known : with_upstream port (with_truncation r base) v.links.known ≡ neighbours_of m =
@@ -166,7 +150,7 @@ all-marked : (home : Home) (v : NodeValue) (p : PlainNode) (links : LinksValue) 
 all-marked home v p links port r base s h same is low =
     let old = nth no_port p.ports port in
     let tells : Upstream → Bool = λ u. all_truncated (port_by false false u) in
-    ap (λ (l : LinksValue). tells (nth no_upstream l.known.upstreams port)) is ∙ ap tells (changed-at no_upstream (with_truncation r base) port v.links.known.upstreams low)
+    ap (λ (l : LinksValue). tells (nth no_upstream l.known.upstreams port)) is ∙ ap tells (nth-here no_upstream port (with_truncation r base) v.links.known.upstreams low)
     ∙ ap (λ (u : Upstream). tells (with_truncation r base u)) (upstream-at home v p port h)
     ∙ ap (λ (b : Bool). all_truncated (record old { watches = if b then changed r (with_mark base) old.watches else old.watches })) (sym same)
 

@@ -4,7 +4,7 @@ ghost use Rattle.dpc_model.specs.declared.faults.StepFault.TheVariants as fault;
 ghost use Rattle.node_model.specs.Mails.{Packet as PlainPacket};
 ghost use Rattle.node_model.specs.Nodes.{Home, PlainNode, new_node, restarted_node, ready};
 ghost use Rattle.node_model.specs.NodeSteps.{tick_step};
-ghost use Rattle.law_node.specs.Making.{IsReplica};
+ghost use Rattle.node_model.specs.Making.{IsReplica};
 ghost use Rattle.node_core.specs.Milling.{CanMillNode, MillSteps};
 ghost use Rattle.node_core.specs.Standing.{StandsForNode};
 ghost use Rattle.node_core.specs.Stepping.{IsSound, Steps, CanTake, IsTaken};

@@ -1,8 +1,7 @@
 -- What the calls make of the neighbours is what the plain node's steps leave of them.
-use Rattle.std.proofs.Common.{◌≡◌, ℕ, zero, suc, ◌+◌, true, not, ◌==◌, List, [], ◌∷◌, map, filter, refl, ap, ◌∙◌, arith, Option, Some, None}
-use Rattle.std.proofs.lemmas.Grind.{common_steps}
+use Rattle.std.proofs.Common.{◌≡◌, ℕ, zero, suc, ◌+◌, not, ◌==◌, List, [], ◌∷◌, map, filter, refl, ap, ◌∙◌, Option, Some, None}
 use Rattle.dpc_lists.specs.Lists.{nth, changed, place_of}
-use Rattle.dpc_model.specs.Inlets.{InletState, same_sess}
+use Rattle.dpc_model.specs.Inlets.{InletState}
 use Rattle.dpc_model.specs.Ports.{Port, no_port, port_at, sender_from, on_beat, on_truncated, port_after_tick}
 use Rattle.dpc_model.specs.Parts.{Upstream, Neighbours}
 use Rattle.dpc_model.specs.Actors.{senders_of, replicas_of}
@@ -10,6 +9,7 @@ use Rattle.dpc_model.specs.declared.messages.Beat.{Beat}
 use Rattle.dpc_model.specs.declared.messages.Sess.{Sess}
 use Rattle.dpc_model.specs.declared.plans.Plan.{Plan}
 use Rattle.dpc_model.specs.declared.plans.StreamRef.{StreamRef}
+use Rattle.dpc_model.proofs.Alike.{same_sess-self}
 use Rattle.node_model.specs.Nodes.{PlainNode, streams_of, new_node, restarted_node}
 use Rattle.node_model.specs.NodeSteps.{emptied_port, on_upstream_beat, on_peer_beat, after_loss, after_clock}
 use Rattle.node_model.specs.NodeParts.{upstream_of, neighbours_of}
@@ -75,9 +75,6 @@ own-beat : (b : Beat) (r : Option ℕ) (n : PlainNode) → after_own_beat b r (n
 own-beat b None n = refl
 own-beat b (Some r) n = refl
 
-same-itself : (s : Sess) → same_sess s s ≡ true
-same-itself s = grind (arith, common_steps)
-
 -- a port that is marked for its own session
 abbrev marked : ℕ → ℕ → Sess → Port → Port
 marked r base s q = record q { watches = (on_truncated r s base q).watches }
@@ -85,7 +82,7 @@ marked r base s q = record q { watches = (on_truncated r s base q).watches }
 marked-seen : (p r base : ℕ) (ports : List Port) →
     changed p (with_truncation r base) (map upstream_of ports) ≡ map upstream_of (changed p (marked r base (nth no_port ports p).inlet.sess) ports)
 marked-seen p r base [] = refl
-marked-seen zero r base (q ∷ ports) = rw (same-itself q.inlet.sess) refl
+marked-seen zero r base (q ∷ ports) = rw (same_sess-self q.inlet.sess) refl
 marked-seen (suc p) r base (q ∷ ports) = ap (λ (us : List Upstream). upstream_of q ∷ us) (marked-seen p r base ports)
 
 pub messages-stand : MessagesStand

@@ -2,10 +2,8 @@
 use Rattle.std.proofs.Common.{◌≡◌, ℕ, suc, ◌+◌, ◌<◌, ◌==◌, List, [], ◌∷◌, length, refl, ap, arith, Option, Some, None}
 use Rattle.dpc_lists.specs.Lists.{nth, place_of}
 use Rattle.dpc_lists.proofs.Places.{place-within}
+use Rattle.dpc_lists.proofs.Somes.{some-same}
 use Rattle.node_links.specs.Linking.{sender_among}
-
-some-same : {X : Type 0} (x y : X) → Some x ≡ Some y → x ≡ y
-some-same x y e = cc
 
 -- a port and a replica of it
 pub record IsSender (k : ℕ) (ss : List (List ℕ)) (p r : ℕ) : Type 0 where

@@ -5,3 +5,4 @@ pub mod Sources
 pub mod Clients
 pub mod NodeParts
 pub mod Stands
+pub mod Making

@@ -6,6 +6,7 @@ use Rattle.std.specs.List.{filter, list_any, slice_get, AllByRecursion}
 use Rattle.std.specs.Option.{option_to_list}
 use Rattle.std.specs.Ordering.{nat_cmp, is_eq}
 use Rattle.std.proofs.lemmas.List.Elements.{All-from_recursion, filter-append}
+use Rattle.dpc_lists.proofs.Truths.{or-none, or-second, and-true}
 use Rattle.ops_join.specs.Sides.{places_from, at_places}
 
 -- whether the element at a place passes a test
@@ -30,14 +31,6 @@ below-step : (c : Bool) (n m : ℕ) (ps : List ℕ) → n < m → AllByRecursion
 below-step true n m ps h s = (h, s)
 below-step false n m ps h s = s
 
-pub or_true : (b : Bool) → (b || false) ≡ b
-or_true true = refl
-or_true false = refl
-
-pub and_true : (b : Bool) → (b && true) ≡ b
-and_true true = refl
-and_true false = refl
-
 last-step : (c : Bool) (ps : List ℕ) (p : ℕ) → ps ++ cond c (p ∷ []) [] ≡ cond c (ps ++ p ∷ []) ps
 last-step true ps p = refl
 last-step false ps p = append-nil ps
@@ -58,17 +51,12 @@ or_first : (a b c : Bool) → (a || (b || c)) ≡ ((a || b) || c)
 or_first true b c = refl
 or_first false b c = refl
 
-or_second : (a b c : Bool) → (a || (b || c)) ≡ (b || (a || c))
-or_second true true c = refl
-or_second true false c = refl
-or_second false b c = refl
-
 either-step : (m n : ℕ) (p q : Bool) (ps qs rs : List ℕ) → list_any (λ k. is_eq (nat_cmp m k)) rs ≡ (list_any (λ k. is_eq (nat_cmp m k)) ps || list_any (λ k. is_eq (nat_cmp m k)) qs) →
     list_any (λ k. is_eq (nat_cmp m k)) (cond (p || q) (n ∷ rs) rs)
     ≡ (list_any (λ k. is_eq (nat_cmp m k)) (cond p (n ∷ ps) ps) || list_any (λ k. is_eq (nat_cmp m k)) (cond q (n ∷ qs) qs))
 either-step m n true true ps qs rs h = rw h (or_both (is_eq (nat_cmp m n)) (list_any (λ k. is_eq (nat_cmp m k)) ps) (list_any (λ k. is_eq (nat_cmp m k)) qs))
 either-step m n true false ps qs rs h = rw h (or_first (is_eq (nat_cmp m n)) (list_any (λ k. is_eq (nat_cmp m k)) ps) (list_any (λ k. is_eq (nat_cmp m k)) qs))
-either-step m n false true ps qs rs h = rw h (or_second (is_eq (nat_cmp m n)) (list_any (λ k. is_eq (nat_cmp m k)) ps) (list_any (λ k. is_eq (nat_cmp m k)) qs))
+either-step m n false true ps qs rs h = rw h (or-second (is_eq (nat_cmp m n)) (list_any (λ k. is_eq (nat_cmp m k)) ps) (list_any (λ k. is_eq (nat_cmp m k)) qs))
 either-step m n false false ps qs rs h = h
 
 drop_nil : {X : Type 0} (k : ℕ) → drop {A = X} k [] ≡ []
@@ -110,7 +98,7 @@ module _ {X : Type 0} where
         | true ↦ λ e.
             let here : lo - n ≡ 0 = grind (arith, common_steps) in
             let next : lo - (n + 1) ≡ 0 = grind (arith, common_steps) in
-            rw (here, next, and_true (test x)) refl
+            rw (here, next, and-true (test x)) refl
         | false ↦ λ e.
             let here : lo - n ≡ suc (lo - (n + 1)) = grind (arith, common_steps) in
             rw here (none-step (test x) (x ∷ filter test (drop (lo - (n + 1)) xs)) (filter test (drop (lo - (n + 1)) xs)))
@@ -131,7 +119,7 @@ module _ {X : Type 0} where
   -- a second test
   pass-step : (all : List X) (near : X → Bool) (c : Bool) (n : ℕ) (x : X) (ps qs : List ℕ) → slice_get all n ≡ Some x → filter (passes near all) ps ≡ qs →
       filter (passes near all) (cond c (n ∷ ps) ps) ≡ cond (near x && c) (n ∷ qs) qs
-  pass-step all near true n x ps qs h e = rw (h, or_true (near x), and_true (near x), e) refl
+  pass-step all near true n x ps qs h e = rw (h, or-none (near x), and-true (near x), e) refl
   pass-step all near false n x ps qs h e = e ∙ none-step (near x) (n ∷ qs) qs
 
   filter-places : (near test : X → Bool) (lo n : ℕ) (all xs : List X) → StandsFrom all n xs →
@@ -155,7 +143,7 @@ module _ {X : Type 0} where
   slice_get-at (y ∷ xs) (suc p) x h e = slice_get-at xs p x (omega (arith, h)) e
 
   pub passes-at : (test : X → Bool) (xs : List X) (p : ℕ) (x : X) → p < length xs → x ≡ get_or xs p x → passes test xs p ≡ test x
-  passes-at test xs p x h e = rw (slice_get-at xs p x h e) (or_true (test x))
+  passes-at test xs p x h e = rw (slice_get-at xs p x h e) (or-none (test x))
 
   -- the places where one of two tests is passed
   pub either-places : (p q : X → Bool) (m n : ℕ) (xs : List X) →

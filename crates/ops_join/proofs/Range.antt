@@ -1,5 +1,5 @@
 -- The loop over the entries from a key and a number on: it ends at the first one of another key.
-use Rattle.std.proofs.Common.{◌≡◌, ℕ, ◌-◌, ℤ, Bool, true, false, cond, not, ◌&&◌, List, [], ◌∷◌, ◌++◌, map, refl, sym, ◌∙◌, ap, arith, nat_le}
+use Rattle.std.proofs.Common.{◌≡◌, ℕ, ◌-◌, ℤ, Bool, true, false, cond, ◌&&◌, List, [], ◌∷◌, ◌++◌, map, refl, sym, ◌∙◌, ap, arith, nat_le}
 use Rattle.std.proofs.lemmas.Grind.{common_steps}
 use Rattle.std.proofs.lemmas.List.{append-nil, append_assoc}
 use Rattle.std.specs.Ordering.{nat_cmp, int_cmp, int_eq, ordering_then, is_eq, is_le, ordering_reverse}
@@ -10,9 +10,9 @@ use Rattle.std.specs.List.{filter, AllByRecursion}
 use Rattle.std.specs.List.Sorted.{IsStrictlySortedBy}
 use Rattle.std.specs.declared.cmp.Ordering.{Ordering}
 use Rattle.std.specs.declared.cmp.Ordering.TheVariants.{Less, Equal, Greater}
+use Rattle.dpc_lists.proofs.Truths.{not-of, and-true}
 use Rattle.ops_join.specs.Sides.{index_cmp}
 use Rattle.ops_join.proofs.Entries.{is_eq-then}
-use Rattle.ops_join.proofs.Places.{and_true}
 use Rattle.ops_join.proofs.Sharing.{Entry, has_key, is_behind, numbers_at, int_lists_total, int_eq-cmp_back}
 
 -- what a loop over entries knows of those that are left
@@ -113,7 +113,7 @@ module _ (key : List ℤ) (lo : ℕ) where
 
   pub behind-range : (es : List Entry) → filter (range_contains index_cmp (Included (key, lo)) Unbounded) es ≡ filter (is_behind key lo) es
   behind-range [] = refl
-  behind-range (e ∷ es) = rw (and_true (is_behind key lo e), behind-range es) refl
+  behind-range (e ∷ es) = rw (and-true (is_behind key lo e), behind-range es) refl
 
   pub loop-next : (first n : ℕ) (places more all : List ℕ) (e : Entry) (es rest : List Entry) → es ≡ e ∷ rest → n ≡ e.1 - first → more ≡ places ++ n ∷ [] → is_eq (slice_cmp int_cmp key e.0) ≡ true →
       AreLeft key lo es → places ++ places_at first es ≡ all → more ++ places_at first rest ≡ all
@@ -142,11 +142,3 @@ same-key [] [] = refl
 same-key [] (y ∷ ys) = refl
 same-key (x ∷ xs) [] = refl
 same-key (x ∷ xs) (y ∷ ys) = rw (is_eq-then (int_cmp y x) (slice_cmp int_cmp ys xs), int_eq-cmp_back x y, same-key xs ys) refl
-
-pub not-true : (b : Bool) → not b ≡ true → b ≡ false
-not-true false h = refl
-not-true true h = sym h
-
-pub not-false : (b : Bool) → not b ≡ false → b ≡ true
-not-false false h = sym h
-not-false true h = refl

@@ -15,6 +15,7 @@ use Rattle.std.specs.declared.cmp.Ordering.TheVariants.{Less, Equal, Greater}
 use Rattle.dpc_model.specs.Values.{column}
 use Rattle.dpc_model.specs.Operators.{keys_agree, is_within}
 use Rattle.dpc_model.specs.declared.tuples.Tuple.{Tuple}
+use Rattle.dpc_lists.proofs.Truths.{equal_from}
 use Rattle.ops_join.specs.declared.ends.End.{End}
 use Rattle.ops_join.specs.declared.ends.End.TheVariants.{Left, Right}
 use Rattle.ops_join.specs.Sides.{key_of, other_end, shares_key, is_partner, places_from, index_cmp, has_entry, IsIndexOf}
@@ -38,11 +39,6 @@ has_key key lo e = is_eq (slice_cmp int_cmp key e.0) && nat_le lo e.1
 -- whether an entry is at or behind a key and a number
 abbrev pub is_behind : List ℤ → ℕ → Entry → Bool
 is_behind key lo e = is_le (index_cmp (key, lo) e)
-
-equal_from : (o : Ordering) → is_eq o ≡ true → o ≡ Equal
-equal_from Less e = absurd (cc)
-equal_from Equal e = refl
-equal_from Greater e = absurd (cc)
 
 has_key-tied : (key : List ℤ) (lo : ℕ) (e : Entry) → has_key key lo e ≡ true → slice_cmp int_cmp key e.0 ≡ Equal
 has_key-tied key lo e h = equal_from (slice_cmp int_cmp key e.0) (and_parts (is_eq (slice_cmp int_cmp key e.0)) (nat_le lo e.1) h).0

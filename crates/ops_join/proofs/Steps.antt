@@ -11,9 +11,10 @@ use Rattle.std.specs.Ordering.{nat_cmp, is_eq}
 use Rattle.std.specs.BTreeSet.{BTreeSet, contains, IsOrdered}
 use Rattle.dpc_model.specs.Operators.{are_partners, pairs_with}
 use Rattle.dpc_model.specs.declared.tuples.Tuple.{Tuple}
+use Rattle.dpc_lists.proofs.Truths.{or-none}
 use Rattle.ops_join.specs.declared.ends.End.TheVariants.{Left}
 use Rattle.ops_join.specs.Sides.{is_partner, places_from, has_place, at_places}
-use Rattle.ops_join.proofs.Places.{filter-whole, or_true, either-places, slice_get-at, places-below, at_places-is}
+use Rattle.ops_join.proofs.Places.{filter-whole, either-places, slice_get-at, places-below, at_places-is}
 use Rattle.ops_join.proofs.Sharing.{places-sorted, places-same}
 
 -- ---- sets of places
@@ -32,7 +33,7 @@ has_place-push had old new p ps i h o n =
     let back : is_eq (nat_cmp (get_or ps i 0) p) ≡ is_eq (nat_cmp p (get_or ps i 0)) = grind (arith, common_steps) in
     n ∙ rw (back, o) (or_last had (has_place p (take i ps)) (is_eq (nat_cmp p (get_or ps i 0))))
     ∙ ap (λ b. had || b) (sym (ap (has_place p) (take_more ps i 0 h) ∙ list_any-append (λ q. is_eq (nat_cmp p q)) (take i ps) (get_or ps i 0 ∷ [])
-    ∙ ap (λ b. has_place p (take i ps) || b) (or_true (is_eq (nat_cmp p (get_or ps i 0))))))
+    ∙ ap (λ b. has_place p (take i ps) || b) (or-none (is_eq (nat_cmp p (get_or ps i 0))))))
 
 drop-take : {X : Type 0} (n : ℕ) (xs : List X) → drop n (take n xs) ≡ []
 drop-take zero xs = refl
@@ -71,7 +72,7 @@ with-push w keys from i p ls rs r old new low h e o n =
     (λ t.
     ap (λ (ts : List Tuple). list_any (are_partners w keys t) ts) (drop-push from i rs r low h e)
     ∙ list_any-append (are_partners w keys t) before (r ∷ [])
-    ∙ ap (λ b. had t || b) (or_true (are_partners w keys t r)))
+    ∙ ap (λ b. had t || b) (or-none (are_partners w keys t r)))
     0 ls))
 
 sorted-places : {X : Type 0} (test : X → Bool) (xs : List X) → IsStrictlySortedBy nat_cmp (places_from test 0 xs)

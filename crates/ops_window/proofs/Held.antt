@@ -9,7 +9,7 @@ use Rattle.std.specs.Map.{keys_of}
 use Rattle.dpc_model.specs.Operators.{window_count}
 use Rattle.dpc_model.specs.declared.tuples.Tuple.{Tuple}
 use Rattle.dpc_model.specs.declared.operators.Agg.{Agg}
-use Rattle.dpc_model.proofs.WindowCausality.{window_before, window_after}
+use Rattle.dpc_model.proofs.WindowCausality.{window_before, window_count-le}
 use Rattle.ops_window.specs.Windows.{Cell, group_of, begun_count}
 use Rattle.ops_window.specs.Feeding.{cell_cmp, totals_at, take_tuple, take_tuples}
 use Rattle.ops_window.proofs.WindowCells.{totals_over, begins_one, seen, cells_of, cells_of-at}
@@ -17,16 +17,6 @@ use Rattle.ops_window.proofs.CellOrder.{cells_of-sorted, same_cells}
 use Rattle.ops_window.proofs.Feeds.{begins_one-number, one_begins, within-window, count-begun, belongs, totals-more, windows-sorted, windows-at}
 
 -- ---- counts of windows
-
-pub window_count-mono : (size step b c : ℕ) → 0 < step → b ≤ c → window_count size step b ≤ window_count size step c
-window_count-mono size step b c positive h = by (nat_lt (window_count size step c) (window_count size step b)) refl
-  where
-    by : (x : Bool) → nat_lt (window_count size step c) (window_count size step b) ≡ x → window_count size step b ≤ window_count size step c
-    by false e = ltb-false (window_count size step c) (window_count size step b) e
-    by true e =
-        let ends = window_before size step b (window_count size step c) positive (ltb-true (window_count size step c) (window_count size step b) e) in
-        let over = window_after size step c (window_count size step c) positive (omega arith) in
-        absurd (omega (arith, ends, over))
 
 -- a window begins below a time where it is among those begun
 pub begun-below : (step b j : ℕ) → 0 < step → begun_count step b ≤ j → b ≤ j * step

@@ -1,5 +1,5 @@
 -- The cells behind those of the windows that ended are those from the first of them on.
-use Rattle.std.proofs.Common.{◌≡◌, ℕ, ℤ, true, false, cond, List, [], ◌∷◌, map, length, refl, arith, ◌∙◌, ap, Option, Some, None}
+use Rattle.std.proofs.Common.{◌≡◌, ℕ, ℤ, true, false, cond, List, [], ◌∷◌, map, refl, ◌∙◌, ap, Option, Some, None}
 use Rattle.std.proofs.lemmas.Cmp.{tied_itself}
 use Rattle.std.specs.List.{AllByRecursion}
 use Rattle.std.specs.List.Sorted.{IsStrictlySortedBy}
@@ -8,10 +8,6 @@ use Rattle.std.specs.declared.cmp.Ordering.TheVariants.{Less}
 use Rattle.ops_window.specs.Windows.{Cell}
 use Rattle.ops_window.specs.Feeding.{cell_cmp, has_ended, ended_cells, kept_cells, first_key, cells_from}
 use Rattle.ops_window.proofs.Steps.{greater, cell_cmp_total}
-
-pub no-elements : {X : Type 0} (xs : List X) → length xs ≡ 0 → xs ≡ []
-no-elements [] h = refl
-no-elements (x ∷ xs) h = absurd (omega (arith, h))
 
 module _ (size b : ℕ) where
   first-behind : (k j : ℕ × ℤ) (cells : List Cell) → AllByRecursion (λ y. cell_cmp k y ≡ Less) (keys_of cells) → first_key (kept_cells size b cells) ≡ Some j → cell_cmp k j ≡ Less

@@ -12,6 +12,7 @@ use Rattle.std.specs.Map.{keys_of}
 use Rattle.std.specs.BTreeMap.{insert_entry, is_at}
 use Rattle.dpc_model.specs.declared.tuples.Tuple.{Tuple}
 use Rattle.dpc_model.specs.declared.operators.Agg.{Agg}
+use Rattle.dpc_lists.proofs.Truths.{equal_from}
 use Rattle.ops_window.specs.Windows.{Cell}
 use Rattle.ops_window.specs.Feeding.{cell_cmp, totals_at, take_cell, grown}
 use Rattle.ops_window.proofs.Steps.{cell_cmp_total}
@@ -24,11 +25,6 @@ is_key q k = is_at (cell_cmp q) k
 
 pub cell_cmp_exact : CmpEqualImpliesEq cell_cmp
 cell_cmp_exact = exact_pairs nat_cmp int_cmp exact_unsigned exact_signed
-
-equal_from : (o : Ordering) → is_eq o ≡ true → o ≡ Equal
-equal_from Less e = absurd (cc)
-equal_from Equal e = refl
-equal_from Greater e = absurd (cc)
 
 pub is_key-same : (q k : ℕ × ℤ) → is_key q k ≡ true → q ≡ k
 is_key-same q k e = cell_cmp_exact q k (equal_from (cell_cmp q k) e)

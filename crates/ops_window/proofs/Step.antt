@@ -13,13 +13,13 @@ use Rattle.dpc_model.specs.declared.tuples.Tuple.{Tuple}
 use Rattle.dpc_model.specs.declared.tuples.Tagged.{Tagged}
 use Rattle.dpc_model.specs.declared.operators.Agg.{Agg}
 use Rattle.dpc_model.specs.declared.operators.OpKind.TheVariants.{Aggregate}
-use Rattle.dpc_model.proofs.WindowCausality.{window_before, window_after}
+use Rattle.dpc_model.proofs.WindowCausality.{window_before, window_after, window_count-le}
 use Rattle.dpc_model.proofs.Buckets.{at_port-append, LiesBelow-next, lies-from, lies-below, at_port-all}
 use Rattle.ops_window.specs.Windows.{Cell, window_cells, begun_count, open_cells, aggregate_value, AggregateState, AggregateAfter}
 use Rattle.ops_window.specs.Feeding.{take_tuples, ended_cells, kept_cells, cell_row}
 use Rattle.ops_window.proofs.WindowCells.{cells_of}
 use Rattle.ops_window.proofs.CellOrder.{cells_of-each}
-use Rattle.ops_window.proofs.Held.{window_count-mono, begun-below, begun-of, count-le-begun, held-first, held-all, held-more}
+use Rattle.ops_window.proofs.Held.{begun-below, begun-of, count-le-begun, held-first, held-all, held-more}
 use Rattle.ops_window.proofs.Ends.{ended_cells-split, kept_cells-split, cells_of-rows, flat_map-split, flat_map-same, flat_map-none, between-early, between-late}
 
 -- an engine of an aggregate makes what the aggregate makes
@@ -44,7 +44,7 @@ module _ (size step : ℕ) (group : Option ℕ) (aggs : List Agg) (some : 0 < si
   begun = begun_count step b'
 
   before-after : before ≤ after
-  before-after = window_count-mono size step b b' positive le
+  before-after = window_count-le size step b b' positive le
 
   after-begun : after ≤ begun
   after-begun = count-le-begun size step b' some positive
@@ -75,7 +75,7 @@ module _ (size step : ℕ) (group : Option ℕ) (aggs : List Agg) (some : 0 < si
       let one = before-after in
       let two = after-begun in
       each-weaker (λ (t : Tuple). (b ≤ t.stime) × (t.stime < b')) (λ (t : Tuple). (before ≤ window_count size step t.stime) × (t.stime / step + 1 ≤ before + (begun - before)))
-      (λ t h. let high = begun-of step b' t.stime positive h.1 in (window_count-mono size step b t.stime positive h.0, omega (arith, one, two, high))) us inside
+      (λ t h. let high = begun-of step b' t.stime positive h.1 in (window_count-le size step b t.stime positive h.0, omega (arith, one, two, high))) us inside
 
   abbrev fed : List Cell
   fed = take_tuples size step group aggs (open_cells size step group aggs ts b) us

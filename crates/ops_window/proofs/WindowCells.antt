@@ -13,6 +13,7 @@ use Rattle.dpc_lists.specs.Lists.{range_with_len, is_nil}
 use Rattle.dpc_model.specs.Operators.{between, distinct_values, insert_value}
 use Rattle.dpc_model.specs.declared.tuples.Tuple.{Tuple}
 use Rattle.dpc_model.specs.declared.operators.Agg.{Agg}
+use Rattle.dpc_lists.proofs.Truths.{or-second}
 use Rattle.ops_window.specs.Windows.{Cell, exact_total, group_of, in_group, window_cells}
 use Rattle.ops_window.specs.Feeding.{totals_at}
 use Rattle.ops_window.proofs.Lookups.{is_key, is_key-parts}
@@ -29,15 +30,9 @@ insert_value-has q y (x ∷ xs) =
       | false ↦ λ e.
           elim (int_lt y x) as (λ b. list_any (int_eq q) (cond b (y ∷ x ∷ xs) (x ∷ insert_value y xs)) ≡ (int_eq q y || list_any (int_eq q) (x ∷ xs))) [
             | true ↦ refl
-            | false ↦ rw (insert_value-has q y xs) (swapped (int_eq q x) (int_eq q y) (list_any (int_eq q) xs))
+            | false ↦ rw (insert_value-has q y xs) (or-second (int_eq q x) (int_eq q y) (list_any (int_eq q) xs))
           ]
     ]) refl
-  where
-    swapped : (a b c : Bool) → (a || (b || c)) ≡ (b || (a || c))
-    swapped true true c = refl
-    swapped true false c = refl
-    swapped false true c = refl
-    swapped false false c = refl
 
 distinct-has : (q : ℤ) (zs : List ℤ) → list_any (int_eq q) (distinct_values zs) ≡ list_any (int_eq q) zs
 distinct-has q [] = refl

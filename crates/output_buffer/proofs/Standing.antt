@@ -1,10 +1,11 @@
 -- A buffer goes on to stand for the whole stable output.
-use Rattle.std.proofs.Common.{◌≡◌, ℕ, ◌-◌, ◌≤◌, List, ◌++◌, drop, length, sym, ap, ◌∙◌, arith, max, min, length-append}
+use Rattle.std.proofs.Common.{◌≡◌, ℕ, ◌-◌, ◌≤◌, List, ◌++◌, drop, length, sym, ap, ◌∙◌, arith, length-append}
 use Rattle.std.proofs.lemmas.List.{length-drop, drop-drop, drop-append-le}
-use Rattle.dpc_lists.specs.Lists.{least, changed}
+use Rattle.dpc_lists.specs.Lists.{changed}
 use Rattle.dpc_model.specs.Sessions.{Acked, base_after, after_ack, stable_items}
 use Rattle.dpc_model.specs.Parts.{Outputs}
 use Rattle.dpc_model.specs.declared.tuples.Tuple.{Tuple}
+use Rattle.dpc_model.proofs.Numbers.{base-within}
 use Rattle.output_buffer.specs.Buffers.{BufferState, count_of, cut_to_base, StandsForBuffer}
 
 -- it tells how many tuples there were
@@ -13,9 +14,6 @@ count-stands stable x b h =
     let kept = ap (λ (ts : List Tuple). length ts) h.kept ∙ length-drop x.base stable in
     let base = h.base in
     let within = h.within in omega (arith, kept, base, within)
-
-base-within : (old least count : ℕ) → old ≤ count → max old (min least count) ≤ count
-base-within old least count h = omega (arith, h)
 
 -- cut to its base it stands for the output with that base
 pub cut-stands : (stable : List Tuple) (x : Outputs) (b : BufferState) → StandsForBuffer stable x b →

@@ -17,6 +17,7 @@ use Rattle.dpc_model.specs.declared.operators.OpSpec.{OpSpec}
 use Rattle.dpc_model.specs.declared.sessions.Sub.{Sub}
 use Rattle.dpc_model.specs.declared.tuples.Tagged.{Tagged}
 use Rattle.dpc_model.specs.declared.tuples.Tuple.{Tuple}
+use Rattle.dpc_model.proofs.Cuts.{cut-below}
 use Rattle.law_buckets.proofs.Advancing.{open-stream}
 use Rattle.checkpoint_redo.specs.Keeping.{KeptValue}
 use Rattle.fragment_mill.specs.Mills.{MillState, MillAfter}
@@ -29,7 +30,6 @@ use Rattle.sunion.specs.Laws.{inlets_anew}
 use Rattle.sunion.proofs.Lawful.{restarting-stands}
 use Rattle.pipeline.specs.Flowing.{PipelineValue, IsMillOf, StandsForData, CanProcess, stably_upto, count_upto}
 use Rattle.pipeline.specs.Recovery.{StandsForSnapshot, snap_of, lost_inputs, zeros_for, adopted_inputs, adopted_outputs, CanAdopt}
-use Rattle.pipeline.proofs.Counted.{cut-all}
 use Rattle.pipeline.proofs.Ranges.{ends-below}
 use Rattle.pipeline.proofs.Wholes.{work-data}
 use Rattle.pipeline.proofs.Work.{cursor-mill}
@@ -57,7 +57,7 @@ anew-done : (b : ℕ) (ss : List (List Tuple)) (xs : List InletState) → length
 anew-done b [] xs e low = refl
 anew-done b (ts ∷ ss) [] e low = absurd (omega (arith, e))
 anew-done b (ts ∷ ss) (x ∷ xs) e low =
-    let here = cut-all b ts (All-head (λ (us : List Tuple). All (λ (t : Tuple). t.stime < b) us) ts ss low) in
+    let here = cut-below b ts (All-head (λ (us : List Tuple). All (λ (t : Tuple). t.stime < b) us) ts ss low) in
     let rest = anew-done b ss xs (omega (arith, e)) (All-tail (λ (us : List Tuple). All (λ (t : Tuple). t.stime < b) us) ts ss low) in
     ap (λ (us : List Tuple). us ∷ map (λ (i : InletState). cut i.held.stable b) (inlets_anew b ss xs)) here ∙ ap (λ (uss : List (List Tuple)). ts ∷ uss) rest
 

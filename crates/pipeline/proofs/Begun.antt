@@ -1,5 +1,5 @@
 -- A data path that begins: at the opening, in a later incarnation, and after all was lost.
-use Rattle.std.proofs.Common.{◌≡◌, ℕ, zero, suc, ◌*◌, ◌<◌, Bool, List, [], ◌∷◌, map, length, replicate, get_or, slice_get, refl, sym, ap, subst, ◌∙◌, arith, All, Some, None}
+use Rattle.std.proofs.Common.{◌≡◌, ℕ, zero, suc, ◌*◌, ◌<◌, Bool, List, [], ◌∷◌, map, length, replicate, slice_get, refl, sym, ap, subst, ◌∙◌, arith, All, Some, None}
 use Rattle.std.proofs.lemmas.List.Elements.{All-nil, All-cons}
 use Rattle.std.proofs.lemmas.Slice.Zip.{AllZip-long}
 use Rattle.dpc_model.specs.Fragments.{AreSoundOps, AreSoundFrags}
@@ -12,6 +12,8 @@ use Rattle.dpc_model.specs.declared.operators.OpSpec.{OpSpec}
 use Rattle.dpc_model.specs.declared.plans.FragSpec.{FragSpec}
 use Rattle.dpc_model.specs.declared.sessions.Sub.{Sub}
 use Rattle.dpc_model.specs.declared.tuples.Tuple.{Tuple}
+use Rattle.dpc_model.proofs.Numbers.{none-times}
+use Rattle.dpc_model.proofs.FragmentValues.{frag-is}
 use Rattle.checkpoint_redo.specs.Keeping.{KeptValue}
 use Rattle.fragment_mill.specs.Mills.{MillState, MillAfter, specs_of}
 use Rattle.soutput.specs.Giving.{restarted_output}
@@ -24,11 +26,6 @@ use Rattle.pipeline.specs.Recovery.{restarted_inputs, lost_inputs, lost_outputs,
 use Rattle.pipeline.proofs.Opening.{before-first}
 
 -- ---- the fragment of a plan
-
-pub frag-at : (frags : List FragSpec) (i : ℕ) (d f : FragSpec) → slice_get frags i ≡ Some f → get_or frags i d ≡ f
-frag-at [] i d f e = absurd cc
-frag-at (g ∷ frags) zero d f e = cc
-frag-at (g ∷ frags) (suc i) d f e = frag-at frags i d f e
 
 pub sound-at : (frags : List FragSpec) (i : ℕ) (f : FragSpec) → AreSoundFrags frags → slice_get frags i ≡ Some f → AreSoundOps f.ops
 sound-at [] i f s e = absurd cc
@@ -50,9 +47,6 @@ none-below b (suc n) = All-cons (λ (ts : List Tuple). All (λ (t : Tuple). t.st
 
 pub none-counted : (n : ℕ) → map (λ (ts : List Tuple). length ts) (empty_streams n) ≡ replicate n 0
 none-counted n = map-replicate (λ (ts : List Tuple). length ts) [] n
-
-no-time : (w : ℕ) → 0 * w ≡ 0
-no-time w = omega arith
 
 -- ---- an output of which nothing was given
 
@@ -85,7 +79,7 @@ begins ops u k out passing x subs acks sound some ports mill held after start no
 
 restarted-are : (w inc n : ℕ) → inputs_at w inc 0 (empty_streams n) ≡ restarted_inputs n inc
 restarted-are w inc n =
-    let zero_time = no-time w in
+    let zero_time = none-times w in
     let inlets : map (λ (ts : List Tuple). restarted_inlet (stable_reader ts (0 * w)) (sess_of inc 0)) (empty_streams n) ≡ replicate n (restarted_inlet (stable_reader [] 0) (sess_of inc 0)) =
     map-replicate (λ (ts : List Tuple). restarted_inlet (stable_reader ts (0 * w)) (sess_of inc 0)) [] n ∙ ap (λ (b : ℕ). replicate n (restarted_inlet (stable_reader [] b) (sess_of inc 0))) zero_time in
     ap (λ (is : List InletState). record { inlets = is; stamps = []; cursor = 0; closed = [] }) inlets
@@ -108,7 +102,7 @@ lost-inlets b (suc n) (x ∷ xs) e = ap (λ (is : List InletState). restarted_in
 
 lost-are : (w n : ℕ) (x : Inputs) → length x.inlets ≡ n → inputs_anew w 0 (empty_streams n) x ≡ lost_inputs x
 lost-are w n x e =
-    let zero_time = no-time w in
+    let zero_time = none-times w in
     let inlets : inlets_anew (0 * w) (empty_streams n) x.inlets ≡ map (λ (i : InletState). restarted_inlet (stable_reader [] 0) i.sess) x.inlets =
     lost-inlets (0 * w) n x.inlets e ∙ ap (λ (b : ℕ). map (λ (i : InletState). restarted_inlet (stable_reader [] b) i.sess) x.inlets) zero_time in
     ap (λ (is : List InletState). record { inlets = is; stamps = []; cursor = 0; closed = [] }) inlets

@@ -1,6 +1,5 @@
 -- Of each port's stable tuples those below the cursor's bucket.
 use Rattle.std.proofs.Common.{◌≡◌, ℕ, zero, suc, ◌+◌, ◌*◌, ◌<◌, ◌≤◌, List, [], ◌∷◌, ◌++◌, map, take, length, refl, sym, ap, subst, ◌∙◌, arith}
-use Rattle.std.proofs.lemmas.Bool.{lt-ltb}
 use Rattle.std.proofs.lemmas.Simd.{map-map}
 use Rattle.std.proofs.lemmas.List.{take_all}
 use Rattle.std.proofs.lemmas.List.Elements.{All-head, All-tail}
@@ -12,17 +11,12 @@ use Rattle.dpc_model.specs.Inlets.{InletState}
 use Rattle.dpc_model.specs.Parts.{Inputs, done_in}
 use Rattle.dpc_model.specs.PartStands.{InletValue, StandsForInlet}
 use Rattle.dpc_model.specs.declared.tuples.Tuple.{Tuple}
+use Rattle.dpc_model.proofs.Cuts.{cut-below}
 use Rattle.sunion.specs.Values.{SUnionValue}
 use Rattle.sunion.specs.Unions.{StandsForInputs, AreInOrder, no_inlet, no_value}
 use Rattle.sunion.proofs.Standing.{stands-at}
 
 -- ---- one port
-
-pub cut-all : (b : ℕ) (ts : List Tuple) → All (λ (t : Tuple). t.stime < b) ts → cut ts b ≡ ts
-cut-all b [] h = refl
-cut-all b (t ∷ ts) h =
-    let low = lt-ltb t.stime b (All-head (λ (t : Tuple). t.stime < b) t ts h) in
-    rw low (ap (λ (us : List Tuple). t ∷ us) (cut-all b ts (All-tail (λ (t : Tuple). t.stime < b) t ts h)))
 
 -- ---- all ports
 

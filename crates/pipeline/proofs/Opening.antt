@@ -30,14 +30,12 @@ use Rattle.law_buckets.specs.Series.{AreReady, CanClose}
 use Rattle.law_buckets.proofs.Advancing.{open-stream}
 use Rattle.law_buckets.proofs.Ordered.{processed-ordered}
 use Rattle.dpc_model.specs.Operators.{all_of}
+use Rattle.dpc_model.proofs.Numbers.{none-times}
 use Rattle.pipeline.specs.Flowing.{PipelineValue, IsMillOf, StandsForData, stably_upto, count_upto, CanMill, CanProcess}
 use Rattle.pipeline.proofs.Work.{open-at}
 use Rattle.pipeline.proofs.Wholes.{work-data}
 
 -- ---- before the first bucket
-
-none-times : (w : ℕ) → 0 * w ≡ 0
-none-times w = omega arith
 
 none-of : (w b : ℕ) (xs : List Tagged) → b ≡ 0 → All (LiesBelow (b * w)) xs → xs ≡ []
 none-of w b [] e h = refl

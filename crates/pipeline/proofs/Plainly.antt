@@ -1,6 +1,5 @@
 -- What a value shows of the plain inputs and outputs that it stands for.
 use Rattle.std.proofs.Common.{◌≡◌, ℕ, zero, suc, ◌-◌, ◌*◌, ◌<◌, ◌≤◌, List, [], ◌∷◌, ◌++◌, length, refl, sym, ap, subst, ◌∙◌, arith, length-append}
-use Rattle.std.proofs.lemmas.Grind.{common_steps}
 use Rattle.std.proofs.lemmas.List.Elements.{All-head, All-tail, filter-append}
 use Rattle.std.specs.List.{All, AllZip}
 use Rattle.dpc_lists.specs.Lists.{nth}
@@ -10,6 +9,7 @@ use Rattle.dpc_model.specs.Parts.{Inputs, Outputs}
 use Rattle.dpc_model.specs.PartStands.{InletValue, StandsForInlet}
 use Rattle.dpc_model.specs.declared.operators.OpSpec.{OpSpec}
 use Rattle.dpc_model.specs.declared.tuples.Tuple.{Tuple}
+use Rattle.dpc_model.proofs.Cuts.{cut-below}
 use Rattle.inlet.proofs.Dropping.{kept-InOrder}
 use Rattle.sunion.specs.Unions.{AreInOrder, no_inlet, no_value}
 use Rattle.sunion.proofs.Standing.{stands-at}
@@ -60,14 +60,6 @@ sess-shown ops v x o port low h = ap (λ (i : InletState). i.sess) (inlet-shown 
 
 -- ---- the stable tuples below the cursor's bucket
 
--- tuples below b are all of what lies below it
-cut-low : (b : ℕ) (ts : List Tuple) → All (λ (t : Tuple). t.stime < b) ts → cut ts b ≡ ts
-cut-low b [] low = refl
-cut-low b (t ∷ ts) low =
-    let first = All-head (λ (u : Tuple). u.stime < b) t ts low in
-    let rest = cut-low b ts (All-tail (λ (u : Tuple). u.stime < b) t ts low) in
-    grind (arith, common_steps, first, rest)
-
 -- so many lie below a time, where those that were forgotten do, and of what is kept all but those from a place on
 pub done-counts : (b place long result : ℕ) (kept : List Tuple) (v : InletValue) (x : InletState) → InOrder x.held.stable → StandsForInlet b v x →
     kept ≡ v.state.held.stable → (InOrder kept → place ≡ count_below kept b) → place ≤ length kept → long ≡ length kept → result ≡ v.count - (long - place) → result ≡ count_below x.held.stable b
@@ -75,7 +67,7 @@ done-counts b place long result kept v x o h same here within counted_as told =
     let gone = h.kept.0 in
     let all : x.held.stable ≡ gone ++ kept = h.kept.1 ∙ ap (λ (ts : List Tuple). gone ++ ts) (sym same) in
     let cuts : cut x.held.stable b ≡ gone ++ cut kept b =
-    ap (λ (ts : List Tuple). cut ts b) all ∙ filter-append (is_below b) gone kept ∙ rw (cut-low b gone h.kept.2) refl in
+    ap (λ (ts : List Tuple). cut ts b) all ∙ filter-append (is_below b) gone kept ∙ rw (cut-below b gone h.kept.2) refl in
     let counted = ap (λ (ts : List Tuple). length ts) cuts ∙ length-append gone (cut kept b) in
     let count = h.count ∙ ap (λ (ts : List Tuple). length ts) all ∙ length-append gone kept in
     let at = here (subst InOrder (sym same) (kept-InOrder b v x o h)) in omega (arith, counted, count, at, within, counted_as, told)

@@ -11,6 +11,7 @@ use Rattle.dpc_model.specs.declared.plans.FragSpec.{FragSpec}
 use Rattle.dpc_model.specs.declared.plans.ClientSpec.{ClientSpec}
 use Rattle.dpc_model.specs.declared.plans.Plan.{Plan}
 use Rattle.dpc_model.specs.declared.plans.StreamRef.TheVariants.{Source}
+use Rattle.dpc_lists.proofs.Elements.{nil-map}
 use Rattle.script_rules.specs.Statements.{BeginLine}
 use Rattle.script_rules.specs.Drafts.{Draft, and_then, op_names, stream_named}
 use Rattle.script_rules.specs.Reasons.{first_of_tests, tests_said, is_among, is_full}
@@ -92,10 +93,6 @@ module _ (plan : Plan) where
       (subst (λ l. Judges (Ok next) n d (map (client_statement plan) l)) whole (h.judged n d at b), subst (λ l. IsBehindClients plan l (all_said d (map (client_statement plan) l))) whole (h.behind d b))
 
   -- ---- `begin`
-
-  nil-map : {X Y : Type 0} (f : X → Y) (xs : List X) → is_nil (map f xs) ≡ is_nil xs
-  nil-map f [] = refl
-  nil-map f (x ∷ xs) = refl
 
   some-empty : (fs : List FragSpec) → list_any (λ (f : FragSpec). is_nil f.ops) fs ≡ list_any (λ (ws : List Word). is_nil ws) (map op_names fs)
   some-empty [] = refl

@@ -3,32 +3,32 @@ use Rattle.std.proofs.Common.{◌≡◌, ℕ, zero, suc, ◌+◌, ◌<◌, ◌�
 use Rattle.std.specs.Prelude.{Result, Ok, Err, ◌||◌, not, nat_lt, flat_map, is_none, is_some, unwrap_or, option_map, fold}
 use Rattle.std.proofs.lemmas.Bool.{ltb-true, ltb-false}
 use Rattle.std.proofs.lemmas.List.{append-nil, append_assoc, take_all, length-map}
-use Rattle.dpc_lists.specs.Lists.{list_any}
 use Rattle.dpc_model.specs.ScriptText.{source_name, role_name, actor_name}
-use Rattle.dpc_model.specs.Actors.{roles_of, role_of, reads_from, sends_stream, are_peers, inputs_of, are_linked}
+use Rattle.dpc_model.specs.Actors.{roles_of, role_of, reads_from, are_peers, inputs_of, are_linked}
 use Rattle.dpc_model.specs.declared.actors.Role.{Role}
-use Rattle.dpc_model.specs.declared.actors.Role.TheVariants.{Source as IsSource, Node as IsNode, Client as IsClient, Nobody}
+use Rattle.dpc_model.specs.declared.actors.Role.TheVariants.{Nobody}
 use Rattle.dpc_model.specs.declared.plans.SourceSpec.{SourceSpec}
-use Rattle.dpc_model.specs.declared.plans.StreamRef.{StreamRef}
 use Rattle.dpc_model.specs.declared.plans.Plan.{Plan}
 use Rattle.dpc_model.specs.declared.scripts.Directive.{Directive}
 use Rattle.dpc_model.specs.declared.scripts.Directive.TheVariants.{Emit, Release, Cut, Heal, Lose, Repeat, Crash, Restart}
 use Rattle.dpc_model.specs.declared.scripts.Phase.{Phase}
 use Rattle.dpc_model.specs.declared.scripts.PlanFault.{PlanFault}
+use Rattle.dpc_lists.proofs.Truths.{not-false, not-both}
+use Rattle.dpc_lists.proofs.Elements.{nth-past}
+use Rattle.dpc_model.proofs.Roles.{nothing_sent, no_peer}
 use Rattle.script_rules.specs.Statements.{Statement, LinkLine, TickLine}
 use Rattle.script_rules.specs.Drafts.{Draft, and_then, plan_of, place_of_name, actor_named, op_names}
 use Rattle.script_rules.specs.Reasons.{first_of_tests, tests_said, is_among, is_node, down_after, names_link, names_node}
 use Rattle.script_rules.specs.Checking.{IsChecked, check_from, directive_statement, phase_statements}
-use Rattle.script_rules.proofs.Names.{not_both, nobody_among, twice-without, source_names_in_range, frag_names_in_range, client_names_in_range}
+use Rattle.script_rules.proofs.Names.{nobody_among, twice-without, source_names_in_range, frag_names_in_range, client_names_in_range}
 use Rattle.script_rules.proofs.Apart.{twice-first}
 use Rattle.script_rules.proofs.Streams.{no_place}
-use Rattle.script_rules.proofs.Lasts.{nth-past}
 use Rattle.script_rules.proofs.Recalled.{place-nth, nth-among}
 use Rattle.script_rules.proofs.Ranges.{ranges, header_ranges, HasHeaderRanges}
 use Rattle.script_rules.proofs.Headers.{plan_said}
 use Rattle.script_rules.proofs.Roles.{HasActorNames, actor_back, nth-map}
 use Rattle.script_rules.proofs.Forms.{checked_has_form}
-use Rattle.script_rules.proofs.Passing.{IsFine, Passes, passes, passes_first, passes_then, all_said, said-append}
+use Rattle.script_rules.proofs.Passing.{Passes, passes, passes_first, passes_then, all_said, said-append, fine_tests}
 use Rattle.script_check.specs.Judging.{told, Judges, bare, running}
 use Rattle.script_check.specs.Locals.{named_sources, named_frags, named_clients, is_down, against_directive, against_tick}
 use Rattle.script_check.proofs.Judging.{judges_none, judges_then, judges_stop, judges_one, judges_fault, map-more, map-parted, flat-more, flat-parted}
@@ -59,16 +59,6 @@ none_is : {X : Type 0} (o : Option X) → is_none o ≡ true → o ≡ None
 none_is None h = refl
 none_is (Some x) h = absurd cc
 
-nothing_sent : (ss : List StreamRef) → list_any (λ s. sends_stream s Nobody) ss ≡ false
-nothing_sent [] = refl
-nothing_sent (s ∷ ss) = nothing_sent ss
-
-no_peer : (x : Role) → are_peers x Nobody ≡ false
-no_peer (IsSource s) = refl
-no_peer (IsNode f r) = refl
-no_peer (IsClient c) = refl
-no_peer Nobody = refl
-
 abbrev joins : Plan → Role → Role → Bool
 joins plan x y = (reads_from plan x y || reads_from plan y x) || are_peers x y
 
@@ -94,7 +84,7 @@ module _ (plan : Plan) (good : IsGood plan) where
                     let here : a < length ws = let l = ltb-true a (length (roles_of plan)) low in omega (arith, l, many) in
                     let there : is_some (place_of_name w ws) ≡ true = among-place w ws ∙ ap (λ v. is_among v ws) (sym (nth-map (role_name plan) Nobody (roles_of plan) a refl)) ∙ nth-among ws a here in
                     let lost : is_some (place_of_name w ws) ≡ false = ap is_some none in
-                    absurd (not_both (is_some (place_of_name w ws)) there lost)
+                    absurd (not-both (is_some (place_of_name w ws)) there lost)
               ]) refl,
             )
       ]) refl
@@ -165,15 +155,11 @@ module _ (plan : Plan) (good : IsGood plan) where
     link_tested : (a b : ℕ) → first_of_tests ((not (names_link d (actor_name plan a) (actor_name plan b)), 8) ∷ []) ≡ first_of_tests ((not (are_linked plan a b), 8) ∷ [])
     link_tested a b = ap (λ t. first_of_tests ((not t, 8) ∷ [])) (link_same a b)
 
-    linked_is : (t : Bool) → not t ≡ false → t ≡ true
-    linked_is true h = refl
-    linked_is false h = absurd cc
-
     link_said : (make : ℕ → ℕ → Directive) (a b : ℕ) → not (are_linked plan a b) ≡ false → and_then d (LinkLine make (actor_name plan a) (actor_name plan b)) ≡ running plan ps (xs ++ make a b ∷ [])
     link_said make a b h =
-        let linked : joins plan (role_of plan a) (role_of plan b) ≡ true = linked_is (are_linked plan a b) h in
-        let first = found_actor a (λ r. not_both (joins plan (role_of plan a) (role_of plan b)) linked (ap (λ x. joins plan x (role_of plan b)) r ∙ nobody_first (role_of plan b))) in
-        let second = found_actor b (λ r. not_both (joins plan (role_of plan a) (role_of plan b)) linked (ap (joins plan (role_of plan a)) r ∙ nobody_second (role_of plan a))) in
+        let linked : joins plan (role_of plan a) (role_of plan b) ≡ true = not-false (are_linked plan a b) h in
+        let first = found_actor a (λ r. not-both (joins plan (role_of plan a) (role_of plan b)) linked (ap (λ x. joins plan x (role_of plan b)) r ∙ nobody_first (role_of plan b))) in
+        let second = found_actor b (λ r. not-both (joins plan (role_of plan a) (role_of plan b)) linked (ap (joins plan (role_of plan a)) r ∙ nobody_second (role_of plan a))) in
         ap (λ o. running plan ps (xs ++ make (unwrap_or o 0) (unwrap_or (actor_named d (actor_name plan b)) 0) ∷ [])) first ∙ ap (λ o. running plan ps (xs ++ make a (unwrap_or o 0) ∷ [])) second
 
     -- ---- nodes
@@ -197,7 +183,7 @@ module _ (plan : Plan) (good : IsGood plan) where
         ap (λ p. first_of_tests ((not (node_by p o), 8) ∷ (g (down_by o), 13) ∷ [])) same_plan ∙ by_node g a o (named_at a)
 
     node_found : (a : ℕ) → not (is_node (role_of plan a)) ≡ false → actor_named d (actor_name plan a) ≡ Some a
-    node_found a h = found_actor a (λ r. not_both (is_node (role_of plan a)) (linked_is (is_node (role_of plan a)) h) (ap is_node r))
+    node_found a h = found_actor a (λ r. not-both (is_node (role_of plan a)) (not-false (is_node (role_of plan a)) h) (ap is_node r))
 
     -- ---- a directive
 
@@ -227,9 +213,6 @@ module _ (plan : Plan) (good : IsGood plan) where
 
 -- ---- directives and phases that pass are said
 
-fine_none : (d : Draft) (s : Statement) → IsFine d s → first_of_tests (tests_said d s) ≡ None
-fine_none d s f = rw (f.name, f.known, f.time, f.columns, f.stream, f.parts, f.state, f.limit) refl
-
 module _ (plan : Plan) (good : IsGood plan) where
   abbrev said_of : Directive → Statement
   said_of = directive_statement plan
@@ -237,7 +220,7 @@ module _ (plan : Plan) (good : IsGood plan) where
   directives_said : (ps : List Phase) (xs ys : List Directive) → Passes (running plan ps xs) (map said_of ys) → all_said (running plan ps xs) (map said_of ys) ≡ running plan ps (xs ++ ys)
   directives_said ps xs [] p = ap (running plan ps) (sym (append-nil xs))
   directives_said ps xs (y ∷ ys) p =
-      let one = directive_said plan good ps xs y (sym (directive_tested plan good ps xs y) ∙ fine_none (running plan ps xs) (said_of y) p.0) in
+      let one = directive_said plan good ps xs y (sym (directive_tested plan good ps xs y) ∙ fine_tests (running plan ps xs) (said_of y) p.0) in
       ap (λ d. all_said d (map said_of ys)) one ∙ directives_said ps (xs ++ y ∷ []) ys (subst (λ d. Passes d (map said_of ys)) one p.1) ∙ ap (running plan ps) (append_assoc xs (y ∷ []) ys)
 
   phase_said : (ps : List Phase) (q : Phase) → Passes (running plan ps []) (phase_statements plan q) → all_said (running plan ps []) (phase_statements plan q) ≡ running plan (ps ++ q ∷ []) []

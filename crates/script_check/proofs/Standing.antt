@@ -17,6 +17,8 @@ use Rattle.dpc_model.specs.declared.plans.FragSpec.{FragSpec}
 use Rattle.dpc_model.specs.declared.plans.Plan.{Plan}
 use Rattle.dpc_model.specs.declared.plans.StreamRef.{StreamRef}
 use Rattle.dpc_model.specs.declared.plans.StreamRef.TheVariants.{Source, Frag}
+use Rattle.dpc_lists.proofs.Truths.{any-same}
+use Rattle.dpc_lists.proofs.Elements.{map-map, map-same}
 use Rattle.script_rules.specs.Statements.{FragmentLine, PatienceLine}
 use Rattle.script_rules.specs.Drafts.{Draft, and_then, names, op_names, plan_of, last_frag, wire_named, with_op, with_delay}
 use Rattle.script_rules.specs.Reasons.{first_of_tests, tests_said, is_among, has_twice, is_full, is_too_large, input_columns}
@@ -33,21 +35,9 @@ use Rattle.script_check.specs.Behind.{StandFor, IsBehind, StandsFor, IsInside}
 
 -- ---- lists
 
-pub map-map : {X Y Z : Type 0} (g : Y → Z) (f : X → Y) (xs : List X) → map g (map f xs) ≡ map (λ x. g (f x)) xs
-map-map g f [] = refl
-map-map g f (x ∷ xs) = ap (λ l. g (f x) ∷ l) (map-map g f xs)
-
-pub map-same : {X Y : Type 0} (f g : X → Y) (xs : List X) → ((x : X) → f x ≡ g x) → map f xs ≡ map g xs
-map-same f g [] h = refl
-map-same f g (x ∷ xs) h = ap (λ y. y ∷ map f xs) (h x) ∙ ap (λ l. g x ∷ l) (map-same f g xs h)
-
 any-map : {X Y : Type 0} (test : Y → Bool) (f : X → Y) (xs : List X) → list_any test (map f xs) ≡ list_any (λ x. test (f x)) xs
 any-map test f [] = refl
 any-map test f (x ∷ xs) = ap (λ b. test (f x) || b) (any-map test f xs)
-
-any-same : {X : Type 0} (f g : X → Bool) (xs : List X) → ((x : X) → f x ≡ g x) → list_any f xs ≡ list_any g xs
-any-same f g [] h = refl
-any-same f g (x ∷ xs) h = ap (λ b. b || list_any f xs) (h x) ∙ ap (λ b. g x || b) (any-same f g xs h)
 
 abbrev joined : List (List Word) → List Word
 joined [] = []

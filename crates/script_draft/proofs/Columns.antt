@@ -2,7 +2,7 @@
 use Rattle.std.proofs.Common.{◌≡◌, ◌≢◌, ℕ, zero, suc, ◌+◌, ◌-◌, ◌<◌, ◌≤◌, true, false, List, [], ◌∷◌, ◌++◌, map, take, length, Option, Some, None, refl, sym, ap, subst, ◌∙◌, arith, get_or, slice_set, length-append}
 use Rattle.std.specs.Prelude.{nat_le, unwrap_or}
 use Rattle.std.proofs.lemmas.Bool.{and_parts, leb-true, le-leb, ltb-true}
-use Rattle.dpc_lists.specs.Lists.{nth, push, changed, last_or, list_all, is_nil}
+use Rattle.dpc_lists.specs.Lists.{nth, push, last_or, list_all, is_nil}
 use Rattle.dpc_model.specs.Columns.{kind_columns, wire_columns, columns_after, fragment_columns, columns_by, frags_columns, stream_columns}
 use Rattle.dpc_model.specs.declared.operators.OpSpec.{OpSpec}
 use Rattle.dpc_model.specs.declared.plans.SourceSpec.{SourceSpec}
@@ -10,8 +10,9 @@ use Rattle.dpc_model.specs.declared.plans.FragSpec.{FragSpec}
 use Rattle.dpc_model.specs.declared.plans.Plan.{Plan}
 use Rattle.dpc_model.specs.declared.plans.StreamRef.{StreamRef}
 use Rattle.dpc_model.specs.declared.plans.StreamRef.TheVariants.{Source, Frag}
+use Rattle.dpc_lists.proofs.Elements.{map-same}
 use Rattle.script_rules.specs.Drafts.{Draft, plan_of, last_frag, change_last, with_op, with_delay}
-use Rattle.script_rules.proofs.Lasts.{changed-last}
+use Rattle.script_rules.proofs.Fitting.{change-last}
 use Rattle.script_draft.specs.Columns.{source_columns, columns_in, outputs_behind, last_of, front_of, ports_of, outs_of, is_among_streams, are_few, AreColumns}
 
 -- ---- the last element, and those before it
@@ -45,11 +46,6 @@ parted (f ∷ fs) h =
     let last : last_of (f ∷ fs) ≡ s.1 = ap last_of s.2 ∙ last-push s.0 s.1 in
     s.2 ∙ ap (λ l. l ++ s.1 ∷ []) (sym front) ∙ ap (λ x. front_of (f ∷ fs) ++ x ∷ []) (sym last)
 
-pub change-push : (g : FragSpec → FragSpec) (fs : List FragSpec) (f : FragSpec) → change_last g (fs ++ f ∷ []) ≡ fs ++ g f ∷ []
-change-push g fs f =
-    let many : length (fs ++ f ∷ []) - 1 ≡ length fs = let sum = length-append fs (f ∷ []) in omega (arith, sum) in
-    ap (λ n. changed n g (fs ++ f ∷ [])) many ∙ changed-last g fs f
-
 pub nil-none : {X : Type 0} (xs : List X) → length xs ≡ 0 → is_nil xs ≡ true
 nil-none [] h = refl
 nil-none (x ∷ xs) h = absurd (omega (arith, h))
@@ -63,10 +59,6 @@ some-long [] h = absurd cc
 some-long (x ∷ xs) h = omega arith
 
 -- ---- those of the plan
-
-map-same : {X Y : Type 0} (f g : X → Y) (xs : List X) → ((x : X) → f x ≡ g x) → map f xs ≡ map g xs
-map-same f g [] h = refl
-map-same f g (x ∷ xs) h = ap (λ y. y ∷ map f xs) (h x) ∙ ap (λ l. g x ∷ l) (map-same f g xs h)
 
 by-in : (plan : Plan) (frags : List ℕ) (s : StreamRef) → columns_by plan frags s ≡ columns_in (source_columns plan.sources) frags s
 by-in plan frags (Source s) = refl
@@ -237,7 +229,7 @@ columns-patience sources delay (x ∷ xs) earlier ports outs h =
     let s = split x xs in
     let now = subst (λ fs. AreColumns sources fs earlier ports outs) s.2 h in
     let outs_now : outs ≡ columns_after ports [] s.1.ops = now.outs_is ∙ ap (λ (y : FragSpec). columns_after ports [] y.ops) (last-push s.0 s.1) in
-    subst (λ fs. AreColumns sources fs earlier ports outs) (sym (ap (change_last (with_delay delay)) s.2 ∙ change-push (with_delay delay) s.0 s.1))
+    subst (λ fs. AreColumns sources fs earlier ports outs) (sym (ap (change_last (with_delay delay)) s.2 ∙ change-last (with_delay delay) s.0 s.1))
     (changed-columns sources (with_delay delay) s.0 s.1 earlier ports outs outs (λ y. refl) now outs_now h.few_outs)
 
 after-push : (ports outputs : List ℕ) (ops : List OpSpec) (op : OpSpec) →
@@ -254,7 +246,7 @@ columns-operator sources op (x ∷ xs) earlier ports outs n h some is low =
     let outs_now : outs ≡ columns_after ports [] s.1.ops = now.outs_is ∙ ap (λ (y : FragSpec). columns_after ports [] y.ops) (last-push s.0 s.1) in
     let new : outs ++ n ∷ [] ≡ columns_after ports [] (with_op op s.1).ops =
     ap (λ m. outs ++ m ∷ []) is ∙ ap (λ o. push o (kind_columns op.kind (map (wire_columns ports o) op.reads))) outs_now ∙ sym (after-push ports [] s.1.ops op) in
-    subst (λ fs. AreColumns sources fs earlier ports (outs ++ n ∷ [])) (sym (ap (change_last (with_op op)) s.2 ∙ change-push (with_op op) s.0 s.1))
+    subst (λ fs. AreColumns sources fs earlier ports (outs ++ n ∷ [])) (sym (ap (change_last (with_op op)) s.2 ∙ change-last (with_op op) s.0 s.1))
     (changed-columns sources (with_op op) s.0 s.1 earlier ports outs (outs ++ n ∷ []) (λ y. refl) now new (few-push outs n h.few_outs low))
 
 -- a log does not change them

@@ -12,6 +12,7 @@ use Rattle.dpc_lists.specs.Lists.{has}
 use Rattle.dpc_model.specs.declared.scripts.Directive.{Directive}
 use Rattle.dpc_model.specs.declared.scripts.Directive.TheVariants.{Crash, Restart}
 use Rattle.dpc_model.specs.declared.scripts.Phase.{Phase}
+use Rattle.dpc_lists.proofs.Truths.{or-none}
 use Rattle.script_rules.specs.Reasons.{down_after}
 use Rattle.script_draft.specs.Caches.{AreDown}
 
@@ -22,11 +23,7 @@ down-push phases xs x down now h step a =
     step a ∙ ap (λ b. down_after a b x) (h a) ∙ sym (fold-append (down_after a) false (said ++ xs) (x ∷ [])) ∙ ap (fold (down_after a) false) (append_assoc said xs (x ∷ []))
 
 pub has-push : (down : List ℕ) (n a : ℕ) → has (down ++ n ∷ []) a ≡ (has down a || n == a)
-has-push down n a = list_any-append (λ x. x == a) down (n ∷ []) ∙ ap (λ b. has down a || b) (or_none (n == a))
-  where
-    or_none : (b : Bool) → (b || false) ≡ b
-    or_none true = refl
-    or_none false = refl
+has-push down n a = list_any-append (λ x. x == a) down (n ∷ []) ∙ ap (λ b. has down a || b) (or-none (n == a))
 
 or_swap : (b c : Bool) → (b || c) ≡ (c || b)
 or_swap true true = refl

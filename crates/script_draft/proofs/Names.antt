@@ -8,6 +8,7 @@ use Rattle.script_rules.proofs.Apart.{among_neither}
 use Rattle.std.proofs.lemmas.Bool.{or_parts}
 use Rattle.dpc_lists.specs.Lists.{list_any}
 use Rattle.dpc_model.specs.Words.{Word}
+use Rattle.dpc_lists.proofs.Truths.{or-true}
 use Rattle.script_rules.specs.Drafts.{place_of_name, op_names}
 use Rattle.script_rules.specs.Reasons.{is_among}
 
@@ -65,11 +66,7 @@ pub operator-here : (w : Word) (i : ℕ) (f : FragSpec) (fs : List FragSpec) →
 operator-here w i f [] low is h = absurd (omega (arith, low))
 operator-here w zero f (g ∷ fs) low is h = let here : is_among w (op_names g) ≡ true = subst (λ x. is_among w (op_names x) ≡ true) is h in rw (list_any-append (bytes_eq w) (op_names g) (flat_map op_names fs), here) refl
 operator-here w (suc i) f (g ∷ fs) low is h =
-    rw (list_any-append (bytes_eq w) (op_names g) (flat_map op_names fs), operator-here w i f fs (omega (arith, low)) is h) (or_true (is_among w (op_names g)))
-  where
-    or_true : (b : Bool) → (b || true) ≡ true
-    or_true true = refl
-    or_true false = refl
+    rw (list_any-append (bytes_eq w) (op_names g) (flat_map op_names fs), operator-here w i f fs (omega (arith, low)) is h) (or-true (is_among w (op_names g)))
 
 pub no-operator-next : (w : Word) (i : ℕ) (f : FragSpec) (fs : List FragSpec) → i < length fs → f ≡ get_or fs i f → is_among w (flat_map op_names (take i fs)) ≡ false → is_among w (op_names f) ≡ false →
     is_among w (flat_map op_names (take (i + 1) fs)) ≡ false
@@ -84,11 +81,7 @@ no-operator-next w (suc i) f (g ∷ fs) low is h k =
 pub any-here : {X : Type 0} (test : X → Bool) (i : ℕ) (x d : X) (xs : List X) → i < length xs → x ≡ get_or xs i d → test x ≡ true → list_any test xs ≡ true
 any-here test i x d [] low is h = absurd (omega (arith, low))
 any-here test zero x d (y ∷ xs) low is h = let here : test y ≡ true = subst (λ z. test z ≡ true) is h in rw here refl
-any-here test (suc i) x d (y ∷ xs) low is h = rw (any-here test i x d xs (omega (arith, low)) is h) (or_true (test y))
-  where
-    or_true : (b : Bool) → (b || true) ≡ true
-    or_true true = refl
-    or_true false = refl
+any-here test (suc i) x d (y ∷ xs) low is h = rw (any-here test i x d xs (omega (arith, low)) is h) (or-true (test y))
 
 pub none-more : {X : Type 0} (test : X → Bool) (i : ℕ) (x d : X) (xs : List X) → i < length xs → x ≡ get_or xs i d → list_any test (take i xs) ≡ false → test x ≡ false → list_any test (take (i + 1) xs) ≡ false
 none-more test i x d xs low is h k = list_any_more test xs i d low ∙ ap (λ b. b || test (get_or xs i d)) h ∙ ap test (sym is) ∙ k

@@ -8,8 +8,9 @@ use Rattle.std.proofs.lemmas.List.Sums.{sum_by-cons}
 use Rattle.dpc_lists.specs.Lists.{changed, range_with_len, list_all}
 use Rattle.dpc_model.specs.Words.{Word}
 use Rattle.dpc_model.specs.declared.plans.FragSpec.{FragSpec}
-use Rattle.dpc_lists.proofs.Elements.{get-map, get-first}
+use Rattle.dpc_lists.proofs.Elements.{get-map, get-first, get-behind}
 use Rattle.dpc_model.specs.Actors.{nodes_from}
+use Rattle.dpc_lists.proofs.Truths.{and-none}
 use Rattle.script_rules.specs.Drafts.{place_of_name}
 use Rattle.script_rules.specs.Reasons.{is_among}
 use Rattle.script_rules.proofs.Apart.{among_neither, among_no}
@@ -23,10 +24,6 @@ and_assoc : (a b c : Bool) → (a && (b && c)) ≡ (a && b && c)
 and_assoc true b c = refl
 and_assoc false b c = refl
 
-and_false : (b : Bool) → (b && false) ≡ false
-and_false true = refl
-and_false false = refl
-
 pub bytes-apart : (w a b : Word) → length a ≤ length w → bytes_eq w (a ++ b) ≡ (bytes_eq (take (length a) w) a && bytes_eq (drop (length a) w) b)
 bytes-apart w [] b low = refl
 bytes-apart [] (x ∷ a) b low = absurd (omega (arith, low))
@@ -36,7 +33,7 @@ bytes-apart (y ∷ w) (x ∷ a) b low =
 pub bytes-short : (w a b : Word) → length w < length a → bytes_eq w (a ++ b) ≡ false
 bytes-short w [] b low = absurd (omega (arith, low))
 bytes-short [] (x ∷ a) b low = refl
-bytes-short (y ∷ w) (x ∷ a) b low = ap (λ t. nat_eq y x && t) (bytes-short w a b (omega (arith, low))) ∙ and_false (nat_eq y x)
+bytes-short (y ∷ w) (x ∷ a) b low = ap (λ t. nat_eq y x && t) (bytes-short w a b (omega (arith, low))) ∙ and-none (nat_eq y x)
 
 -- ---- places in lists one after another
 
@@ -62,10 +59,6 @@ place-second w (v ∷ a) b i h k =
 
 pub none-among : (w : Word) (ws : List Word) → place_of_name w ws ≡ None → is_among w ws ≡ false
 none-among w ws h = sym (among-place w ws) ∙ ap is_some h
-
-pub get-second : {X : Type 0} (xs ys : List X) (i : ℕ) → slice_get (xs ++ ys) (length xs + i) ≡ slice_get ys i
-get-second [] ys i = let same : 0 + i ≡ i = omega arith in rw same refl
-get-second (x ∷ xs) ys i = let next : suc (length xs) + i ≡ suc (length xs + i) = omega arith in rw next (get-second xs ys i)
 
 pub get-range : (a n i : ℕ) → i < n → slice_get (range_with_len a n) i ≡ Some (a + i)
 get-range a zero i low = absurd (omega (arith, low))
@@ -118,7 +111,7 @@ node-at from (suc i) f (g ∷ fs) r low is few =
     let more : sum_by replicas (g ∷ take i fs) + r ≡ length block + (sum_by replicas (take i fs) + r) =
     let first = sum_by-cons replicas g (take i fs) in let many = length-map-range_with_len {X = ℕ × ℕ} (λ (q : ℕ). (from, q)) 0 g.replicas in omega (arith, first, many) in
     let next : from + 1 + i ≡ from + suc i = omega arith in
-    ap (λ j. slice_get (block ++ nodes_from (from + 1) fs) j) more ∙ get-second block (nodes_from (from + 1) fs) _ ∙ node-at (from + 1) i f fs r (omega (arith, low)) is few ∙ ap (λ j. Some (j, r)) next
+    ap (λ j. slice_get (block ++ nodes_from (from + 1) fs) j) more ∙ get-behind block (nodes_from (from + 1) fs) _ ∙ node-at (from + 1) i f fs r (omega (arith, low)) is few ∙ ap (λ j. Some (j, r)) next
 
 pub many-nodes : (from : ℕ) (fs : List FragSpec) → length (nodes_from from fs) ≡ sum_by replicas fs
 many-nodes from [] = refl

@@ -1,24 +1,18 @@
 -- The names that stand after all statements are those of the plan.
-use Rattle.std.proofs.Common.{◌≡◌, ℕ, zero, suc, true, false, List, [], ◌∷◌, ◌++◌, map, refl, sym, ap, ◌∙◌}
+use Rattle.std.proofs.Common.{◌≡◌, ℕ, zero, suc, true, false, List, [], ◌∷◌, ◌++◌, refl, sym, ap, ◌∙◌}
 use Rattle.std.specs.Prelude.{flat_map}
 use Rattle.std.proofs.lemmas.List.{append-nil, append_assoc, map_push}
 use Rattle.dpc_lists.specs.Lists.{changed, is_nil}
-use Rattle.dpc_model.specs.Words.{Word}
 use Rattle.dpc_model.specs.declared.operators.OpSpec.{OpSpec}
 use Rattle.dpc_model.specs.declared.plans.SourceSpec.{SourceSpec}
 use Rattle.dpc_model.specs.declared.plans.FragSpec.{FragSpec}
 use Rattle.dpc_model.specs.declared.plans.ClientSpec.{ClientSpec}
 use Rattle.script_rules.specs.Statements.{Statement, HeaderLine, SourceLine, LogLine, FragmentLine, PatienceLine, OperatorLine, ClientLine, BeginLine, SendLine, LinkLine, NodeLine, TickLine, SettleLine}
 use Rattle.script_rules.specs.Drafts.{Draft, and_then, source_names, frag_names, op_names, with_op, change_last}
+use Rattle.script_rules.proofs.Called.{client_names, operator_names}
 use Rattle.script_rules.proofs.Passing.{all_said}
 use Rattle.script_rules.proofs.Naming.{map-changed, flat_map-changed, with_last_op, with_fragment}
 use Rattle.script_rules.proofs.Picking.{pick}
-
-abbrev pub client_names : Draft → List Word
-client_names d = map (λ (c : ClientSpec). c.name) d.clients
-
-abbrev pub operator_names : Draft → List Word
-operator_names d = flat_map op_names d.frags
 
 sources_added : (d : Draft) (s : Statement) → source_names (and_then d s) ≡ source_names d ++ pick true false false false s
 sources_added d (HeaderLine place number) = sym (append-nil (source_names d))

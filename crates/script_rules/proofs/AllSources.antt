@@ -30,7 +30,7 @@ pub record SourcesFit (h : List ℕ) (done rest : List SourceSpec) : Type 0 wher
   pub ordered : AreOrdered rest
   pub few : entries_of (done ++ rest) ≤ 200000
 
-abbrev emptied : SourceSpec → SourceSpec
+abbrev pub emptied : SourceSpec → SourceSpec
 emptied s = with_logs s []
 
 -- a name that is not taken is no source's

@@ -12,11 +12,13 @@ use Rattle.dpc_model.specs.declared.plans.FragSpec.{FragSpec}
 use Rattle.dpc_model.specs.declared.plans.ClientSpec.{ClientSpec}
 use Rattle.dpc_model.specs.declared.plans.Plan.{Plan}
 use Rattle.dpc_model.specs.declared.scripts.Script.{Script}
+use Rattle.dpc_lists.proofs.Elements.{nil-map}
 use Rattle.script_rules.specs.Statements.{Statement, FragmentLine}
 use Rattle.script_rules.specs.Drafts.{Draft, nothing_yet, and_then, names, source_names, frag_names, op_names}
 use Rattle.script_rules.specs.Reasons.{has_twice}
 use Rattle.script_rules.specs.Checking.{header_statements, patience_statements, operator_statement, frag_statements, statements_of, IsChecked}
 use Rattle.script_rules.specs.Facts.{names_of}
+use Rattle.script_rules.proofs.Called.{named_sources, client_names, operator_names}
 use Rattle.script_rules.proofs.Apart.{four}
 use Rattle.script_rules.proofs.Passing.{Passes, passes_then, all_said, said-append, checked_passes}
 use Rattle.script_rules.proofs.Parts.{said_of_sources, said_of_frags, said_of_clients, said_from_begin, parts, flat_map-none, flat_map-one}
@@ -24,7 +26,7 @@ use Rattle.script_rules.proofs.Headers.{declared, header_of, header_said}
 use Rattle.script_rules.proofs.AllSources.{SourcesFit}
 use Rattle.script_rules.proofs.Naming.{all_apart}
 use Rattle.script_rules.proofs.Picking.{only, pick, from_begin, flat_map-same, picked, picked_of_clients}
-use Rattle.script_rules.proofs.Added.{client_names, operator_names, all_sources_added, all_frags_added, all_clients_added, all_operators_added}
+use Rattle.script_rules.proofs.Added.{all_sources_added, all_frags_added, all_clients_added, all_operators_added}
 
 -- what is said behind the sources
 abbrev pub said_from_frags : Script → List Statement
@@ -50,9 +52,6 @@ no_names fs = flat_map-none _ fs (λ f. flat_map-none _ f.ops (λ op. refl))
 
 no_clients : (cs : List ClientSpec) → flat_map (λ (c : ClientSpec). only false c.name) cs ≡ []
 no_clients cs = flat_map-none _ cs (λ c. refl)
-
-abbrev named_sources : Plan → List Word
-named_sources plan = map (λ (s : SourceSpec). s.name) plan.sources
 
 abbrev named_frags : Plan → List Word
 named_frags plan = map (λ (f : FragSpec). f.name) plan.frags
@@ -118,10 +117,6 @@ end_from_begin : (s : Script) → in_the_end s ≡ all_said (at_begin s) (said_f
 end_from_begin s =
     let same : said_from_frags s ≡ (said_of_frags s.plan ++ said_of_clients s.plan) ++ said_from_begin s = sym (append_assoc (said_of_frags s.plan) (said_of_clients s.plan) (said_from_begin s)) in
     ap (all_said (with_sources s)) same ∙ said-append (with_sources s) (said_of_frags s.plan ++ said_of_clients s.plan) (said_from_begin s)
-
-nil-map : {X Y : Type 0} (f : X → Y) (xs : List X) → is_nil (map f xs) ≡ is_nil xs
-nil-map f [] = refl
-nil-map f (x ∷ xs) = refl
 
 -- a part that is there at `begin`
 same_nil : {X Y : Type 0} (f : X → Word) (g : Y → Word) (xs : List X) (ys : List Y) → map f xs ≡ map g ys → is_nil xs ≡ false → is_nil ys ≡ false

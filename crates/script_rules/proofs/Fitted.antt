@@ -13,11 +13,11 @@ use Rattle.dpc_model.specs.declared.plans.FragSpec.{FragSpec}
 use Rattle.dpc_model.specs.declared.plans.Plan.{Plan}
 use Rattle.dpc_model.specs.declared.scripts.Directive.{Directive}
 use Rattle.dpc_model.specs.declared.scripts.Phase.{Phase}
+use Rattle.dpc_lists.proofs.Truths.{not-both}
 use Rattle.script_rules.specs.Statements.{Statement, HeaderLine, SourceLine, LogLine, FragmentLine, PatienceLine, OperatorLine, ClientLine, BeginLine, SendLine, LinkLine, NodeLine, TickLine, SettleLine}
 use Rattle.script_rules.specs.Drafts.{Draft, and_then, plan_of, source_names, source_named, actor_named}
 use Rattle.script_rules.specs.Reasons.{is_node, all_directives}
 use Rattle.script_rules.specs.Facts.{directive_fits}
-use Rattle.script_rules.proofs.Names.{not_both}
 use Rattle.script_rules.proofs.Passing.{IsFine}
 use Rattle.script_rules.proofs.Inputs.{EachReads}
 use Rattle.script_rules.proofs.Growing.{all-push}
@@ -85,7 +85,7 @@ still_none d e early begun same k =
     let none : all_directives e ≡ [] = same ∙ k.waits early in
     record {
       waits = λ early. none;
-      some_op = λ late. absurd (not_both d.begun (sym begun ∙ late) early);
+      some_op = λ late. absurd (not-both d.begun (sym begun ∙ late) early);
       fit = ap (list_all (directive_fits (plan_of e))) none;
     }
 
@@ -94,7 +94,7 @@ one_more : (d e : Draft) (x : Directive) → d.begun ≡ true → e.begun ≡ d.
     directive_fits (plan_of d) x ≡ true → HasDirectives d → HasDirectives e
 one_more d e x late begun frags more plan fits k =
     record {
-      waits = λ early. absurd (not_both d.begun late (sym begun ∙ early));
+      waits = λ early. absurd (not-both d.begun late (sym begun ∙ early));
       some_op = λ late. ap (list_any (λ (f : FragSpec). is_nil f.ops)) frags ∙ k.some_op (sym begun ∙ late);
       fit = ap (λ p. list_all (directive_fits p) (all_directives e)) plan ∙ ap (list_all (directive_fits (plan_of d))) more ∙ all-push (directive_fits (plan_of d)) (all_directives d) x k.fit fits;
     }
@@ -119,7 +119,7 @@ directives_fitted : (d : Draft) (s : Statement) → IsPlaced d s → IsFine d s 
 directives_fitted d (HeaderLine place number) p fine parts k = still_none d _ (not_yet d.begun refl) refl refl k
   where
     not_yet : (b : Bool) → d.begun ≡ b → b ≡ false
-    not_yet true is = absurd (not_both _ (parts.whole is).header p.0)
+    not_yet true is = absurd (not-both _ (parts.whole is).header p.0)
     not_yet false is = refl
 directives_fitted d (SourceLine name columns) p fine parts k = still_none d _ (is_declaring d p.0).1 refl refl k
 directives_fitted d (LogLine source time vals) p fine parts k = still_none d _ (is_declaring d p.0).1 refl refl k

@@ -16,6 +16,7 @@ use Rattle.dpc_model.specs.declared.plans.FragSpec.{FragSpec}
 use Rattle.dpc_model.specs.declared.plans.Plan.{Plan}
 use Rattle.dpc_model.specs.declared.plans.StreamRef.{StreamRef}
 use Rattle.dpc_model.specs.declared.plans.StreamRef.TheVariants.{Source, Frag}
+use Rattle.dpc_lists.proofs.Elements.{map-same}
 use Rattle.script_rules.specs.Statements.{OperatorLine}
 use Rattle.script_rules.specs.Drafts.{Draft, and_then, plan_of, place_of_name, or_else, op_names, last_frag, with_op, with_delay, change_last}
 use Rattle.script_rules.specs.Reasons.{fits_inputs, is_too_large, input_columns, is_full}
@@ -48,10 +49,6 @@ abbrev pub FragsFit : List ℕ → List ℕ → List FragSpec → Type 0
 FragsFit sources columns [] = ⊤
 FragsFit sources columns (f ∷ fs) =
     (ops_fit (ports_in sources columns f) [] f.ops ≡ true) × FragsFit sources (push columns (fragment_columns (ports_in sources columns f) f.ops)) fs
-
-map-same : {X Y : Type 0} (f g : X → Y) (xs : List X) → ((x : X) → f x ≡ g x) → map f xs ≡ map g xs
-map-same f g [] h = refl
-map-same f g (x ∷ xs) h = rw (h x, map-same f g xs h) refl
 
 same_columns : (plan : Plan) (columns : List ℕ) (s : StreamRef) → columns_by plan columns s ≡ columns_in (columns_of plan.sources) columns s
 same_columns plan columns (Source s) = refl

@@ -13,12 +13,12 @@ use Rattle.dpc_model.specs.declared.plans.ClientSpec.{ClientSpec}
 use Rattle.dpc_model.specs.declared.plans.Plan.{Plan}
 use Rattle.dpc_model.specs.declared.scripts.Directive.{Directive}
 use Rattle.dpc_model.specs.Actors.{are_linked}
+use Rattle.dpc_lists.proofs.Truths.{not-both}
 use Rattle.script_rules.specs.Places.{is_between}
 use Rattle.script_rules.specs.Statements.{Statement, HeaderLine, SourceLine, LogLine, FragmentLine, PatienceLine, OperatorLine, ClientLine, BeginLine, SendLine, LinkLine, NodeLine, TickLine, SettleLine}
 use Rattle.script_rules.specs.Drafts.{Draft, and_then, names, source_names, frag_names, end_of, has_header, source_named, with_delay}
 use Rattle.script_rules.specs.Reasons.{declares, source_at, last_time, is_among, has_twice, log_entries}
 use Rattle.script_rules.specs.Facts.{directive_fits, log_fits, reads_once, has_sizes}
-use Rattle.script_rules.proofs.Names.{not_both}
 use Rattle.script_rules.proofs.Passing.{IsFine}
 use Rattle.script_rules.proofs.Naming.{names_apart}
 use Rattle.script_rules.proofs.Clocks.{AreClocks, clocks}
@@ -116,8 +116,8 @@ still_in_parts d e h header begun same k =
     let p = is_declaring d h in
     record {
       header = subst IsHeader (sym header) k.header;
-      waits = λ none. absurd (not_both (has_header d) p.0 (sym same ∙ none));
-      whole = λ yes. absurd (not_both d.begun (sym begun ∙ yes) p.1);
+      waits = λ none. absurd (not-both (has_header d) p.0 (sym same ∙ none));
+      whole = λ yes. absurd (not-both d.begun (sym begun ∙ yes) p.1);
     }
 
 -- so does what runs

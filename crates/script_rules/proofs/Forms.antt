@@ -1,13 +1,14 @@
 -- The form of a checked script, and the actors of every plan in order of number.
-use Rattle.std.proofs.Common.{ℕ, ◌+◌, ◌≤◌, Bool, true, false, cond, List, [], ◌∷◌, ◌++◌, map, subst, ap, ◌∙◌, arith, ◌≡◌}
+use Rattle.std.proofs.Common.{ℕ, ◌+◌, Bool, true, false, cond, List, [], ◌∷◌, ◌++◌, map, subst, ap, ◌∙◌, arith, ◌≡◌}
 use Rattle.std.specs.List.{filter, enumerate_from}
 use Rattle.dpc_model.specs.Actors.{roles_of}
 use Rattle.dpc_model.specs.declared.actors.Role.{Role}
 use Rattle.dpc_model.specs.declared.scripts.Script.{Script}
+use Rattle.dpc_lists.specs.Lists.{IsRising}
+use Rattle.dpc_model.proofs.Numbers.{rising-lower}
 use Rattle.script_rules.specs.Drafts.{nothing_yet}
 use Rattle.script_rules.specs.Statements.{Statement}
 use Rattle.script_rules.specs.Checking.{header_statements, IsChecked}
-use Rattle.script_rules.specs.Facts.{IsRising}
 use Rattle.script_rules.specs.Laws.{CheckedHasForm, ActorsAreInOrder}
 use Rattle.script_rules.proofs.Passing.{Passes, passes_first, passes_then, all_said, checked_passes}
 use Rattle.script_rules.proofs.Parts.{said_of_sources, said_of_frags, said_of_clients, said_from_begin, parts}
@@ -82,10 +83,6 @@ checked_has_form s c =
     }
 
 -- ---- actors in order
-
-rising-lower : (j k : ℕ) (ns : List ℕ) → j ≤ k → IsRising k ns → IsRising j ns
-rising-lower j k [] low h = tt
-rising-lower j k (n ∷ ns) low h = let first = h.0 in (omega (arith, low, first), h.1)
 
 numbers_rise : (test : Role → Bool) (k : ℕ) (roles : List Role) → IsRising k (map (λ (x : ℕ × Role). x.0) (filter (λ (x : ℕ × Role). test x.1) (enumerate_from k roles)))
 numbers_rise test k [] = tt

@@ -7,11 +7,12 @@ use Rattle.dpc_model.specs.Words.{Word}
 use Rattle.dpc_model.specs.Actors.{same_stream}
 use Rattle.dpc_model.specs.declared.plans.StreamRef.{StreamRef}
 use Rattle.dpc_model.specs.declared.plans.StreamRef.TheVariants.{Source, Frag}
+use Rattle.dpc_model.proofs.Alike.{same_stream-eq}
 use Rattle.script_rules.specs.Drafts.{place_of_name, or_else}
 use Rattle.script_rules.specs.Reasons.{is_among, has_twice}
 use Rattle.script_rules.specs.Facts.{reads_once}
 use Rattle.script_rules.proofs.Apart.{same_word}
-use Rattle.script_rules.proofs.Once.{same_stream_is, is_not}
+use Rattle.script_rules.proofs.Once.{is_not}
 use Rattle.script_rules.proofs.Streams.{stream_at, is_within, name_at}
 
 -- a place of that word
@@ -74,7 +75,7 @@ found_apart w sources frags (v ∷ ws) here known apart =
     let q = or_parts (bytes_eq w v) (is_among w ws) apart in
     (elim (same_stream (found sources frags w) (found sources frags v)) as (λ t. same_stream (found sources frags w) (found sources frags v) ≡ t → (t || list_any (same_stream (found sources frags w)) (map (found sources frags) ws)) ≡ false) [
       | true ↦ λ e.
-          let same : w ≡ v = sym (found_is w sources frags here).1 ∙ ap (name_at sources frags) (same_stream_is _ _ e) ∙ (found_is v sources frags p.0).1 in
+          let same : w ≡ v = sym (found_is w sources frags here).1 ∙ ap (name_at sources frags) (same_stream-eq _ _ e) ∙ (found_is v sources frags p.0).1 in
           absurd (is_not w v same q.0)
       | false ↦ λ e. found_apart w sources frags ws here p.1 q.1
     ]) refl

@@ -16,7 +16,7 @@ use Rattle.script_rules.specs.Drafts.{with_log, with_op}
 use Rattle.script_rules.specs.Reasons.{last_time}
 use Rattle.script_rules.specs.Facts.{log_fits}
 use Rattle.script_rules.proofs.Ordered.{itself, ordered-push, ordered-map}
-use Rattle.script_rules.proofs.Sources.{times_of, entries_of}
+use Rattle.script_rules.proofs.Sources.{times_of, entries_of, no_source}
 use Rattle.script_rules.proofs.AllSources.{AreOrdered}
 use Rattle.script_rules.proofs.Streams.{is_within}
 use Rattle.script_rules.proofs.Inputs.{EachReads}
@@ -38,9 +38,6 @@ all-changed p f (suc i) (x ∷ xs) keeps h =
 abbrev pub AreInTime : List SourceSpec → Type 0
 AreInTime [] = ⊤
 AreInTime (s ∷ rest) = IsOrdered itself (times_of s.log) × AreInTime rest
-
-abbrev pub no_source : SourceSpec
-no_source = record { name = []; columns = 0; log = [] }
 
 pub logs-changed : (end i : ℕ) (t : Tuple) (xs : List SourceSpec) → nat_lt t.stime end ≡ true → (length t.vals == (nth no_source xs i).columns) ≡ true →
     list_all (log_fits end) xs ≡ true → list_all (log_fits end) (changed i (with_log t) xs) ≡ true

@@ -4,7 +4,6 @@ use Rattle.std.specs.Prelude.{⊤, nat_lt, is_none, flat_map}
 use Rattle.std.proofs.lemmas.Bool.{or_parts, and_parts, ltb-true}
 use Rattle.std.proofs.lemmas.List.{append-nil, append_assoc, length-append, length-map}
 use Rattle.dpc_lists.specs.Lists.{nth, list_all, list_any}
-use Rattle.dpc_model.specs.Words.{Word}
 use Rattle.dpc_model.specs.Fragments.{ReadsBelow, ReadBefore}
 use Rattle.dpc_model.specs.ScriptText.{stream_name}
 use Rattle.dpc_model.specs.declared.operators.OpSpec.{OpSpec}
@@ -16,18 +15,13 @@ use Rattle.dpc_model.specs.declared.plans.StreamRef.TheVariants.{Source, Frag}
 use Rattle.script_rules.specs.Drafts.{Draft, stream_named, source_names, frag_names}
 use Rattle.script_rules.specs.Reasons.{is_among, has_twice}
 use Rattle.script_rules.specs.Checking.{frag_statements}
+use Rattle.script_rules.proofs.Called.{named_sources, named}
 use Rattle.script_rules.proofs.Apart.{among_neither}
 use Rattle.script_rules.proofs.Passing.{Passes, passes_then, all_said}
 use Rattle.script_rules.proofs.Parts.{flat_map-none}
 use Rattle.script_rules.proofs.Picking.{only, of_frag}
 use Rattle.script_rules.proofs.Added.{all_sources_added, all_frags_added}
 use Rattle.script_rules.proofs.Streams.{stream_at, is_within, name_at, found_is_within}
-
-abbrev pub named_sources : Plan → List Word
-named_sources plan = map (λ (s : SourceSpec). s.name) plan.sources
-
-abbrev pub named : List FragSpec → List Word
-named fs = map (λ (f : FragSpec). f.name) fs
 
 -- the names of a plan's streams differ, and none is empty
 pub record HasStreamNames (plan : Plan) : Type 0 where

@@ -1,8 +1,7 @@
 -- Elements at their places: the last one, those of a first part, and none past the end.
-use Rattle.std.proofs.Common.{◌≡◌, ℕ, zero, suc, ◌<◌, ◌≤◌, false, List, [], ◌∷◌, ◌++◌, length, Some, refl, ap, arith}
-use Rattle.std.specs.Prelude.{bytes_eq, unwrap_or}
+use Rattle.std.proofs.Common.{◌≡◌, ℕ, zero, suc, ◌<◌, false, List, [], ◌∷◌, ◌++◌, length, Some, refl, ap, arith}
+use Rattle.std.specs.Prelude.{bytes_eq}
 use Rattle.std.proofs.lemmas.Bool.{or_parts}
-use Rattle.std.proofs.lemmas.Option.{slice_get_past}
 use Rattle.dpc_lists.specs.Lists.{nth, changed}
 use Rattle.dpc_model.specs.Words.{Word}
 use Rattle.script_rules.specs.Drafts.{place_of_name}
@@ -28,6 +27,3 @@ pub nth-first : {X : Type 0} (d : X) (xs ys : List X) (i : ℕ) → i < length x
 nth-first d [] ys i low = absurd (omega (arith, low))
 nth-first d (x ∷ xs) ys zero low = refl
 nth-first d (x ∷ xs) ys (suc i) low = nth-first d xs ys i (omega (arith, low))
-
-pub nth-past : {X : Type 0} (d : X) (xs : List X) (i : ℕ) → length xs ≤ i → nth d xs i ≡ d
-nth-past d xs i far = ap (λ o. unwrap_or o d) (slice_get_past xs i far)

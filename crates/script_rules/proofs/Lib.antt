@@ -37,3 +37,4 @@ pub mod Fitted
 pub mod ReadForms
 pub mod SaysItself
 pub mod Fitting
+pub mod Called

@@ -10,6 +10,7 @@ use Rattle.dpc_model.specs.declared.plans.SourceSpec.{SourceSpec}
 use Rattle.dpc_model.specs.declared.plans.FragSpec.{FragSpec}
 use Rattle.dpc_model.specs.declared.plans.ClientSpec.{ClientSpec}
 use Rattle.dpc_model.specs.declared.plans.Plan.{Plan}
+use Rattle.dpc_lists.proofs.Truths.{not-both}
 use Rattle.script_rules.specs.Spelling.{is_name}
 use Rattle.script_rules.specs.Places.{is_between}
 use Rattle.script_rules.specs.Drafts.{op_names}
@@ -20,15 +21,12 @@ use Rattle.script_rules.proofs.Streams.{other_part}
 
 -- ---- two lists without a word in common
 
-pub not_both : (b : Bool) → b ≡ true → b ≡ false → ⊥
-not_both b first second = absurd cc
-
 pub twice-append : (a b : List Word) → has_twice a ≡ false → has_twice b ≡ false → ((w : Word) → is_among w b ≡ true → is_among w a ≡ false) → has_twice (a ++ b) ≡ false
 twice-append [] b h k other = k
 twice-append (x ∷ a) b h k other =
     let p = or_parts (is_among x a) (has_twice a) h in
     let itself : is_among x (x ∷ a) ≡ true = ap (λ t. t || is_among x a) (word_is_itself x) in
-    let not_behind : is_among x b ≡ false = false_from_ne_true (is_among x b) (λ e. not_both (is_among x (x ∷ a)) itself (other x e)) in
+    let not_behind : is_among x b ≡ false = false_from_ne_true (is_among x b) (λ e. not-both (is_among x (x ∷ a)) itself (other x e)) in
     rw (among_no x a b p.0 not_behind, twice-append a b p.1 k (λ w e. (or_parts (bytes_eq w x) (is_among w a) (other w e)).1)) refl
 
 -- the second of three lists left out

@@ -13,6 +13,7 @@ use Rattle.dpc_model.specs.declared.plans.ClientSpec.{ClientSpec}
 use Rattle.script_rules.specs.Statements.{Statement, HeaderLine, SourceLine, LogLine, FragmentLine, PatienceLine, OperatorLine, ClientLine, BeginLine, SendLine, LinkLine, NodeLine, TickLine, SettleLine}
 use Rattle.script_rules.specs.Drafts.{Draft, and_then, names, op_names, source_names, frag_names, with_op, change_last}
 use Rattle.script_rules.specs.Reasons.{takes_name, is_among, has_twice}
+use Rattle.script_rules.proofs.Called.{named, client_names, operator_names}
 use Rattle.script_rules.proofs.Passing.{Passes, all_said}
 use Rattle.script_rules.proofs.Apart.{four, twice-push_1, twice-push_2, twice-push_3, twice-push_4}
 
@@ -40,9 +41,6 @@ with_last_op op f fs = let less : length (f ∷ fs) - 1 ≡ length fs = omega ar
 pub with_fragment : (f : FragSpec) (fs : List FragSpec) → f.ops ≡ [] → flat_map op_names (fs ++ f ∷ []) ≡ flat_map op_names fs
 with_fragment f fs none = flat_map-append op_names fs (f ∷ []) ∙ ap (λ ops. flat_map op_names fs ++ (map (λ (o : OpSpec). o.name) ops ++ [])) none ∙ append-nil (flat_map op_names fs)
 
-abbrev named : List FragSpec → List Word
-named fs = map (λ (f : FragSpec). f.name) fs
-
 with_operator : (op : OpSpec) (sources clients : List Word) (fs : List FragSpec) → is_among op.name (four sources (named fs) (flat_map op_names fs) clients) ≡ false → has_twice (four sources (named fs) (flat_map op_names fs) clients) ≡ false →
     has_twice (four sources (named (change_last (with_op op) fs)) (flat_map op_names (change_last (with_op op) fs)) clients) ≡ false
 with_operator op sources clients [] h k = k
@@ -50,12 +48,6 @@ with_operator op sources clients (f ∷ fs) h k =
     ap (λ l. has_twice (four sources l (flat_map op_names (change_last (with_op op) (f ∷ fs))) clients)) (map-changed (λ (x : FragSpec). x.name) (with_op op) (length (f ∷ fs) - 1) (f ∷ fs) (λ x. refl))
     ∙ ap (λ l. has_twice (four sources (named (f ∷ fs)) l clients)) (with_last_op op f fs)
     ∙ twice-push_3 op.name sources (named (f ∷ fs)) (flat_map op_names (f ∷ fs)) clients h k
-
-abbrev client_names : Draft → List Word
-client_names d = map (λ (c : ClientSpec). c.name) d.clients
-
-abbrev operator_names : Draft → List Word
-operator_names d = flat_map op_names d.frags
 
 -- a statement that takes no name that is taken leaves all names different
 pub names_apart : (d : Draft) (s : Statement) → takes_name d s ≡ false → has_twice (names d) ≡ false → has_twice (names (and_then d s)) ≡ false

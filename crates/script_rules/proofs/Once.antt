@@ -1,7 +1,7 @@
 -- No fragment of a checked script reads a stream twice.
 use Rattle.std.proofs.Common.{◌≡◌, true, false, List, [], ◌∷◌, map, refl, ap, subst}
 use Rattle.std.specs.Prelude.{◌||◌, flat_map, bytes_eq}
-use Rattle.std.proofs.lemmas.Bool.{or_parts, eqb-true}
+use Rattle.std.proofs.lemmas.Bool.{or_parts}
 use Rattle.dpc_lists.specs.Lists.{list_any, list_all}
 use Rattle.dpc_model.specs.Words.{Word}
 use Rattle.dpc_model.specs.Actors.{same_stream}
@@ -9,19 +9,13 @@ use Rattle.dpc_model.specs.ScriptText.{stream_name}
 use Rattle.dpc_model.specs.declared.plans.FragSpec.{FragSpec}
 use Rattle.dpc_model.specs.declared.plans.Plan.{Plan}
 use Rattle.dpc_model.specs.declared.plans.StreamRef.{StreamRef}
-use Rattle.dpc_model.specs.declared.plans.StreamRef.TheVariants.{Source, Frag}
+use Rattle.dpc_model.proofs.Alike.{same_stream-eq}
 use Rattle.script_rules.specs.Drafts.{Draft, names}
 use Rattle.script_rules.specs.Reasons.{is_among, has_twice}
 use Rattle.script_rules.specs.Checking.{frag_statements}
 use Rattle.script_rules.specs.Facts.{reads_once}
 use Rattle.script_rules.proofs.Apart.{word_is_itself}
 use Rattle.script_rules.proofs.Passing.{Passes, passes_then, all_said}
-
-pub same_stream_is : (a b : StreamRef) → same_stream a b ≡ true → a ≡ b
-same_stream_is (Source s) (Source u) e = ap Source (eqb-true s u e)
-same_stream_is (Source s) (Frag g) e = absurd cc
-same_stream_is (Frag f) (Source u) e = absurd cc
-same_stream_is (Frag f) (Frag g) e = ap Frag (eqb-true f g e)
 
 pub is_not : (v w : Word) → v ≡ w → bytes_eq v w ≡ false → ⊥
 is_not v w same other = let yes : bytes_eq v w ≡ true = subst (λ x. bytes_eq v x ≡ true) same (word_is_itself v) in absurd cc
@@ -33,7 +27,7 @@ other_streams plan s (x ∷ ss) h =
     let p = or_parts _ (is_among (stream_name plan s) (map (stream_name plan) ss)) h in
     (elim (same_stream s x) as (λ t. same_stream s x ≡ t → (t || list_any (same_stream s) ss) ≡ false) [
       | true ↦ λ e.
-          let same : stream_name plan s ≡ stream_name plan x = ap (stream_name plan) (same_stream_is s x e) in
+          let same : stream_name plan s ≡ stream_name plan x = ap (stream_name plan) (same_stream-eq s x e) in
           absurd (is_not _ _ same p.0)
       | false ↦ λ e. other_streams plan s ss p.1
     ]) refl

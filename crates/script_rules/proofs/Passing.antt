@@ -1,10 +1,10 @@
 -- Where check finds no fault, each statement passes every test, behind those before it.
-use Rattle.std.proofs.Common.{◌≡◌, ℕ, ◌+◌, Bool, true, false, List, [], ◌∷◌, ◌++◌, Option, Some, None, refl}
-use Rattle.std.specs.Prelude.{⊤, fold}
+use Rattle.std.proofs.Common.{◌≡◌, ℕ, ◌+◌, Bool, true, false, List, [], ◌∷◌, ◌++◌, Option, Some, None, refl, ◌^◌, ◌<◌, ◌-◌, arith}
+use Rattle.std.specs.Prelude.{⊤, fold, if◌then◌else◌}
 use Rattle.dpc_model.specs.declared.scripts.Script.{Script}
 use Rattle.dpc_model.specs.declared.scripts.PlanFault.{PlanFault}
 use Rattle.script_rules.specs.Statements.{Statement}
-use Rattle.script_rules.specs.Drafts.{Draft, nothing_yet, and_then}
+use Rattle.script_rules.specs.Drafts.{Draft, nothing_yet, and_then, greatest_end, is_wide}
 use Rattle.script_rules.specs.Reasons.{takes_name, is_unknown, is_out_of_time, misses_column, reads_ahead, lacks_part, is_against_state, passes_limit, first_of_tests, tests_said}
 use Rattle.script_rules.specs.Checking.{check, check_from, statements_of, IsChecked}
 
@@ -75,3 +75,9 @@ said-append d (s ∷ a) b = said-append (and_then d s) a b
 pub checked_passes : (s : Script) → IsChecked s → Passes nothing_yet (statements_of s)
 unfolding check
 checked_passes s c = passes 1 nothing_yet (statements_of s) c.faultless
+
+pub fine_tests : (d : Draft) (s : Statement) → IsFine d s → first_of_tests (tests_said d s) ≡ None
+fine_tests d s f = rw (f.name, f.known, f.time, f.columns, f.stream, f.parts, f.state, f.limit) refl
+
+pub greatest_end-fits : (d : Draft) → greatest_end d < 2 ^ 64
+greatest_end-fits d = elim (is_wide d) as (λ t. (if t then 2 ^ 62 - 1 else 2 ^ 40 - 1) < 2 ^ 64) [ true ↦ omega arith | false ↦ omega arith ]

@@ -9,11 +9,13 @@ use Rattle.dpc_model.specs.declared.operators.Wire.{Wire}
 use Rattle.dpc_model.specs.declared.operators.Wire.TheVariants.{Port, Op}
 use Rattle.dpc_model.specs.declared.plans.StreamRef.{StreamRef}
 use Rattle.dpc_model.specs.declared.plans.StreamRef.TheVariants.{Source, Frag}
+use Rattle.dpc_lists.proofs.Truths.{or-true}
+use Rattle.dpc_lists.proofs.Elements.{nth-past}
 use Rattle.script_rules.specs.Drafts.{place_of_name, or_else}
 use Rattle.script_rules.specs.Reasons.{is_among, has_twice}
 use Rattle.script_rules.proofs.Apart.{word_is_itself, other_word, among_neither, twice-first, twice-last}
-use Rattle.script_rules.proofs.Lasts.{nth-first, nth-past}
-use Rattle.script_rules.proofs.Streams.{no_place, or_true, other_part, nth-behind, stream_at, is_within, name_at}
+use Rattle.script_rules.proofs.Lasts.{nth-first}
+use Rattle.script_rules.proofs.Streams.{no_place, other_part, nth-behind, stream_at, is_within, name_at, AreOthers}
 
 -- ---- a word at its place
 
@@ -33,7 +35,7 @@ place-nth (w ∷ ws) (suc i) apart low =
 pub nth-among : (ws : List Word) (i : ℕ) → i < length ws → is_among (nth [] ws i) ws ≡ true
 nth-among [] i low = absurd (omega (arith, low))
 nth-among (w ∷ ws) zero low = ap (λ t. t || is_among w ws) (word_is_itself w)
-nth-among (w ∷ ws) (suc i) low = ap (λ t. bytes_eq (nth [] ws i) w || t) (nth-among ws i (omega (arith, low))) ∙ or_true (bytes_eq (nth [] ws i) w)
+nth-among (w ∷ ws) (suc i) low = ap (λ t. bytes_eq (nth [] ws i) w || t) (nth-among ws i (omega (arith, low))) ∙ or-true (bytes_eq (nth [] ws i) w)
 
 -- ---- streams
 
@@ -50,7 +52,7 @@ stream_among sources frags n m (Source s) many few within =
     ap (λ t. t || is_among (nth [] sources s) frags) (nth-among sources s (omega (arith, low, many)))
 stream_among sources frags n m (Frag f) many few within =
     let low : f < m = ltb-true f m within in
-    ap (λ t. is_among (nth [] frags f) sources || t) (nth-among frags f (omega (arith, low, few))) ∙ or_true (is_among (nth [] frags f) sources)
+    ap (λ t. is_among (nth [] frags f) sources || t) (nth-among frags f (omega (arith, low, few))) ∙ or-true (is_among (nth [] frags f) sources)
 
 -- ---- wires, by the names of ports and of operators
 
@@ -71,10 +73,6 @@ pub record AreWireNames (names before rest : List Word) : Type 0 where
   pub no_port : is_among [] names ≡ false
   pub no_op : is_among [] (before ++ rest) ≡ false
   pub other : (w : Word) → is_among w (before ++ rest) ≡ true → is_among w names ≡ false
-
--- what lies behind the ports and the operators so far has a name of neither
-abbrev AreOthers : List Word → List Word → Word → Type 0
-AreOthers ports ops w = (is_among w ports ≡ false) × (is_among w ops ≡ false)
 
 pub wire_back : (names ops rest : List Word) (wire : Wire) → AreWireNames names ops rest → is_none (wire_at names ops (wire_name names (ops ++ rest) wire)) ≡ false → wire_at names ops (wire_name names (ops ++ rest) wire) ≡ Some wire
 wire_back names ops rest (Port p) n known =
@@ -103,7 +101,7 @@ wire_back names ops rest (Op i) n known =
     among-first w a h = list_any-append (bytes_eq w) a rest ∙ ap (λ t. t || is_among w rest) h
 
     among-last : (w : Word) (a : List Word) → is_among w rest ≡ true → is_among w (a ++ rest) ≡ true
-    among-last w a h = list_any-append (bytes_eq w) a rest ∙ ap (λ t. is_among w a || t) h ∙ or_true (is_among w a)
+    among-last w a h = list_any-append (bytes_eq w) a rest ∙ ap (λ t. is_among w a || t) h ∙ or-true (is_among w a)
 
 pub wires_back : (names ops rest : List Word) (wires : List Wire) → AreWireNames names ops rest → list_any (λ w. is_none (wire_at names ops w)) (map (wire_name names (ops ++ rest)) wires) ≡ false →
     map (λ w. unwrap_or (wire_at names ops w) (Port 0)) (map (wire_name names (ops ++ rest)) wires) ≡ wires

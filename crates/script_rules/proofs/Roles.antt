@@ -1,5 +1,5 @@
 -- All names of a plan's actors differ, so that each actor is found by its name.
-use Rattle.std.proofs.Common.{◌≡◌, ℕ, zero, suc, ◌+◌, ◌^◌, ◌<◌, ◌≤◌, Bool, true, false, List, [], ◌∷◌, ◌++◌, map, length, Some, refl, sym, ap, subst, ◌∙◌, arith}
+use Rattle.std.proofs.Common.{◌≡◌, ℕ, zero, suc, ◌+◌, ◌^◌, ◌<◌, ◌≤◌, true, false, List, [], ◌∷◌, ◌++◌, map, length, Some, refl, sym, ap, subst, ◌∙◌, arith}
 use Rattle.std.specs.Prelude.{◌&&◌, ◌||◌, ◌==◌, nat_lt, if◌then◌else◌, is_none, bytes_eq}
 use Rattle.std.specs.Fmt.{decimal}
 use Rattle.std.proofs.lemmas.Fmt.{decimal_injective}
@@ -16,17 +16,18 @@ use Rattle.dpc_model.specs.declared.plans.SourceSpec.{SourceSpec}
 use Rattle.dpc_model.specs.declared.plans.FragSpec.{FragSpec}
 use Rattle.dpc_model.specs.declared.plans.ClientSpec.{ClientSpec}
 use Rattle.dpc_model.specs.declared.plans.Plan.{Plan}
+use Rattle.dpc_lists.proofs.Truths.{or-true, and-none, not-both}
+use Rattle.dpc_lists.proofs.Elements.{nth-past, map-map, nth-middle}
 use Rattle.script_rules.specs.Spelling.{is_letter, may_stand_in_name, is_name}
 use Rattle.script_rules.specs.Places.{is_between}
 use Rattle.script_rules.specs.Drafts.{place_of_name}
 use Rattle.script_rules.specs.Reasons.{is_among, has_twice}
 use Rattle.script_rules.specs.Facts.{has_sizes}
+use Rattle.script_rules.proofs.Called.{named_sources, named}
 use Rattle.script_rules.proofs.Apart.{same_word, word_is_itself, among_neither, among_no, twice-first, twice-last}
-use Rattle.script_rules.proofs.Names.{not_both, twice-append, each_of, nobody_among}
-use Rattle.script_rules.proofs.Lasts.{nth-past}
+use Rattle.script_rules.proofs.Names.{twice-append, each_of, nobody_among}
 use Rattle.script_rules.proofs.Ranges.{between}
-use Rattle.script_rules.proofs.Streams.{no_place, or_true, other_part}
-use Rattle.script_rules.proofs.Inputs.{named_sources, named}
+use Rattle.script_rules.proofs.Streams.{no_place, other_part}
 use Rattle.script_rules.proofs.Distinct.{named_clients}
 use Rattle.script_rules.proofs.Recalled.{place-nth}
 
@@ -63,14 +64,10 @@ letters (b ∷ w) h =
 -- a word with a dot is no name
 dot_is_none : (w u : Word) → list_all may_stand_in_name (w ++ 46 ∷ u) ≡ false
 dot_is_none [] u = refl
-dot_is_none (b ∷ w) u = ap (λ t. may_stand_in_name b && t) (dot_is_none w u) ∙ and_false (may_stand_in_name b)
-  where
-    and_false : (b : Bool) → (b && false) ≡ false
-    and_false true = refl
-    and_false false = refl
+dot_is_none (b ∷ w) u = ap (λ t. may_stand_in_name b && t) (dot_is_none w u) ∙ and-none (may_stand_in_name b)
 
 is_no_name : (w u : Word) → is_name (w ++ 46 ∷ u) ≡ false
-is_no_name w u = false_from_ne_true (is_name (w ++ 46 ∷ u)) (λ e. not_both (list_all may_stand_in_name (w ++ 46 ∷ u)) (letters (w ++ 46 ∷ u) e) (dot_is_none w u))
+is_no_name w u = false_from_ne_true (is_name (w ++ 46 ∷ u)) (λ e. not-both (list_all may_stand_in_name (w ++ 46 ∷ u)) (letters (w ++ 46 ∷ u) e) (dot_is_none w u))
 
 other_dots : (w : Word) (j k n : ℕ) → j < k → k + n ≤ 2 ^ 63 → is_among (w ++ 46 ∷ decimal j) (dots w k n) ≡ false
 other_dots w j k zero low few = refl
@@ -109,7 +106,7 @@ in_dotted v (f ∷ fs) names h =
           let same : before_dot v ≡ f.name = in_dots v f.name 0 f.replicas p.0 e in
           let here : bytes_eq (before_dot v) f.name ≡ true = ap (λ w. bytes_eq w f.name) same ∙ word_is_itself f.name in
           ap (λ t. t || is_among (before_dot v) (named fs)) here
-      | false ↦ λ e. ap (λ t. bytes_eq (before_dot v) f.name || t) (in_dotted v fs p.1 (either_part v (dots f.name 0 f.replicas) (dotted fs) h e)) ∙ or_true (bytes_eq (before_dot v) f.name)
+      | false ↦ λ e. ap (λ t. bytes_eq (before_dot v) f.name || t) (in_dotted v fs p.1 (either_part v (dots f.name 0 f.replicas) (dotted fs) h e)) ∙ or-true (bytes_eq (before_dot v) f.name)
     ]) refl
 
 no_name_in_dots : (v w : Word) (k n : ℕ) → is_among v (dots w k n) ≡ true → is_name v ≡ false
@@ -139,7 +136,7 @@ dotted_apart (f ∷ fs) sizes names apart =
     twice-append (dots f.name 0 f.replicas) (dotted fs) (dots_apart f.name 0 f.replicas (omega (arith, few))) (dotted_apart fs s.1 n.1 t.1)
     (λ v h. false_from_ne_true (is_among v (dots f.name 0 f.replicas)) (λ e.
     let among : is_among f.name (named fs) ≡ true = subst (λ w. is_among w (named fs) ≡ true) (in_dots v f.name 0 f.replicas n.0 e) (in_dotted v fs n.1 h) in
-    not_both (is_among f.name (named fs)) among t.0))
+    not-both (is_among f.name (named fs)) among t.0))
 
 -- ---- the names of all actors
 
@@ -158,27 +155,19 @@ actors_apart plan h =
     let streams = named_sources plan ++ named plan.frags in
     let first = twice-first streams (named_clients plan) h.apart in
     let a = twice-append (named_sources plan) (dotted plan.frags) (twice-first (named_sources plan) (named plan.frags) first) (dotted_apart plan.frags h.sizes h.frags (twice-last (named_sources plan) (named plan.frags) first))
-    (λ w e. false_from_ne_true (is_among w (named_sources plan)) (λ k. not_both (is_name w) (each_of is_name (named_sources plan) w h.sources k) (no_name_in_dotted w plan.frags e))) in
+    (λ w e. false_from_ne_true (is_among w (named_sources plan)) (λ k. not-both (is_name w) (each_of is_name (named_sources plan) w h.sources k) (no_name_in_dotted w plan.frags e))) in
     twice-append (named_sources plan ++ dotted plan.frags) (named_clients plan) a (twice-last streams (named_clients plan) h.apart)
     (λ w e.
     let no_source : is_among w (named_sources plan) ≡ false = (among_neither w (named_sources plan) (named plan.frags) (other_part w streams (named_clients plan) h.apart e)).0 in
-    let no_node : is_among w (dotted plan.frags) ≡ false = false_from_ne_true (is_among w (dotted plan.frags)) (λ k. not_both (is_name w) (each_of is_name (named_clients plan) w h.clients e) (no_name_in_dotted w plan.frags k)) in
+    let no_node : is_among w (dotted plan.frags) ≡ false = false_from_ne_true (is_among w (dotted plan.frags)) (λ k. not-both (is_name w) (each_of is_name (named_clients plan) w h.clients e) (no_name_in_dotted w plan.frags k)) in
     among_no w (named_sources plan) (dotted plan.frags) no_source no_node)
 
 no_nameless : (plan : Plan) → HasActorNames plan → is_among [] (actor_names plan) ≡ false
 no_nameless plan h =
-    let no_node : is_among [] (dotted plan.frags) ≡ false = false_from_ne_true (is_among [] (dotted plan.frags)) (λ e. not_both (is_among [] (named plan.frags)) (in_dotted [] plan.frags h.frags e) (nobody_among (named plan.frags) h.frags)) in
+    let no_node : is_among [] (dotted plan.frags) ≡ false = false_from_ne_true (is_among [] (dotted plan.frags)) (λ e. not-both (is_among [] (named plan.frags)) (in_dotted [] plan.frags h.frags e) (nobody_among (named plan.frags) h.frags)) in
     among_no [] (named_sources plan ++ dotted plan.frags) (named_clients plan) (among_no [] (named_sources plan) (dotted plan.frags) (nobody_among (named_sources plan) h.sources) no_node) (nobody_among (named_clients plan) h.clients)
 
 -- ---- they are the names of the roles
-
-map-map : {X Y Z : Type 0} (g : Y → Z) (f : X → Y) (xs : List X) → map g (map f xs) ≡ map (λ x. g (f x)) xs
-map-map g f [] = refl
-map-map g f (x ∷ xs) = ap (λ l. g (f x) ∷ l) (map-map g f xs)
-
-nth-behind_all : (before : List Word) (w : Word) (ws : List Word) → nth [] (before ++ w ∷ ws) (length before) ≡ w
-nth-behind_all [] w ws = refl
-nth-behind_all (x ∷ before) w ws = nth-behind_all before w ws
 
 -- the words behind others, by number
 by_number : (before ws all : List Word) (k n : ℕ) → all ≡ before ++ ws → length before ≡ k → length ws ≡ n → map (nth [] all) (range_with_len k n) ≡ ws
@@ -186,7 +175,7 @@ by_number before [] all k zero parts count many = refl
 by_number before [] all k (suc n) parts count many = absurd (omega (arith, many))
 by_number before (w ∷ ws) all k zero parts count many = absurd (omega (arith, many))
 by_number before (w ∷ ws) all k (suc n) parts count many =
-    let here : nth [] all k ≡ w = ap (λ l. nth [] l k) parts ∙ ap (nth [] (before ++ w ∷ ws)) (sym count) ∙ nth-behind_all before w ws in
+    let here : nth [] all k ≡ w = ap (λ l. nth [] l k) parts ∙ ap (nth [] (before ++ w ∷ ws)) (sym count) ∙ nth-middle before w ws in
     let more : length (before ++ w ∷ []) ≡ length before + 1 = length-append before (w ∷ []) in
     rw (here, by_number (before ++ w ∷ []) ws all (k + 1) n (parts ∙ sym (append_assoc before (w ∷ []) ws)) (omega (arith, more, count)) (omega (arith, many))) refl
 
@@ -198,7 +187,7 @@ nodes_named plan before (f ∷ fs) k parts count =
     let many : length (named before) ≡ length before = length-map before (λ (g : FragSpec). g.name) in
     let same : length (named before) ≡ k = omega (arith, many, count) in
     let name : frag_name plan k ≡ f.name =
-    ap (λ l. nth [] (named l) k) parts ∙ ap (λ l. nth [] l k) (map-append (λ (g : FragSpec). g.name) before (f ∷ fs)) ∙ ap (nth [] (named before ++ named (f ∷ fs))) (sym same) ∙ nth-behind_all (named before) f.name (named fs) in
+    ap (λ l. nth [] (named l) k) parts ∙ ap (λ l. nth [] l k) (map-append (λ (g : FragSpec). g.name) before (f ∷ fs)) ∙ ap (nth [] (named before ++ named (f ∷ fs))) (sym same) ∙ nth-middle (named before) f.name (named fs) in
     let first : map (role_name plan) (map node here) ≡ dots f.name 0 f.replicas =
     ap (map (role_name plan)) (map-map node (λ r. (k, r)) (range_with_len 0 f.replicas)) ∙ map-map (role_name plan) (λ r. IsNode k r) (range_with_len 0 f.replicas)
     ∙ ap (λ w. dots w 0 f.replicas) name in
@@ -230,7 +219,7 @@ found_back ws i apart nameless known =
       | true ↦ λ e. place-nth ws i apart (ltb-true i (length ws) e)
       | false ↦ λ e.
           let lost : is_none (place_of_name (nth [] ws i) ws) ≡ true = ap (λ w. is_none (place_of_name w ws)) (nth-past [] ws i (ltb-false i (length ws) e)) ∙ ap is_none (no_place [] ws nameless) in
-          absurd (not_both _ lost known)
+          absurd (not-both _ lost known)
     ]) refl
 
 -- an actor that is found by its name is that actor

@@ -17,17 +17,19 @@ use Rattle.dpc_model.specs.declared.plans.ClientSpec.{ClientSpec}
 use Rattle.dpc_model.specs.declared.plans.Plan.{Plan}
 use Rattle.dpc_model.specs.declared.plans.StreamRef.{StreamRef}
 use Rattle.dpc_model.specs.declared.plans.StreamRef.TheVariants.{Source, Frag}
+use Rattle.dpc_lists.proofs.Truths.{or-true}
 use Rattle.script_rules.specs.Statements.{FragmentLine}
 use Rattle.script_rules.specs.Drafts.{Draft, and_then, plan_of, op_names, last_frag, with_op, with_delay, change_last}
 use Rattle.script_rules.specs.Reasons.{is_among, has_twice}
 use Rattle.script_rules.specs.Facts.{is_there}
 use Rattle.script_rules.specs.Checking.{patience_statements, operator_statement, frag_statements, client_statement}
+use Rattle.script_rules.proofs.Called.{named_sources, named}
 use Rattle.script_rules.proofs.Apart.{same_word, among_neither, among_no, twice-first, twice-last}
 use Rattle.script_rules.proofs.Lasts.{nth-first}
 use Rattle.script_rules.proofs.Passing.{IsFine, Passes, passes_first, passes_then, all_said, said-append}
 use Rattle.script_rules.proofs.Headers.{declared}
-use Rattle.script_rules.proofs.Streams.{or_true, other_part, is_within, name_at}
-use Rattle.script_rules.proofs.Inputs.{named_sources, named, EachReads}
+use Rattle.script_rules.proofs.Streams.{other_part, is_within, name_at}
+use Rattle.script_rules.proofs.Inputs.{EachReads}
 use Rattle.script_rules.proofs.Found.{found}
 use Rattle.script_rules.proofs.Recalled.{AreWireNames, stream_back, stream_among, wire_at, wire_name, wires_back}
 use Rattle.script_rules.proofs.Fitting.{FragsFit, columns_of, last_one, change-last, fits-join, operator_fits}
@@ -140,7 +142,7 @@ wire_names plan done f fs before rest names split ops differ =
           let among_all : is_among w (flat_map op_names plan.frags) ≡ true =
           ap (is_among w) all_ops ∙ list_any-append (bytes_eq w) (flat_map op_names done) (op_names f ++ flat_map op_names fs)
           ∙ ap (λ t. is_among w (flat_map op_names done) || t) (list_any-append (bytes_eq w) (op_names f) (flat_map op_names fs) ∙ ap (λ t. t || is_among w (flat_map op_names fs)) among)
-          ∙ or_true (is_among w (flat_map op_names done)) in
+          ∙ or-true (is_among w (flat_map op_names done)) in
           let no_stream : is_among w streams ≡ false = other_part w streams (flat_map op_names plan.frags) names.apart among_all in
           ap (is_among w) ports ∙ ports_among (named_sources plan) (named plan.frags) (length plan.sources) (length done) f.inputs w many few split.within no_stream;
     }

@@ -20,13 +20,14 @@ use Rattle.script_rules.specs.Reasons.{is_node}
 use Rattle.script_rules.specs.Checking.{IsChecked, header_statements, directive_statement, phase_statements, statements_of}
 use Rattle.script_rules.specs.Facts.{directive_fits, HasForm}
 use Rattle.script_rules.specs.Laws.{CheckedHasFacts}
+use Rattle.script_rules.proofs.Called.{named_sources, named}
 use Rattle.script_rules.proofs.Apart.{twice-first}
 use Rattle.script_rules.proofs.Names.{twice-without, nobody_among, source_names_in_range, frag_names_in_range, client_names_in_range}
 use Rattle.script_rules.proofs.Passing.{IsFine, Passes, passes_first, passes_then, all_said, said-append}
 use Rattle.script_rules.proofs.Parts.{said_of_sources, said_of_frags, said_of_clients, said_of_phases, said_at_last, said_from_begin, parts}
 use Rattle.script_rules.proofs.Ranges.{ranges, header_ranges, HasRanges, HasHeaderRanges}
 use Rattle.script_rules.proofs.Headers.{declared, header_of, header_said, plan_said}
-use Rattle.script_rules.proofs.Inputs.{named_sources, named, EachReads, frags_read}
+use Rattle.script_rules.proofs.Inputs.{EachReads, frags_read}
 use Rattle.script_rules.proofs.Found.{place_is}
 use Rattle.script_rules.proofs.Formed.{SendsTo, ActsOnLink}
 use Rattle.script_rules.proofs.Fitted.{place_low, link_found, node_found}

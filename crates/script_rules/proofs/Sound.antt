@@ -11,6 +11,7 @@ use Rattle.dpc_model.specs.declared.scripts.Script.{Script}
 use Rattle.script_rules.specs.Drafts.{op_names}
 use Rattle.script_rules.specs.Checking.{IsChecked}
 use Rattle.script_rules.specs.Facts.{is_there}
+use Rattle.script_rules.proofs.Called.{named_sources, named}
 use Rattle.script_rules.proofs.Apart.{twice-first}
 use Rattle.script_rules.proofs.Names.{nobody_among, source_names_in_range, frag_names_in_range}
 use Rattle.script_rules.proofs.Passing.{Passes, all_said}
@@ -19,7 +20,7 @@ use Rattle.script_rules.proofs.Ranges.{HasRanges, sound_frags}
 use Rattle.script_rules.proofs.Headers.{header_of}
 use Rattle.script_rules.proofs.AllSources.{SourcesFit, logs_in_order}
 use Rattle.script_rules.proofs.Distinct.{with_sources, names_differ}
-use Rattle.script_rules.proofs.Inputs.{named_sources, named, HasStreamNames, KnowsStreams, frags_read, read_before}
+use Rattle.script_rules.proofs.Inputs.{HasStreamNames, KnowsStreams, frags_read, read_before}
 use Rattle.script_rules.proofs.There.{all_there, knows_all, clients_there}
 
 pub stream_names : (s : Script) → IsChecked s → HasRanges s → SourcesFit (header_of s.plan) [] s.plan.sources → HasStreamNames s.plan

@@ -23,9 +23,6 @@ name_of s = s.name
 abbrev pub names_in : List SourceSpec → List Word
 names_in sources = map name_of sources
 
-abbrev no_source : SourceSpec
-no_source = record { name = []; columns = 0; log = [] }
-
 abbrev pub log_statement : Word → Tuple → Statement
 log_statement name t = LogLine name t.stime t.vals
 
@@ -38,10 +35,13 @@ ends_in h done s = declared h (done ++ s ∷ []) [] []
 pub last_named : (h : List ℕ) (done : List SourceSpec) (s : SourceSpec) → is_among s.name (names_in done) ≡ false → source_named (ends_in h done s) s.name ≡ Some (length done)
 last_named h done s fresh = ap (place_of_name s.name) (map_push name_of done s) ∙ place-last s.name (names_in done) fresh ∙ ap Some (length-map done name_of)
 
+abbrev pub no_source : SourceSpec
+no_source = record { name = []; columns = 0; log = [] }
+
 pub last_at : (h : List ℕ) (done : List SourceSpec) (s : SourceSpec) → is_among s.name (names_in done) ≡ false → source_at (ends_in h done s) s.name ≡ s
 last_at h done s fresh = ap (λ o. nth no_source (done ++ s ∷ []) (unwrap_or o 0)) (last_named h done s fresh) ∙ nth-last no_source done s
 
-one_log : (h : List ℕ) (done : List SourceSpec) (s : SourceSpec) (t : Tuple) → is_among s.name (names_in done) ≡ false → and_then (ends_in h done s) (log_statement s.name t) ≡ ends_in h done (with_log t s)
+pub one_log : (h : List ℕ) (done : List SourceSpec) (s : SourceSpec) (t : Tuple) → is_among s.name (names_in done) ≡ false → and_then (ends_in h done s) (log_statement s.name t) ≡ ends_in h done (with_log t s)
 one_log h done s t fresh =
     ap (λ o. declared h (changed (unwrap_or o 0) (with_log t) (done ++ s ∷ [])) [] []) (last_named h done s fresh)
     ∙ ap (λ l. declared h l [] []) (changed-last (with_log t) done s)
@@ -65,7 +65,7 @@ times_of log = map (λ (t : Tuple). t.stime) log
 abbrev pub entries_of : List SourceSpec → ℕ
 entries_of sources = sum_by (λ (s : SourceSpec). length s.log) sources
 
-abbrev fits : ℕ → ℕ → Tuple → Bool
+abbrev pub fits : ℕ → ℕ → Tuple → Bool
 fits end columns t = nat_lt t.stime end && length t.vals == columns
 
 -- the end that the header names

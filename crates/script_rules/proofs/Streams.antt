@@ -8,6 +8,7 @@ use Rattle.dpc_lists.specs.Lists.{nth}
 use Rattle.dpc_model.specs.Words.{Word}
 use Rattle.dpc_model.specs.declared.plans.StreamRef.{StreamRef}
 use Rattle.dpc_model.specs.declared.plans.StreamRef.TheVariants.{Source, Frag}
+use Rattle.dpc_lists.proofs.Truths.{or-true}
 use Rattle.script_rules.specs.Drafts.{place_of_name, or_else}
 use Rattle.script_rules.specs.Reasons.{is_among, has_twice}
 use Rattle.script_rules.proofs.Apart.{same_word, word_is_itself, among_neither, twice-last}
@@ -40,12 +41,8 @@ other_part w (x ∷ a) b h k =
       | false ↦ λ e. other_part w a b p.1 k
     ]) refl
 
-pub or_true : (b : Bool) → (b || true) ≡ true
-or_true true = refl
-or_true false = refl
-
 one_more : (v w : Word) (b : List Word) → is_among v b ≡ true → is_among v (w ∷ b) ≡ true
-one_more v w b k = ap (λ t. bytes_eq v w || t) k ∙ or_true (bytes_eq v w)
+one_more v w b k = ap (λ t. bytes_eq v w || t) k ∙ or-true (bytes_eq v w)
 
 -- an element behind the first part, or none
 pub nth-behind : (P : Word → Type 0) (a b : List Word) (j : ℕ) → length a ≤ j → P [] → ((w : Word) → is_among w b ≡ true → P w) → P (nth [] (a ++ b) j)
@@ -55,22 +52,22 @@ nth-behind P [] (w ∷ b) (suc j) far none each = nth-behind P [] b j (omega ari
 nth-behind P (x ∷ a) b zero far none each = absurd (omega (arith, far))
 nth-behind P (x ∷ a) b (suc j) far none each = nth-behind P a b j (omega (arith, far)) none each
 
--- names that are none, of sources and of the fragments so far
-abbrev IsUnknown : List Word → List Word → Word → Type 0
-IsUnknown sources frags w = (is_among w sources ≡ false) × (is_among w frags ≡ false)
+-- what lies behind the ports and the operators so far has a name of neither
+abbrev pub AreOthers : List Word → List Word → Word → Type 0
+AreOthers ports ops w = (is_among w ports ≡ false) × (is_among w ops ≡ false)
 
 -- a fragment's name behind the fragments so far is unknown yet
-pub later_is_unknown : (sources frags rest : List Word) (j : ℕ) → has_twice (sources ++ (frags ++ rest)) ≡ false → IsUnknown sources frags [] → length frags ≤ j → IsUnknown sources frags (nth [] (frags ++ rest) j)
+pub later_is_unknown : (sources frags rest : List Word) (j : ℕ) → has_twice (sources ++ (frags ++ rest)) ≡ false → AreOthers sources frags [] → length frags ≤ j → AreOthers sources frags (nth [] (frags ++ rest) j)
 later_is_unknown sources frags rest j apart none far =
-    nth-behind (IsUnknown sources frags) frags rest j far none
+    nth-behind (AreOthers sources frags) frags rest j far none
     (λ w k.
-    let among : is_among w (frags ++ rest) ≡ true = list_any-append (bytes_eq w) frags rest ∙ ap (λ t. is_among w frags || t) k ∙ or_true (is_among w frags) in
+    let among : is_among w (frags ++ rest) ≡ true = list_any-append (bytes_eq w) frags rest ∙ ap (λ t. is_among w frags || t) k ∙ or-true (is_among w frags) in
     (other_part w sources (frags ++ rest) apart among, other_part w frags rest (twice-last sources (frags ++ rest) apart) k))
 
 -- a source's name behind the sources is none
-pub no_source_is_unknown : (sources frags : List Word) (j : ℕ) → IsUnknown sources frags [] → length sources ≤ j → IsUnknown sources frags (nth [] sources j)
+pub no_source_is_unknown : (sources frags : List Word) (j : ℕ) → AreOthers sources frags [] → length sources ≤ j → AreOthers sources frags (nth [] sources j)
 no_source_is_unknown sources frags j none far =
-    subst (λ l. IsUnknown sources frags (nth [] l j)) (append-nil sources) (nth-behind (IsUnknown sources frags) sources [] j far none (λ w k. absurd cc))
+    subst (λ l. AreOthers sources frags (nth [] l j)) (append-nil sources) (nth-behind (AreOthers sources frags) sources [] j far none (λ w k. absurd cc))
 
 -- whether a stream is one of so many sources and fragments
 abbrev pub is_within : ℕ → ℕ → StreamRef → Bool
@@ -82,7 +79,7 @@ name_at sources frags (Source s) = nth [] sources s
 name_at sources frags (Frag f) = nth [] frags f
 
 -- a stream that is found by its name among the sources and the fragments so far is one of them
-pub found_is_within : (sources frags rest : List Word) (s : StreamRef) → has_twice (sources ++ (frags ++ rest)) ≡ false → IsUnknown sources frags [] → is_none (stream_at sources frags (name_at sources (frags ++ rest) s)) ≡ false →
+pub found_is_within : (sources frags rest : List Word) (s : StreamRef) → has_twice (sources ++ (frags ++ rest)) ≡ false → AreOthers sources frags [] → is_none (stream_at sources frags (name_at sources (frags ++ rest) s)) ≡ false →
     is_within (length sources) (length frags) s ≡ true
 found_is_within sources frags rest (Source s) apart none found =
     (elim (nat_lt s (length sources)) as (λ t. nat_lt s (length sources) ≡ t → t ≡ true) [

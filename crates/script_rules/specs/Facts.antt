@@ -1,5 +1,5 @@
 -- What engines may rely on in a checked script.
-use Rattle.std.specs.Prelude.{⊤, ◌≡◌, ℕ, ◌+◌, ◌/◌, ◌%◌, ◌^◌, ◌<◌, ◌≤◌, Bool, true, false, not, ◌&&◌, ◌==◌, nat_lt, nat_le, List, [], ◌∷◌, ◌++◌, map, length, flat_map, sum_by}
+use Rattle.std.specs.Prelude.{◌≡◌, ℕ, ◌+◌, ◌/◌, ◌%◌, ◌^◌, ◌<◌, ◌≤◌, Bool, true, false, not, ◌&&◌, ◌==◌, nat_lt, nat_le, List, [], ◌∷◌, ◌++◌, map, length, flat_map, sum_by}
 use Rattle.dpc_lists.specs.Lists.{list_any, list_all, push, is_nil}
 use Rattle.dpc_model.specs.Words.{Word}
 use Rattle.dpc_model.specs.Streams.{IsOrdered}
@@ -68,11 +68,6 @@ directive_fits plan (Restart a) = is_node (role_of plan a)
 abbrev pub reads_once : List StreamRef → Bool
 reads_once [] = true
 reads_once (s ∷ streams) = not (list_any (same_stream s) streams) && reads_once streams
-
--- each number is at least this one, and below those behind it
-abbrev pub IsRising : ℕ → List ℕ → Type 0
-IsRising k [] = ⊤
-IsRising k (n ∷ ns) = (k ≤ n) × IsRising (n + 1) ns
 
 -- 1 to 4 replicas, and 1 to 8 streams that are read
 abbrev pub has_sizes : FragSpec → Bool

@@ -1,6 +1,6 @@
 -- The laws that are wanted of these definitions.
 use Rattle.std.specs.Prelude.{◌≡◌, ℕ, ◌+◌, ◌^◌, ◌≤◌, Bool, true, false, ◌&&◌, nat_lt, ◌⊎◌, ◌↔◌, List, ◌∷◌, ◌++◌, map, length, flat_map, fold, Some, None}
-use Rattle.dpc_lists.specs.Lists.{list_all}
+use Rattle.dpc_lists.specs.Lists.{list_all, IsRising}
 use Rattle.dpc_model.specs.Actors.{roles_of, actors_where}
 use Rattle.dpc_model.specs.declared.actors.Role.{Role}
 use Rattle.dpc_model.specs.ScriptText.{script_text, formula_words}
@@ -25,7 +25,7 @@ use Rattle.script_rules.specs.Reasons.{applies}
 use Rattle.script_rules.specs.Reading.{fault_of, fault_of_end, with_line, refusal, read}
 use Rattle.script_rules.specs.Checking.{IsChecked, is_in_range, is_formula_in_range, check}
 use Rattle.script_rules.specs.Canonical.{IsCanonical}
-use Rattle.script_rules.specs.Facts.{HasFacts, HasForm, IsRising, is_there}
+use Rattle.script_rules.specs.Facts.{HasFacts, HasForm, is_there}
 
 -- ---- a refusal names the first faulty line, and the least reason there
 

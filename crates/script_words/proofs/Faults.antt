@@ -5,6 +5,7 @@ use Rattle.std.proofs.lemmas.Bool.{or_parts, or_right, and_parts, and_right, eqb
 use Rattle.std.proofs.lemmas.List.{append-nil, drop-drop, replicate-append-replicate}
 use Rattle.dpc_lists.specs.Lists.{list_all, list_any}
 use Rattle.dpc_model.specs.Words.{Word}
+use Rattle.dpc_lists.proofs.Truths.{not-false}
 use Rattle.script_rules.specs.Spelling.{is_numeral, number, is_value, value, is_i64, looks_like_value}
 use Rattle.script_rules.specs.Symbols.{symbol_of, operands, formulas}
 use Rattle.script_rules.specs.Places.{must, may, opened, leaves_over, is_foreign, is_no_number, is_out_of_range, is_between, places_of}
@@ -68,10 +69,6 @@ are_good d k places words is h = subst (λ ps. AreGood ps words) (sym is) (recor
 
 -- ---- the word at a place
 
-not_false : (b : Bool) → not b ≡ false → b ≡ true
-not_false true e = refl
-not_false false e = absurd cc
-
 -- a word there opens no further place
 abbrev pub is_closed : Sort → Bool
 is_closed Expression = false
@@ -115,20 +112,20 @@ good_word d k words i sort closed is h = good_at (places_of d k) i words (must s
 
 between : (low high n : ℕ) → not (is_between low high n) ≡ false → (low ≤ n) × (n ≤ high)
 between low high n h =
-    let p = and_parts (nat_le low n) (nat_le n high) (not_false (is_between low high n) h) in
+    let p = and_parts (nat_le low n) (nat_le n high) (not-false (is_between low high n) h) in
     (leb-true low n p.0, leb-true n high p.1)
 
 -- a number at its place
 pub ranged : (low high : ℕ) (w : Word) → high < 2 ^ 64 → IsGood (Range low high) w → (u64_of w ≡ Some (number w)) × (low ≤ number w) × (number w ≤ high)
 ranged low high w lt g =
-    let numeral : is_numeral w ≡ true = not_false (is_numeral w) g.number in
+    let numeral : is_numeral w ≡ true = not-false (is_numeral w) g.number in
     let b = between low high (number w) g.range in
     (rw (numeral, lt-ltb (number w) (2 ^ 64) (omega (arith, b.1))) refl, b.0, b.1)
 
 pub multiple : (low high of : ℕ) (w : Word) → high < 2 ^ 64 → IsGood (Multiple low high of) w → (u64_of w ≡ Some (number w)) × (low ≤ number w) × (number w ≤ high) × (number w % of ≡ 0)
 multiple low high of w lt g =
-    let numeral : is_numeral w ≡ true = not_false (is_numeral w) g.number in
-    let p = and_parts (is_between low high (number w)) (number w % of == 0) (not_false (is_between low high (number w) && number w % of == 0) g.range) in
+    let numeral : is_numeral w ≡ true = not-false (is_numeral w) g.number in
+    let p = and_parts (is_between low high (number w)) (number w % of == 0) (not-false (is_between low high (number w) && number w % of == 0) g.range) in
     let b = and_parts (nat_le low (number w)) (nat_le (number w) high) p.0 in
     let most : number w ≤ high = leb-true (number w) high b.1 in
     (rw (numeral, lt-ltb (number w) (2 ^ 64) (omega arith)) refl, leb-true low (number w) b.0, most, eqb-true (number w % of) 0 p.1)
@@ -171,13 +168,9 @@ behind_count : (words : List Word) → AreGood (must Count ∷ []) words → Are
 behind_count [] g = let more : true ≡ false = g.length in absurd cc
 behind_count (w ∷ ws) g =
     let p = first_good (must Count) [] w ws g in
-    let numeral : is_numeral w ≡ true = not_false (is_numeral w) p.0.number in
+    let numeral : is_numeral w ≡ true = not-false (is_numeral w) p.0.number in
     let opens : opened Count w ws ++ [] ≡ replicate (min (number w) (length ws + 1)) (must Expression) = append-nil (opened Count w ws) ∙ rw numeral refl in
     subst (λ ps. AreGood ps ws) opens p.1
-  where
-    not_false : (b : Bool) → not b ≡ false → b ≡ true
-    not_false true e = refl
-    not_false false e = absurd cc
 
 -- the expressions of a map
 map_good : (d : Draft) (words : List Word) → IsFaultless d key.Map words → AreGood (replicate (min (number (word (drop 2 words) 0)) (length (drop 1 (drop 2 words)) + 1)) (must Expression)) (drop 1 (drop 2 words))
@@ -233,7 +226,7 @@ keys_there (suc n) (l ∷ []) g = let more : true ≡ false = g.length in absurd
 keys_there (suc n) (l ∷ r ∷ ws) g =
     let p = first_good (may LeftKey) (replicate n (may LeftKey)) l (r ∷ ws) g in
     let q = first_good (must Natural) (replicate n (may LeftKey)) r ws p.1 in
-    rw (not_false (is_numeral l) p.0.number, not_false (is_numeral r) q.0.number, keys_there n ws q.1) refl
+    rw (not-false (is_numeral l) p.0.number, not-false (is_numeral r) q.0.number, keys_there n ws q.1) refl
 
 -- a key that is no number of u64 is no column
 keys_past : (a b : ℕ) → a ≤ 2 ^ 64 → b ≤ 2 ^ 64 → (n : ℕ) (ws : List Word) → AreGood (replicate n (may LeftKey)) ws → are_u64 ws ≡ false →
@@ -244,8 +237,8 @@ keys_past a b la lb (suc n) (l ∷ []) g e = let more : true ≡ false = g.lengt
 keys_past a b la lb (suc n) (l ∷ r ∷ ws) g e =
     let p = first_good (may LeftKey) (replicate n (may LeftKey)) l (r ∷ ws) g in
     let q = first_good (must Natural) (replicate n (may LeftKey)) r ws p.1 in
-    let left : is_numeral l ≡ true = not_false (is_numeral l) p.0.number in
-    let right : is_numeral r ≡ true = not_false (is_numeral r) q.0.number in
+    let left : is_numeral l ≡ true = not-false (is_numeral l) p.0.number in
+    let right : is_numeral r ≡ true = not-false (is_numeral r) q.0.number in
     let one_past : (nat_lt (number l) (2 ^ 64) && (nat_lt (number r) (2 ^ 64) && are_u64 ws)) ≡ false =
     ap (λ t. nat_lt (number l) (2 ^ 64) && ((t && nat_lt (number r) (2 ^ 64)) && are_u64 ws)) (sym right)
     ∙ ap (λ t. (t && nat_lt (number l) (2 ^ 64)) && ((is_numeral r && nat_lt (number r) (2 ^ 64)) && are_u64 ws)) (sym left) ∙ e in

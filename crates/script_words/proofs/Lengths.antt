@@ -1,21 +1,14 @@
 -- Tests of expressions, by their longest one and by the columns that they read.
-use Rattle.std.proofs.Common.{◌≡◌, ℕ, ◌+◌, ◌<◌, ◌≤◌, Bool, true, false, ◌&&◌, ◌||◌, max, List, [], ◌∷◌, length, refl, sym, ap, ◌∙◌, arith}
+use Rattle.std.proofs.Common.{◌≡◌, ℕ, ◌+◌, ◌<◌, ◌≤◌, true, false, ◌&&◌, ◌||◌, max, List, [], ◌∷◌, length, refl, sym, ap, ◌∙◌, arith}
 use Rattle.std.specs.Prelude.{nat_lt, nat_le}
 use Rattle.std.proofs.lemmas.Bool.{lt-ltb, le-ltb, le-leb, lt-leb, ltb-true, ltb-false, leb-true, leb-false}
 use Rattle.dpc_lists.specs.Lists.{nth, list_any, list_all}
 use Rattle.dpc_model.specs.Formula as formula
 use Rattle.dpc_model.specs.Formula.{Formula}
 use Rattle.dpc_model.specs.Values.{reads_below}
+use Rattle.dpc_lists.proofs.Truths.{or-none, and-true}
 use Rattle.script_rules.specs.Reasons.{is_too_long}
 use Rattle.script_words.specs.Readable.{longest, columns_of, columns_in}
-
-or_false : (t : Bool) → (t || false) ≡ t
-or_false true = refl
-or_false false = refl
-
-and_true : (t : Bool) → (t && true) ≡ t
-and_true true = refl
-and_true false = refl
 
 lt_max : (k a b : ℕ) → (nat_lt k a || nat_lt k b) ≡ nat_lt k (max a b)
 lt_max k a b =
@@ -67,10 +60,10 @@ reads_below_is n (e ∷ es) = rw (reads_is n e, reads_below_is n es) (max_le (co
 -- the same of a single expression
 pub one_too_long : (es : List Formula) → length es ≡ 1 → is_too_long (nth formula.Time es 0) ≡ nat_lt 64 (longest es)
 one_too_long [] h = absurd (omega arith)
-one_too_long (e ∷ []) h = sym (or_false (is_too_long e)) ∙ too_long_is (e ∷ [])
+one_too_long (e ∷ []) h = sym (or-none (is_too_long e)) ∙ too_long_is (e ∷ [])
 one_too_long (e ∷ f ∷ es) h = absurd (omega arith)
 
 pub one_reads_below : (n : ℕ) (es : List Formula) → length es ≡ 1 → reads_below n (nth formula.Time es 0) ≡ nat_le (columns_in es) n
 one_reads_below n [] h = absurd (omega arith)
-one_reads_below n (e ∷ []) h = sym (and_true (reads_below n e)) ∙ reads_below_is n (e ∷ [])
+one_reads_below n (e ∷ []) h = sym (and-true (reads_below n e)) ∙ reads_below_is n (e ∷ [])
 one_reads_below n (e ∷ f ∷ es) h = absurd (omega arith)

@@ -3,6 +3,7 @@ use Rattle.std.proofs.Common.{◌≡◌, ℕ, zero, suc, ◌+◌, ◌*◌, ◌^�
 use Rattle.std.specs.Prelude.{replicate}
 use Rattle.dpc_lists.specs.Lists.{list_any}
 use Rattle.dpc_model.specs.Words.{Word}
+use Rattle.dpc_lists.proofs.Truths.{or-none}
 use Rattle.script_rules.specs.Symbols.{symbol_of, operands}
 use Rattle.script_rules.specs.Places.{must, opened, placed, leaves_over, is_foreign, is_no_number, is_out_of_range}
 use Rattle.script_rules.specs.Reasons.{first_of_tests}
@@ -62,10 +63,6 @@ pub record IsScan (places : List Place) (all : List Word) (flaws : Flaws) (o : O
 or_assoc : (a b c : Bool) → ((a || b) || c) ≡ (a || (b || c))
 or_assoc true b c = refl
 or_assoc false b c = refl
-
-or_false : (a : Bool) → (a || false) ≡ a
-or_false true = refl
-or_false false = refl
 
 -- one more word, for one of the rules
 one_more : (breaks : Sort → Word → Bool) (o taken new : List Place) (p : Place) (w : Word) (left behind : List Word) (f g whole : Bool) →
@@ -129,10 +126,10 @@ pub ends : (places : List Place) (all left : List Word) (o : Open) (flaws : Flaw
     first_of_tests ((flaws.foreign, 2) ∷ (l, 3) ∷ (flaws.no_number, 4) ∷ (flaws.bad, 5) ∷ []) ≡ fault_of_places places all
 ends places all left o flaws l none is scan =
     found places all flaws.foreign l flaws.no_number flaws.bad
-    (sym (or_false flaws.foreign) ∙ ap (λ ws. flaws.foreign || some_breaks is_foreign (open_places places o) ws) (sym none) ∙ scan.foreign)
+    (sym (or-none flaws.foreign) ∙ ap (λ ws. flaws.foreign || some_breaks is_foreign (open_places places o) ws) (sym none) ∙ scan.foreign)
     (is ∙ ap (leaves_over (open_places places o)) (sym none) ∙ scan.over)
-    (sym (or_false flaws.no_number) ∙ ap (λ ws. flaws.no_number || some_breaks is_no_number (open_places places o) ws) (sym none) ∙ scan.no_number)
-    (sym (or_false flaws.bad) ∙ ap (λ ws. flaws.bad || some_breaks is_bad (open_places places o) ws) (sym none) ∙ scan.bad)
+    (sym (or-none flaws.no_number) ∙ ap (λ ws. flaws.no_number || some_breaks is_no_number (open_places places o) ws) (sym none) ∙ scan.no_number)
+    (sym (or-none flaws.bad) ∙ ap (λ ws. flaws.bad || some_breaks is_bad (open_places places o) ws) (sym none) ∙ scan.bad)
 
 -- a word that has no place
 pub past : (places : List Place) (all left behind : List Word) (w : Word) (o : Open) (flaws : Flaws) → left ≡ w ∷ behind → open_places places o ≡ [] → IsScan places all flaws o left →
@@ -141,7 +138,7 @@ past places all left behind w o flaws at none scan =
     let no_place : (breaks : Sort → Word → Bool) → some_breaks breaks (open_places places o) left ≡ false =
     λ breaks. ap (some_breaks breaks (open_places places o)) at ∙ ap (λ ps. some_breaks breaks ps (w ∷ behind)) none in
     found places all flaws.foreign true flaws.no_number flaws.bad
-    (sym (or_false flaws.foreign) ∙ ap (λ t. flaws.foreign || t) (sym (no_place is_foreign)) ∙ scan.foreign)
+    (sym (or-none flaws.foreign) ∙ ap (λ t. flaws.foreign || t) (sym (no_place is_foreign)) ∙ scan.foreign)
     (ap (λ ps. leaves_over ps (w ∷ behind)) (sym none) ∙ ap (leaves_over (open_places places o)) (sym at) ∙ scan.over)
-    (sym (or_false flaws.no_number) ∙ ap (λ t. flaws.no_number || t) (sym (no_place is_no_number)) ∙ scan.no_number)
-    (sym (or_false flaws.bad) ∙ ap (λ t. flaws.bad || t) (sym (no_place is_bad)) ∙ scan.bad)
+    (sym (or-none flaws.no_number) ∙ ap (λ t. flaws.no_number || t) (sym (no_place is_no_number)) ∙ scan.no_number)
+    (sym (or-none flaws.bad) ∙ ap (λ t. flaws.bad || t) (sym (no_place is_bad)) ∙ scan.bad)

@@ -8,9 +8,9 @@ use Rattle.dpc_model.specs.declared.messages.Subscribe.{Subscribe}
 use Rattle.dpc_model.specs.declared.messages.Message.TheVariants as message
 use Rattle.dpc_model.specs.declared.plans.Plan.{Plan}
 use Rattle.dpc_model.specs.declared.sessions.Sub.{Sub}
+use Rattle.dpc_lists.proofs.Elements.{changed-to-same, nth-is}
 use Rattle.node_model.specs.Mails.{Mail, mail}
 use Rattle.node_model.specs.Sources.{source_readers, source_shown, source_subscribed, source_message}
-use Rattle.soutput.proofs.Answering.{changed-to-same, nth-is}
 use Rattle.source_core.specs.Emitting.{SourceValue, IsSourceOf, after_step}
 
 -- whether a reader's session is newer is whether it is newer than the one at its place

@@ -10,7 +10,7 @@ use crate::giving::beats;
 use crate::log::bound_past;
 use actor_lists::lists::{place_of, readers_of};
 use dpc_lists::faults::NoMemory;
-use dpc_model::messages::{Message, Out, Sess};
+use dpc_model::messages::{Message, Out};
 use dpc_model::plans::{Plan, StreamRef};
 use dpc_model::sessions::Sub;
 use soutput::batches::can_count;
@@ -52,22 +52,11 @@ impl Model for SourceNode {
     ghost invariant = { λ s. length s.sessions.items ≡ length s.readers.items };
 }
 
-/// A session at the opening, to which nothing was sent yet.
-fn opening() -> Sub
-    ensures { result ≡ opening_session }
-{
-    Sub {
-        kept: Some(Sess { inc: 1, number: 1 }),
-        is_open: true,
-        batches: 0,
-    }
-}
-
 /// A session of each reader at the opening.
 fn openings(alloc: Global, readers: &[u64]) -> Result<Vec<Sub>, AllocError>
     ensures { IfOk result (λ sessions. sessions.items ≡ map (λ _. opening_session) readers.now) }
 {
-    let sessions = vec![in alloc; opening(); readers.len()]?;
+    let sessions = vec![in alloc; Sub::opening(); readers.len()]?;
     Ok(sessions)
 }
 

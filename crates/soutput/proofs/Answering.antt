@@ -1,5 +1,5 @@
 -- A subscription: the session that it leaves and its answer, case by case.
-use Rattle.std.proofs.Common.{◌≡◌, ℕ, zero, suc, ◌≤◌, ◌<◌, Bool, true, false, List, [], ◌∷◌, length, refl, sym, ap, arith, Some, None, slice_index_or}
+use Rattle.std.proofs.Common.{◌≡◌, ℕ, ◌≤◌, ◌<◌, Bool, true, false, List, length, refl, sym, ap, Some, None}
 use Rattle.std.proofs.lemmas.Bool.{lt-ltb, le-ltb}
 use Rattle.dpc_lists.specs.Lists.{nth, changed}
 use Rattle.dpc_model.specs.Parts.{shown_of}
@@ -10,19 +10,8 @@ use Rattle.dpc_model.specs.declared.tuples.Item.{Item}
 use Rattle.dpc_model.specs.declared.messages.Subscribe.{Subscribe}
 use Rattle.dpc_model.specs.declared.messages.Message.TheVariants as message
 use Rattle.dpc_model.specs.declared.sessions.Sub.{Sub}
+use Rattle.dpc_lists.proofs.Elements.{changed-to-same}
 use Rattle.soutput.specs.Giving.{stream_behind, IsAnswered}
-
--- a session that is put where it stands
-pub changed-to-same : {X : Type 0} (d : X) (i : ℕ) (xs : List X) → changed i (λ _. nth d xs i) xs ≡ xs
-changed-to-same d i [] = refl
-changed-to-same d zero (x ∷ xs) = refl
-changed-to-same {X = X} d (suc i) (x ∷ xs) = ap (λ (ys : List X). x ∷ ys) (changed-to-same d i xs)
-
--- an element that is there
-pub nth-is : {X : Type 0} (d x : X) (i : ℕ) (xs : List X) → i < length xs → x ≡ slice_index_or xs i x → nth d xs i ≡ x
-nth-is d x i [] low e = absurd (omega (arith, low))
-nth-is d x zero (y ∷ xs) low e = sym e
-nth-is d x (suc i) (y ∷ xs) low e = nth-is d x i xs (omega (arith, low)) e
 
 -- what is asked by a session that is not newer
 pub old-answered : (stable_now : Bool) (reader : ℕ) (asked : Subscribe) (v : OutputValue) → is_newer_than_kept asked.sess (nth no_session v.subs reader).kept ≡ false →

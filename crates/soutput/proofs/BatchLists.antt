@@ -9,6 +9,7 @@ use Rattle.dpc_model.specs.declared.messages.Sess.{Sess}
 use Rattle.dpc_model.specs.declared.messages.Message.{Message}
 use Rattle.dpc_model.specs.declared.messages.Message.TheVariants as message
 use Rattle.dpc_model.specs.declared.sessions.Sub.{Sub}
+use Rattle.dpc_model.proofs.Subs.{shut-tally}
 use Rattle.soutput.specs.Giving.{batch_to}
 
 pub batches-taken : (k i : ℕ) (items : List Item) (subs : List Sub) (d : Sub) → i < length subs →
@@ -52,9 +53,6 @@ pub room-at : (i : ℕ) (subs : List Sub) (d : Sub) → list_all (λ (s : Sub). 
 room-at i [] d h low = absurd (omega (arith, low))
 room-at zero (x ∷ subs) d h low = ltb-true (x.batches + 1) (2 ^ 64) (and_parts (nat_lt (x.batches + 1) (2 ^ 64)) _ h).0
 room-at (suc i) (x ∷ subs) d h low = room-at i subs d (and_parts (nat_lt (x.batches + 1) (2 ^ 64)) _ h).1 (omega (arith, low))
-
-shut-tally : (s : Sub) → s.is_open ≡ false → tally_of s ≡ None
-shut-tally s h = elim s.kept as (λ k. tally_of (record s { kept = k }) ≡ None) [ None ↦ refl | Some u ↦ rw h refl ]
 
 -- where no session is open, nothing is sent
 none-sent : (k : ℕ) (items : List Item) (subs : List Sub) → list_any (λ (s : Sub). s.is_open) subs ≡ false → batches_from k items subs ≡ []

@@ -1,5 +1,5 @@
 -- An output goes on to stand for the plain one.
-use Rattle.std.proofs.Common.{◌≡◌, ℕ, ◌+◌, ◌-◌, ◌≤◌, Bool, List, [], ◌∷◌, ◌++◌, take, drop, length, refl, sym, ap, subst, ◌∙◌, arith, max, min, length-append, Option, Some, None}
+use Rattle.std.proofs.Common.{◌≡◌, ℕ, ◌+◌, ◌-◌, ◌≤◌, Bool, List, [], ◌∷◌, ◌++◌, take, drop, length, refl, sym, ap, subst, ◌∙◌, arith, length-append, Option, Some, None}
 use Rattle.std.specs.Prelude.{unwrap_or}
 use Rattle.std.proofs.lemmas.List.{drop-drop, length-take-le, drop-append-le, take-append-drop}
 use Rattle.dpc_lists.specs.Lists.{nth, changed}
@@ -10,11 +10,9 @@ use Rattle.dpc_model.specs.declared.tuples.Tuple.{Tuple}
 use Rattle.dpc_model.specs.declared.tuples.Item.{Item}
 use Rattle.dpc_model.specs.declared.tuples.Item.TheVariants.{Undo}
 use Rattle.dpc_model.specs.declared.sessions.Sub.{Sub}
+use Rattle.dpc_model.proofs.Numbers.{base-within}
 use Rattle.soutput.specs.Giving.{given_behind, fresh_items, with_batch_of, with_fresh, with_base_after, stream_behind, answer_behind}
 use Rattle.soutput.specs.Laws.{stream_with, outputs_at, GivingStands, UndoingStands, AnsweringStands, AckingStands}
-
-base-within : (old least count : ℕ) → old ≤ count → max old (min least count) ≤ count
-base-within old least count h = omega (arith, h)
 
 -- cut to its base an output stands for the plain one with that base
 base-stands : (s : Stream) (v : OutputValue) (x : Outputs) → StandsForOutput s v x → StandsForOutput s (with_base_after v) (outputs_at (length s.stable) x)

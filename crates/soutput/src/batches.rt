@@ -7,7 +7,7 @@ ghost use Rattle.soutput.specs.Giving.{batch_to};
 
 use dpc_lists::faults::NoMemory;
 use dpc_lists::shared::Shared;
-use dpc_model::messages::{Message, Sess};
+use dpc_model::messages::Message;
 use dpc_model::sessions::Sub;
 use dpc_model::tuples::Item;
 use std::alloc::Global;
@@ -70,23 +70,12 @@ pub fn count_batches(sessions: &mut [Sub])
     }
 }
 
-/// A session at the opening, to which nothing was sent yet.
-fn opening() -> Sub
-    ensures { result ≡ opening_session }
-{
-    Sub {
-        kept: Some(Sess { inc: 1, number: 1 }),
-        is_open: true,
-        batches: 0,
-    }
-}
-
 /// Opens each session as it is at the opening.
 pub fn open_all(sessions: &mut [Sub])
     ensures { sessions.new ≡ map (λ _. opening_session) sessions.old }
 {
     for session in sessions.iter_mut() {
-        *session = opening();
+        *session = Sub::opening();
     }
 }
 

@@ -9,6 +9,7 @@ use Rattle.dpc_model.specs.Due.{reach, is_reached}
 use Rattle.dpc_model.specs.Inlets.{restarted_inlet}
 use Rattle.dpc_model.specs.Reading.{Reader, stable_reader}
 use Rattle.dpc_model.specs.PartStands.{InletValue}
+use Rattle.dpc_lists.proofs.Places.{last-none}
 use Rattle.sunion.specs.Ports.{least_over, begun_anew, forgetting, reached_at, complete_at, passing_inputs}
 
 pub least_over-more : (f : InletValue → ℕ) (most : ℕ) (ports : List InletValue) (i : ℕ) (port : InletValue) → i < length ports → port ≡ slice_index_or ports i port →
@@ -61,10 +62,6 @@ anew-more time (suc i) (m ∷ counts) (p ∷ ports) d e n low many is =
     rw next (ap (λ (vs : List InletValue). record { count = m; state = restarted_inlet (stable_reader [] time) p.state.sess } ∷ vs) (anew-more time i counts ports d e n (omega (arith, low)) (omega (arith, many)) is))
 
 -- ---- the last number that passes a test
-
-pub last-none : (test : ℕ → Bool) (n : ℕ) → ((k : ℕ) → k < n → test k ≡ false) → last_below test n ≡ None
-last-none test zero h = refl
-last-none test (suc n) h = rw (h n (omega arith)) (last-none test n (λ k low. h k (omega (arith, low))))
 
 pub last-some : (test : ℕ → Bool) (n k : ℕ) → k < n → test k ≡ true → ((j : ℕ) → k < j → j < n → test j ≡ false) → last_below test n ≡ Some k
 last-some test zero k low e h = absurd (omega (arith, low))

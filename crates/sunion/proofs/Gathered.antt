@@ -1,5 +1,5 @@
 -- The tuples of a bucket port by port, and then in order of time.
-use Rattle.std.proofs.Common.{◌≡◌, ℕ, zero, suc, ◌+◌, ◌*◌, ◌<◌, List, [], ◌∷◌, ◌++◌, map, take, length, sym, ap, ◌∙◌, arith, append_assoc, append-nil, add-zero, slice_index_or}
+use Rattle.std.proofs.Common.{◌≡◌, ℕ, zero, suc, ◌+◌, ◌*◌, ◌<◌, List, [], ◌∷◌, ◌++◌, map, take, length, sym, ap, ◌∙◌, arith, append_assoc, slice_index_or}
 use Rattle.std.proofs.lemmas.List.{map-append, take_more, length-map, length-take-le}
 use Rattle.std.proofs.lemmas.List.Elements.{filter-append}
 use Rattle.std.specs.Prelude.{nat_le, ◌&&◌}
@@ -10,16 +10,8 @@ use Rattle.dpc_model.specs.Parts.{bucket_at}
 use Rattle.dpc_model.specs.PartStands.{InletValue}
 use Rattle.dpc_model.specs.declared.tuples.Tuple.{Tuple}
 use Rattle.dpc_model.specs.declared.tuples.Tagged.{Tagged}
+use Rattle.dpc_model.proofs.Serial.{tagged_from-push}
 use Rattle.sunion.specs.Ports.{bucket_of, KeptInOrder}
-
--- the tuples of one port behind those of the others
-tagged_from-push : (p : ℕ) (tss : List (List Tuple)) (ts : List Tuple) → tagged_from p (tss ++ ts ∷ []) ≡ tagged_from p tss ++ map (tag (p + length tss)) ts
-tagged_from-push p [] ts = rw (add-zero p) (append-nil (map (tag p) ts))
-tagged_from-push p (us ∷ tss) ts =
-    let next : (p + 1) + length tss ≡ p + suc (length tss) = omega arith in
-    let last = map (tag (p + suc (length tss))) ts in
-    let rest : tagged_from (p + 1) (tss ++ ts ∷ []) ≡ tagged_from (p + 1) tss ++ last = rw (← next) (tagged_from-push (p + 1) tss ts) in
-    rw rest (sym (append_assoc (map (tag p) us) (tagged_from (p + 1) tss) last))
 
 -- what one port keeps is in order of time
 pub kept-at : (ports : List InletValue) (i : ℕ) (port : InletValue) → KeptInOrder ports → i < length ports → port ≡ slice_index_or ports i port → InOrder port.state.held.stable

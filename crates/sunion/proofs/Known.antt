@@ -14,6 +14,8 @@ use Rattle.dpc_model.specs.Due.{reach, stamp_of, waited_long, is_reached}
 use Rattle.dpc_model.specs.Parts.{Inputs, frontier_of, bucket_at}
 use Rattle.dpc_model.specs.PartStands.{InletValue, StandsForInlet}
 use Rattle.dpc_model.specs.declared.tuples.Tuple.{Tuple}
+use Rattle.dpc_lists.proofs.Truths.{or-none}
+use Rattle.dpc_lists.proofs.Places.{last-same}
 use Rattle.inlet.proofs.Dropping.{kept-InOrder}
 use Rattle.inlet.proofs.Standing.{lacks-some}
 use Rattle.sunion.specs.Values.{SUnionValue}
@@ -78,10 +80,6 @@ complete-first v x p h some e = by-parts v.union.inlets refl some e
 
 -- ---- overdue and reached buckets
 
-last-same : (p q : ℕ → Bool) (n : ℕ) → ((k : ℕ) → p k ≡ q k) → last_below p n ≡ last_below q n
-last-same p q zero e = refl
-last-same p q (suc n) e = rw (e n, last-same p q n e) refl
-
 pub last-within : (p : ℕ → Bool) (n k : ℕ) → last_below p n ≡ Some k → k < n
 last-within p zero k e = absurd (cc)
 last-within p (suc n) k e =
@@ -129,11 +127,7 @@ overdue-test : (v : SUnionValue) (x : Inputs) (now k : ℕ) → StandsForInputs 
 overdue-test v x now k h = rw (view-same v x h, h.stamps k) refl
 
 pub overdue-is : (v : SUnionValue) (x : Inputs) (now : ℕ) → StandsForInputs v x → last_due_in v false now x ≡ overdue_in v now
-overdue-is v x now h = last-same _ _ v.buckets (λ k. or-false _ ∙ overdue-test v x now k h)
-  where
-    or-false : (b : Bool) → (b || false) ≡ b
-    or-false true = refl
-    or-false false = refl
+overdue-is v x now h = last-same _ _ v.buckets (λ k. or-none _ ∙ overdue-test v x now k h)
 
 reached-test : (v : SUnionValue) (x : Inputs) (k : ℕ) → StandsForInputs v x →
     is_reached (due_inputs_of v true x) k ≡ is_reached (passing_inputs v.width v.union.inlets (v.union.cursor + v.union.closed) (nat_lt 0 v.union.closed)) k

@@ -6,7 +6,7 @@ use Rattle.std.proofs.lemmas.List.Elements.{All-nil, All-cons, All-head, All-tai
 use Rattle.std.specs.List.{All, AllZip, filter}
 use Rattle.std.specs.Prelude.{unwrap_or, if◌then◌else◌}
 use Rattle.dpc_model.specs.Streams.{InOrder, NoneBelow, time_of}
-use Rattle.dpc_lists.proofs.Elements.{get-drop}
+use Rattle.dpc_lists.proofs.Elements.{get-drop, nth-is}
 use Rattle.inlet.proofs.Dropping.{drop_below-past}
 use Rattle.dpc_lists.specs.Lists.{nth, changed}
 use Rattle.dpc_model.specs.Due.{Stamps, stamp_of}
@@ -22,11 +22,6 @@ use Rattle.sunion.specs.Ports.{forgetting}
 use Rattle.sunion.specs.Values.{SUnionValue}
 use Rattle.sunion.specs.Unions.{StandsForInputs, no_inlet, no_value, after_advancing, ForgetsBelow}
 use Rattle.sunion.proofs.Waiting.{stamp-at, stamp-before}
-
-pub nth-is : {X : Type 0} (d x : X) (i : ℕ) (xs : List X) → i < length xs → x ≡ slice_index_or xs i x → nth d xs i ≡ x
-nth-is d x i [] low e = absurd (omega (arith, low))
-nth-is d x zero (y ∷ xs) low e = sym e
-nth-is d x (suc i) (y ∷ xs) low e = nth-is d x i xs (omega (arith, low)) e
 
 -- ---- one port
 

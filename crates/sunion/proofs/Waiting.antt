@@ -4,9 +4,11 @@ use Rattle.std.proofs.lemmas.Grind.{common_steps}
 use Rattle.std.proofs.lemmas.Bool.{cases_order}
 use Rattle.dpc_lists.specs.Lists.{nth, last_below}
 use Rattle.dpc_model.specs.Due.{stamp_of, waited_long}
+use Rattle.dpc_lists.proofs.Truths.{and-none}
+use Rattle.dpc_lists.proofs.Elements.{nth-past}
+use Rattle.dpc_lists.proofs.Places.{last-same, last-none}
 use Rattle.sunion.specs.Clocks.{stamps_from}
 use Rattle.sunion.proofs.Stamping.{is_waiting}
-use Rattle.sunion.proofs.Counting.{last-none}
 
 -- ---- the stamp of a bucket is what its place says
 
@@ -23,11 +25,6 @@ stamp-at first (Some at ∷ clocks) zero k e = let here : (first == k) ≡ true 
 stamp-at first (None ∷ clocks) (suc place) k e = stamp-at (first + 1) clocks place k (omega (arith, e))
 stamp-at first (Some at ∷ clocks) (suc place) k e =
     let other : (first == k) ≡ false = grind (arith, common_steps, e) in rw other (stamp-at (first + 1) clocks place k (omega (arith, e)))
-
-nth-past : {X : Type 0} (d : X) (xs : List X) (i : ℕ) → length xs ≤ i → nth d xs i ≡ d
-nth-past d [] i h = refl
-nth-past d (x ∷ xs) zero h = absurd (omega (arith, h))
-nth-past d (x ∷ xs) (suc i) h = nth-past d xs i (omega (arith, h))
 
 -- ---- tests that hold from one number on, and below another
 
@@ -55,10 +52,6 @@ last-shift test first (suc n) e =
       | false ↦ λ t. rw t (last-shift test first n e)
     ]) refl)
 
-last-same : (p q : ℕ → Bool) (n : ℕ) → ((k : ℕ) → p k ≡ q k) → last_below p n ≡ last_below q n
-last-same p q zero e = refl
-last-same p q (suc n) e = rw (e n, last-same p q n e) refl
-
 -- ---- the last one, by its place
 
 abbrev waits : ℕ → ℕ → List (Option ℕ) → ℕ → ℕ → ℕ → Bool
@@ -75,11 +68,7 @@ waits-at first closed clocks delay now place =
 waits-past : (first closed : ℕ) (clocks : List (Option ℕ)) (delay now k : ℕ) → first + length clocks ≤ k → waits first closed clocks delay now k ≡ false
 waits-past first closed clocks delay now k h =
     let place : k ≡ first + (k - first) = omega (arith, h) in
-    rw (stamp-at first clocks (k - first) k place, nth-past None clocks (k - first) (omega (arith, h))) (never (nat_le (first + closed) k))
-  where
-    never : (b : Bool) → (b && false) ≡ false
-    never true = refl
-    never false = refl
+    rw (stamp-at first clocks (k - first) k place, nth-past None clocks (k - first) (omega (arith, h))) (and-none (nat_le (first + closed) k))
 
 pub overdue-at : (first closed : ℕ) (clocks : List (Option ℕ)) (delay now buckets places : ℕ) → places ≡ min (length clocks) (buckets - first) →
     behind first (last_below (is_waiting clocks closed delay now) places) ≡ last_below (λ k. nat_le (first + closed) k && waited_long (stamp_of (stamps_from first clocks) k) delay now) buckets

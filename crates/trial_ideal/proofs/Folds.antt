@@ -10,6 +10,7 @@ use Rattle.dpc_model.specs.declared.tuples.Tagged.{Tagged}
 use Rattle.dpc_model.specs.declared.operators.OpSpec.{OpSpec}
 use Rattle.dpc_model.specs.declared.plans.FragSpec.{FragSpec}
 use Rattle.dpc_model.specs.declared.plans.Plan.{Plan}
+use Rattle.dpc_lists.proofs.Elements.{range-more}
 
 pub outputs_after-more : (outs : List (List Tuple)) (ops : List OpSpec) (xs : List Tagged) (b i : ℕ) (d : OpSpec) → i < length ops →
     let before = outputs_after outs (take i ops) xs b in
@@ -59,14 +60,6 @@ pub fragment-more : (plan : Plan) (b i : ℕ) (d : FragSpec) (values new ports :
     values ≡ fragments_upto plan b [] (take i plan.frags) → ports ≡ map (stream_upto plan b values) (get_or plan.frags i d).inputs →
     value ≡ fragment_value (get_or plan.frags i d).ops (serial ports) b → new ≡ push values value → new ≡ fragments_upto plan b [] (take (i + 1) plan.frags)
 fragment-more plan b i d values new ports value h v p f e = rw (fragments_upto-more plan b [] plan.frags i d h, ← v, ← p, ← f) e
-
--- one window more
-range-more : (s n : ℕ) → range_with_len s (n + 1) ≡ range_with_len s n ++ (s + n) ∷ []
-range-more s zero = let e : s + 0 ≡ s = omega arith in rw e refl
-range-more s (suc n) =
-    let e : suc n + 1 ≡ suc (n + 1) = omega arith in
-    let f : s + suc n ≡ s + 1 + n = omega arith in
-    rw (e, f) (ap (λ (ns : List ℕ). s ∷ ns) (range-more (s + 1) n))
 
 pub windows-more : (f : ℕ → List Tuple) (n : ℕ) → flat_map f (range_with_len 0 (n + 1)) ≡ flat_map f (range_with_len 0 n) ++ f n
 windows-more f n =

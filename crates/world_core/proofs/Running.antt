@@ -3,7 +3,7 @@ use Rattle.std.proofs.Common.{◌≡◌, ℕ, ◌+◌, List, [], ◌∷◌, ◌+
 use Rattle.dpc_model.specs.declared.messages.Event.{Event}
 use Rattle.dpc_model.specs.declared.plans.Plan.{Plan}
 use Rattle.world_model.specs.Worlds.{World, run, sums_after}
-use Rattle.law_safety.proofs.Runs.{run-push}
+use Rattle.world_model.proofs.Running.{run-push}
 use Rattle.law_fit.specs.Fits.{CanRun}
 use Rattle.law_fit.proofs.FitWorlds.{run-world}
 use Rattle.world_parts.specs.Parts.{WorldPartsValue, StandsForWorld}

@@ -8,6 +8,7 @@ use Rattle.dpc_model.specs.PartStands.{at_cursor}
 use Rattle.dpc_model.specs.Parts.{Neighbours, processed}
 use Rattle.dpc_model.specs.declared.messages.Event.{Event}
 use Rattle.dpc_model.specs.declared.plans.Plan.{Plan}
+use Rattle.dpc_lists.proofs.Truths.{or-true}
 use Rattle.fragment_mill.specs.Mills.{MillState, MillAfter}
 use Rattle.mill_work.specs.Milling.{OrderValue}
 use Rattle.node_model.specs.Nodes.{Home, PlainNode, ready}
@@ -96,13 +97,9 @@ still-fits w v o can stands h =
 
 -- ---- what is stale
 
-behind-all : (a : Bool) → (a || true) ≡ true
-behind-all true = refl
-behind-all false = refl
-
 -- a node that is down is somewhere else
 down-is-stale : (last_inc : ℕ) (needed : Point) → is_stale (down_point last_inc) needed ≡ true
-down-is-stale last_inc needed = behind-all (not (last_inc == needed.inc) || not (0 == needed.cursor) || nat_lt 0 needed.ready)
+down-is-stale last_inc needed = or-true (not (last_inc == needed.inc) || not (0 == needed.cursor) || nat_lt 0 needed.ready)
 
 elsewhere-stale : (last_inc : ℕ) (n : Option NodeValue) (o : OrderValue MillState) (had needed : Point) → IsElsewhere last_inc n o had needed → is_stale had needed ≡ true
 elsewhere-stale last_inc None o had needed h = subst (λ (p : Point). is_stale p needed ≡ true) (sym h) (down-is-stale last_inc needed)

@@ -4,3 +4,4 @@ pub mod Safe
 pub mod SessionLaw
 pub mod Steady
 pub mod Orderly
+pub mod Events

@@ -15,9 +15,15 @@ use Rattle.world_model.specs.Worlds.{World, Envelope, slot_of, node_at, new_worl
 
 -- ---- phases
 
--- the most quiet phases of a run: (F + 1)(R + 1)(6G + 20) with F fragments, R the most replicas, and G = 3
+-- Six times the three ticks without a beat that tell that a replica is absent, and 20. Two things are counted by it: the quiet phases
+-- past which no node may recover any more (`IsSteady`), and those that a fragment takes, from its inputs on, until its readers have its
+-- stream, which are at most so many for each of its replicas and once more (`enough` of `law_settling_whole`: far fewer, 22 would do)
+abbrev pub settling_phases : ℕ
+settling_phases = 38
+
+-- the most quiet phases of a run: so many for each of F + 1 and R + 1, with F fragments and R the most replicas of one
 abbrev pub quiet_limit : Plan → ℕ
-quiet_limit plan = (length plan.frags + 1) * (fold max 0 (map (λ (f : FragSpec). f.replicas) plan.frags) + 1) * 38
+quiet_limit plan = (length plan.frags + 1) * (fold max 0 (map (λ (f : FragSpec). f.replicas) plan.frags) + 1) * settling_phases
 
 -- the clock of the last phase, 0 where there is none
 abbrev pub last_clock : Script → ℕ

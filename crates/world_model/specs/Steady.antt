@@ -11,7 +11,7 @@ use Rattle.dpc_model.specs.declared.scripts.Script.{Script}
 use Rattle.node_model.specs.Nodes.{PlainNode}
 use Rattle.node_model.specs.Sources.{SourceState}
 use Rattle.world_model.specs.Worlds.{World, Slot, happens, slot_of, client_at, new_world, run, all_settled}
-use Rattle.world_model.specs.Schedules.{is_live}
+use Rattle.world_model.specs.Schedules.{settling_phases, is_live}
 
 -- no node that is up recovers
 abbrev pub NoneRecovers : List Slot → Type 0
@@ -63,18 +63,14 @@ phase_at p (Deliver k) = p
 phase_at p (Tick a now) = p
 phase_at p (Mill a r) = p
 
--- the number of the last phase in which a recovery may go on
-abbrev pub patience : ℕ
-patience = 38
-
 abbrev pub SteadyFrom : Script → ℕ → World → List Event → Type 0
 SteadyFrom script p w [] = ⊤
 SteadyFrom script p w (e ∷ events) =
     let q = phase_at p e in
     let next = happens w e in
-    (length script.phases + patience < q → NoneRecovers next.nodes × TickIsHeard next e) × SteadyFrom script q next events
+    (length script.phases + settling_phases < q → NoneRecovers next.nodes × TickIsHeard next e) × SteadyFrom script q next events
 
--- past the first quiet phases no node recovers, and no reader misses the beats of one of several replicas
+-- past so many quiet phases no node recovers, and no reader misses the beats of one of several replicas
 abbrev pub IsSteady : Script → List Event → Type 0
 IsSteady script events = SteadyFrom script 0 (new_world script.plan) events
 

@@ -16,7 +16,8 @@ use Rattle.client_fold.specs.Folding.{ClientValue, StandsForClient, StandForClie
 use Rattle.source_core.specs.Emitting.{SourceValue, opening_source}
 use Rattle.source_core.proofs.Staying.{opens}
 use Rattle.world_model.specs.Worlds.{new_world}
-use Rattle.law_safety.proofs.Tests.{lt-of}
+use Rattle.dpc_lists.proofs.Truths.{lt-of}
+use Rattle.dpc_lists.proofs.Elements.{range-more}
 use Rattle.law_fit.specs.Fits.{CanRun}
 use Rattle.law_fit.proofs.Replicas.{few-senders}
 use Rattle.world_parts.specs.Parts.{WorldPartsValue, SlotValue, StandForSources, StandForSlots, StandsForWorld}
@@ -24,11 +25,6 @@ use Rattle.world_parts.specs.Opening.{new_slot, IsNewSlot, AreNewSlots, replicas
 use Rattle.world_parts.proofs.PartFrames.{read-at}
 
 -- ---- one more
-
-pub range-more : (a n : ℕ) → range_with_len a (n + 1) ≡ range_with_len a n ++ (a + n) ∷ []
-range-more a zero = let none : a + 0 ≡ a = omega arith in rw none refl
-range-more a (suc n) =
-    let next : a + suc n ≡ a + 1 + n = omega arith in let step : suc n + 1 ≡ suc (n + 1) = omega arith in rw (step, next) (ap (λ (ns : List ℕ). a ∷ ns) (range-more (a + 1) n))
 
 pub zip-append : {A B : Type 0} (R : A → B → Type 0) (xs us : List A) (ys vs : List B) → AllZip R xs ys → AllZip R us vs → AllZip R (xs ++ us) (ys ++ vs)
 zip-append R [] us [] vs h k = k

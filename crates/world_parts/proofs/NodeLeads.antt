@@ -17,7 +17,7 @@ use Rattle.world_model.specs.Worlds.{World, Envelope, Slot, home_of, node_place,
 use Rattle.world_model.specs.Orderly.{is_fitting}
 use Rattle.law_safety.specs.Plans.{IsCheckedPlan}
 use Rattle.law_safety.specs.Keeps.{IsFineWorld}
-use Rattle.law_safety.proofs.Tests.{both}
+use Rattle.dpc_lists.proofs.Truths.{both}
 use Rattle.law_safety.proofs.Law.{event-keeps}
 use Rattle.law_fit.specs.Fits.{CanRun}
 use Rattle.law_fit.proofs.FitWorlds.{world-nodes, world-packets}

@@ -1,7 +1,6 @@
 -- What posting mails makes of what stands for a world, and what follows of an event.
-use Rattle.std.proofs.Common.{◌≡◌, ℕ, zero, suc, Some, slice_get, slice_index_or, ◌+◌, ◌<◌, ◌≤◌, Bool, true, false, not, ◌||◌, ◌&&◌, ◌==◌, nat_lt, List, [], ◌∷◌, ◌++◌, map, length, refl, sym, ap, subst, ◌∙◌, arith, inl, inr}
+use Rattle.std.proofs.Common.{◌≡◌, ℕ, zero, suc, Some, slice_get, slice_index_or, ◌+◌, ◌≤◌, Bool, true, false, not, ◌||◌, ◌&&◌, ◌==◌, nat_lt, List, [], ◌∷◌, ◌++◌, map, length, refl, sym, ap, subst, ◌∙◌, arith, inl, inr}
 use Rattle.std.specs.List.{AllZip}
-use Rattle.std.proofs.lemmas.Grind.{common_steps}
 use Rattle.std.proofs.lemmas.Option.{get_or_from_slice_get}
 use Rattle.std.proofs.lemmas.Slice.Zip.{AllZip-long}
 use Rattle.dpc_lists.specs.Lists.{list_all}
@@ -22,7 +21,7 @@ use Rattle.node_core.specs.declared.packets.Packet.TheVariants as packet
 use Rattle.node_core.specs.declared.packets.Mail as code_mail
 use Rattle.world_model.specs.Worlds.{World, Envelope, home_of, happens, from, sent, item_count, items_in, passes_limit}
 use Rattle.world_model.specs.Orderly.{is_fitting, packet_way, carries_fitting}
-use Rattle.law_safety.proofs.Tests.{both, eq-of}
+use Rattle.dpc_lists.proofs.Truths.{both, eq-of, lt-test, not-less, or-left, or-right}
 use Rattle.world_parts.specs.Parts.{WorldPartsValue, EnvelopeValue, StandsForSent, StandsForEnvelope, StandsForWorld}
 use Rattle.world_parts.specs.Counting.{items_carried, all_carried, posted, with_posted, IsPastLimits, IsWithinLimits, IsTooLong}
 use Rattle.world_parts.specs.Events.{Leads, Happened, WouldPass}
@@ -158,19 +157,6 @@ envelope-seen old seen k e read same is here = here ∙ ap (λ (p : WorldPartsVa
 either-false : (a b : Bool) → a ≡ false → b ≡ false → (a || b) ≡ false
 either-false a b e f = rw (e, f) refl
 
-either-left : (a b : Bool) → a ≡ true → (a || b) ≡ true
-either-left a b e = rw e refl
-
-either-right : (a b : Bool) → b ≡ true → (a || b) ≡ true
-either-right true b e = refl
-either-right false b e = e
-
-none-past : (n m : ℕ) → m ≤ n → nat_lt n m ≡ false
-none-past n m h = grind (arith, common_steps)
-
-is-past : (n m : ℕ) → n < m → nat_lt n m ≡ true
-is-past n m h = grind (arith, common_steps)
-
 -- as many envelopes as the plain world has
 as-many : (plan : Plan) (v : WorldPartsValue) (y : World) → StandsForWorld plan v y → length y.envelopes ≡ length v.envelopes
 as-many plan v y s = AllZip-long (StandsForEnvelope plan) v.envelopes y.envelopes s.envelopes
@@ -184,11 +170,11 @@ happened plan old new e h leads = record { within = λ x most w. within x (leads
         let many = as-many plan new (happens x e) s in
         let envelopes : length (happens x e).envelopes ≤ most_envelopes = rw many h.envelopes in
         let items : item_count (happens x e) (happens x e).envelopes ≤ most_items = rw (← s.items) h.items in
-        either-false (nat_lt most_envelopes (length (happens x e).envelopes)) (nat_lt most_items (item_count (happens x e) (happens x e).envelopes)) (none-past _ _ envelopes) (none-past _ _ items)
+        either-false (nat_lt most_envelopes (length (happens x e).envelopes)) (nat_lt most_items (item_count (happens x e) (happens x e).envelopes)) (not-less _ _ envelopes) (not-less _ _ items)
 
 past-limit : (plan : Plan) (v : WorldPartsValue) (y : World) → StandsForWorld plan v y → IsPastLimits v → (nat_lt most_envelopes (length y.envelopes) || nat_lt most_items (item_count y y.envelopes)) ≡ true
-past-limit plan v y s (inl far) = either-left (nat_lt most_envelopes (length y.envelopes)) (nat_lt most_items (item_count y y.envelopes)) (is-past _ _ (rw (as-many plan v y s) far))
-past-limit plan v y s (inr far) = either-right (nat_lt most_envelopes (length y.envelopes)) (nat_lt most_items (item_count y y.envelopes)) (is-past _ _ (rw (← s.items) far))
+past-limit plan v y s (inl far) = or-left (nat_lt most_envelopes (length y.envelopes)) (nat_lt most_items (item_count y y.envelopes)) (lt-test _ _ (rw (as-many plan v y s) far))
+past-limit plan v y s (inr far) = or-right (nat_lt most_envelopes (length y.envelopes)) (nat_lt most_items (item_count y y.envelopes)) (lt-test _ _ (rw (← s.items) far))
 
 -- one that would lead to this, past them, would pass a limit
 pub would-pass : (plan : Plan) (old v : WorldPartsValue) (e : Event) (envelopes items : ℕ) → IsTooLong envelopes items v → Leads plan old v e → WouldPass plan old e envelopes items

@@ -5,6 +5,7 @@ use Rattle.dpc_model.specs.Actors.{role_of, nodes_of}
 use Rattle.dpc_model.specs.declared.actors.Role.{Role}
 use Rattle.dpc_model.specs.declared.actors.Role.TheVariants.{Source as IsSource, Node as IsNode, Client as IsClient, Nobody}
 use Rattle.dpc_model.specs.declared.plans.Plan.{Plan}
+use Rattle.dpc_lists.proofs.Somes.{some-same}
 use Rattle.node_model.specs.Nodes.{Home, PlainNode, ready}
 use Rattle.node_core.specs.Standing.{NodeValue, StandsForNode}
 use Rattle.world_model.specs.Worlds.{World, Slot, node_place, home_of, slot_of, node_role, node_at, role_up, is_up, ready_in, ready_role, ready_at}
@@ -27,9 +28,6 @@ slot-there plan i n (m ∷ ns) [] xs e h = absurd h
 slot-there plan i n (m ∷ ns) (v ∷ vs) [] e h = absurd h
 slot-there plan zero n (m ∷ ns) (v ∷ vs) (x ∷ xs) e h =
     record { code = v; plain = x; code_at = refl; plain_at = refl; stands = subst (λ (k : ℕ × ℕ). StandsForSlot (home_of plan k) v x) (some-same m n e) h.0 }
-  where
-    some-same : (y z : ℕ × ℕ) → Some y ≡ Some z → y ≡ z
-    some-same y z p = cc
 slot-there plan (suc i) n (m ∷ ns) (v ∷ vs) (x ∷ xs) e h =
     let rest = slot-there plan i n ns vs xs e h.1 in record { code = rest.code; plain = rest.plain; code_at = rest.code_at; plain_at = rest.plain_at; stands = rest.stands }
 

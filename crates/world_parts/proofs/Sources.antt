@@ -2,11 +2,11 @@
 use Rattle.std.proofs.Common.{◌≡◌, ℕ, zero, suc, ◌+◌, ◌<◌, ◌≤◌, List, [], ◌∷◌, ◌++◌, map, length, refl, sym, ap, subst, ◌∙◌, arith, slice_index_or, slice_set, inl, inr, Result, Ok, Err, OnOk}
 use Rattle.dpc_lists.specs.Lists.{nth, changed, range_with_len}
 use Rattle.dpc_model.specs.Actors.{role_of, nodes_of}
-use Rattle.dpc_model.specs.declared.actors.Role.{Role}
-use Rattle.dpc_model.specs.declared.actors.Role.TheVariants.{Source as IsSource, Node as IsNode, Client as IsClient, Nobody}
+use Rattle.dpc_model.specs.declared.actors.Role.TheVariants.{Source as IsSource, Node as IsNode, Client as IsClient}
 use Rattle.dpc_model.specs.declared.messages.Event.{Event}
 use Rattle.dpc_model.specs.declared.messages.Out.{Out}
 use Rattle.dpc_model.specs.declared.plans.Plan.{Plan}
+use Rattle.dpc_model.proofs.Roles.{sources-first}
 use Rattle.node_model.specs.Mails.{Mail, Stepped, mails}
 use Rattle.node_model.specs.Sources.{SourceState}
 use Rattle.node_core.specs.declared.packets.Mail as code_mail
@@ -21,16 +21,11 @@ use Rattle.world_parts.proofs.Posting.{as_mail, AreSent, plain-sent, posted-stan
 
 -- ---- the source at a place
 
-among-first : (rest : List Role) → ((i s : ℕ) → nth Nobody rest i ≡ IsSource s → ⊥) → (from count a s : ℕ) → nth Nobody (map IsSource (range_with_len from count) ++ rest) a ≡ IsSource s → a < count
-among-first rest none from zero a s e = absurd (none a s e)
-among-first rest none from (suc count) zero s e = omega arith
-among-first rest none from (suc count) (suc a) s e = let less = among-first rest none (from + 1) count a s e in omega (arith, less)
-
 -- it has a number below theirs
 pub source-below : (plan : Plan) (a s : ℕ) → role_of plan a ≡ IsSource s → s < length plan.sources
 source-below plan a s e =
     let cs = range_with_len 0 (length plan.clients) in
-    let less = among-first (map (λ (n : ℕ × ℕ). IsNode n.0 n.1) (nodes_of plan) ++ map IsClient cs) (no-node-source (nodes_of plan) cs) 0 (length plan.sources) a s (sym (role-split plan a) ∙ e) in
+    let less = sources-first (map (λ (n : ℕ × ℕ). IsNode n.0 n.1) (nodes_of plan) ++ map IsClient cs) (no-node-source (nodes_of plan) cs) 0 (length plan.sources) a s (sym (role-split plan a) ∙ e) in
     let number = source-at plan a s e in omega (arith, less, number)
 
 -- there are as many as the plan has

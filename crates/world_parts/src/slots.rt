@@ -2,7 +2,7 @@
 ghost use Rattle.std.specs.Prelude.{◌≡◌, ℕ, length, None, Err, IsNone, IfOk, OnOk, IfSome};
 ghost use Rattle.node_model.specs.Mails.{Packet as PlainPacket};
 ghost use Rattle.node_model.specs.Nodes.{Home};
-ghost use Rattle.law_node.specs.Making.{IsReplica};
+ghost use Rattle.node_model.specs.Making.{IsReplica};
 ghost use Rattle.node_core.specs.declared.faults.Point.{Point};
 ghost use Rattle.node_core.specs.declared.faults.CommitFault.TheVariants as fault;
 ghost use Rattle.node_core.specs.Milling.{needed_by};

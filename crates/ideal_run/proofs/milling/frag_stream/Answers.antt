@@ -3,8 +3,9 @@ use Rattle.std.proofs.lemmas.Option.{slice_get_read}
 use Rattle.dpc_model.specs.Fragments.{serial, stream_upto}
 use Rattle.dpc_model.specs.declared.plans.StreamRef.{StreamRef}
 use Rattle.dpc_model.specs.declared.plans.FragSpec.{FragSpec}
+use Rattle.dpc_model.proofs.Numbers.{buckets-whole}
 use Rattle.ideal_run.proofs.Streams.{ideals, ideals-cut, same-spec, sound-at, inputs-at, ideal-at}
-use Rattle.ideal_run.proofs.Steps.{Milled-none, Milled-ordered, Milled-sound, Milled-fits, Milled-more, Milled-all, bucket-end, buckets-whole}
+use Rattle.ideal_run.proofs.Steps.{Milled-none, Milled-ordered, Milled-sound, Milled-fits, Milled-more, Milled-all, bucket-end}
 use Rattle.ideal_run.proofs.milling.frag_stream.Goals as goal
 
 pub loop-k-init : goal.loop-k-init

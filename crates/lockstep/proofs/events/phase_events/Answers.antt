@@ -6,9 +6,9 @@ use Rattle.dpc_model.specs.declared.messages.Event.{Event}
 use Rattle.dpc_model.specs.declared.plans.Plan.{Plan}
 use Rattle.world_model.specs.Worlds.{World, ready_at}
 use Rattle.world_model.specs.Schedules.{mill_events}
+use Rattle.law_safety.proofs.Growing.{run-plan}
 use Rattle.world_core.specs.Runs.{world_of}
 use Rattle.lockstep.proofs.Counting.{phase-made}
-use Rattle.lockstep.proofs.Excess.{run-plan}
 use Rattle.lockstep.proofs.events.phase_events.Goals as goal
 
 pub returns : goal.returns

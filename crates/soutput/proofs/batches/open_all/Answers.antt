@@ -1,7 +1,7 @@
 use Rattle.std.proofs.Common.{◌∙◌, List, ap, slice_set}
 use Rattle.dpc_model.specs.Sessions.{no_session, opening_session}
 use Rattle.dpc_model.specs.declared.sessions.Sub.{Sub}
-use Rattle.soutput.proofs.Mapped.{mapped-more}
+use Rattle.dpc_lists.proofs.Mapped.{mapped-more}
 use Rattle.soutput.proofs.batches.open_all.Goals as goal
 
 pub loop-session-preserved : goal.loop-session-preserved

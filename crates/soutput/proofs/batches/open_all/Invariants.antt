@@ -1,6 +1,6 @@
 use Rattle.std.proofs.Common.{◌≡◌}
 use Rattle.dpc_model.specs.Sessions.{opening_session}
-use Rattle.soutput.proofs.Mapped.{mapped_to}
+use Rattle.dpc_lists.proofs.Mapped.{mapped_to}
 use Rattle.soutput.proofs.batches.open_all.Given as goal
 
 -- so many sessions are opened

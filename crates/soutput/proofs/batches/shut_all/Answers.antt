@@ -1,7 +1,7 @@
 use Rattle.std.proofs.Common.{◌∙◌, List, ap, slice_set, slice_index_or, refl}
 use Rattle.dpc_model.specs.Sessions.{no_session, with_session_shut}
 use Rattle.dpc_model.specs.declared.sessions.Sub.{Sub}
-use Rattle.soutput.proofs.Mapped.{mapped_to, mapped-more}
+use Rattle.dpc_lists.proofs.Mapped.{mapped_to, mapped-more}
 use Rattle.soutput.proofs.batches.shut_all.Goals as goal
 
 pub loop-session-preserved : goal.loop-session-preserved

@@ -1,6 +1,6 @@
 use Rattle.std.proofs.Common.{◌≡◌}
 use Rattle.dpc_model.specs.Sessions.{with_session_shut}
-use Rattle.soutput.proofs.Mapped.{mapped_to}
+use Rattle.dpc_lists.proofs.Mapped.{mapped_to}
 use Rattle.soutput.proofs.batches.shut_all.Given as goal
 
 -- so many sessions are shut

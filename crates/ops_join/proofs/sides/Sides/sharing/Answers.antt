@@ -1,8 +1,9 @@
 use Rattle.std.proofs.Common.{ℕ, ◌+◌, ◌-◌, List, map, ap, sym, ◌∙◌, rules}
 use Rattle.std.proofs.lemmas.Map.Iter.{rest_more, rest_all}
 use Rattle.std.specs.Map.Iter.{deref}
+use Rattle.dpc_lists.proofs.Truths.{not-of, not-false}
 use Rattle.ops_join.proofs.Sharing.{sharing-is}
-use Rattle.ops_join.proofs.Range.{left-first, left-next, numbers-behind, behind-range, loop-next, loop-stop, loop-all, same-key, not-true, not-false}
+use Rattle.ops_join.proofs.Range.{left-first, left-next, numbers-behind, behind-range, loop-next, loop-stop, loop-all, same-key}
 use Rattle.ops_join.proofs.Places.{places-inside}
 use Rattle.ops_join.specs.Sides.{shares_key, tuples_of}
 use Rattle.ops_join.proofs.sides.Sides.sharing.Goals as goal
@@ -39,7 +40,7 @@ returns-then-ne-clause-places c =
     let side = c.side-side.result.now in
     let key = c.in_ok-key.key in
     let more = rest_more deref _ _ _ c.in-Some.field-0 c.in-Some.is c.next.ensures.steps in
-    loop-stop key (side.first + c.args.from) side.first c.loop-key.places _ c.in-Some.field-0.now c.loop-key.key-iterator c.next.new.self more (sym (same-key c.in-Some.field-0.now.0 key) ∙ not-true _ (sym c.ne.ensures ∙ c.if-ne.true))
+    loop-stop key (side.first + c.args.from) side.first c.loop-key.places _ c.in-Some.field-0.now c.loop-key.key-iterator c.next.new.self more (sym (same-key c.in-Some.field-0.now.0 key) ∙ not-of _ (sym c.ne.ensures ∙ c.if-ne.true))
     c.loop-key.invariant.left c.loop-key.invariant.places
     ∙ rw (← c.side-side.ensures.tuples) (sharing-is c.args.end c.args.self.now.keys side.first c.args.from side.tuples.items c.args.of.now side.index key (search rules) c.range-key-items.ensures.ordered c.side-side.ensures.indexed)
 

@@ -1,7 +1,8 @@
 use Rattle.std.proofs.Common.{◌∙◌, sym, ap, arith, Option, ℕ, ℤ}
 use Rattle.std.proofs.lemmas.Bool.{eqb-true}
+use Rattle.dpc_lists.proofs.Elements.{no-elements}
 use Rattle.ops_window.specs.Feeding.{row_of, cells_from}
-use Rattle.ops_window.proofs.Kept.{kept-from, none-ended, no-elements}
+use Rattle.ops_window.proofs.Kept.{kept-from, none-ended}
 use Rattle.ops_window.proofs.cells.Shape.take_rows.Goals.{then-not-is_empty+in_ok-keep_from, else-not-is_empty}
 use Rattle.ops_window.proofs.cells.Shape.take_rows.Goals as goal
 

@@ -3,12 +3,13 @@ use Rattle.std.specs.Prelude.{replicate, if◌then◌else◌}
 use Rattle.dpc_model.specs.Sessions.{no_session, opening_session}
 use Rattle.dpc_model.specs.declared.plans.FragSpec.{FragSpec}
 use Rattle.dpc_model.specs.PartStands.{StandsForPorts}
+use Rattle.dpc_model.proofs.FragmentValues.{frag-is}
 use Rattle.sunion.specs.Values.{SUnionValue}
 use Rattle.sunion.specs.Laws.{new_inputs}
 use Rattle.sunion.specs.Unions.{new_union}
 use Rattle.sunion.proofs.Lawful.{start-stands}
 use Rattle.pipeline.specs.Flowing.{IsMillOf}
-use Rattle.pipeline.proofs.Begun.{frag-at, sound-at, begins}
+use Rattle.pipeline.proofs.Begun.{sound-at, begins}
 use Rattle.pipeline.proofs.pipeline.Pipeline.open.Goals as goal
 
 pub returns-clause-stands : goal.returns-clause-stands
@@ -19,7 +20,7 @@ returns-clause-stands c = λ f e.
     let u = c.in_ok-inputs.inputs in
     let k = c.in_ok-keeper.keeper in
     let at = rw c.as_slice.ensures at c.index-as_slice-frag.is in
-    let same : spec ≡ f = at ∙ frag-at frags c.args.frag spec f e in
+    let same : spec ≡ f = at ∙ frag-is frags c.args.frag spec f e in
     let ports : c.len-ports.result ≡ length f.inputs = c.len-ports.ensures ∙ ap (λ (g : FragSpec). length g.inputs) same in
     let is : u ≡ new_union (length f.inputs) plan.width plan.end c.unwrap_or-delay.result 1 =
     c.in_ok-inputs.ensures ∙ ap (λ (n : ℕ). new_union n plan.width plan.end c.unwrap_or-delay.result 1) ports in

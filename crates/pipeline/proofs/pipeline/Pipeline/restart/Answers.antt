@@ -2,10 +2,11 @@ use Rattle.std.proofs.Common.{◌≡◌, ◌<◌, ◌∙◌, ℕ, length, refl, 
 use Rattle.std.specs.Prelude.{replicate}
 use Rattle.dpc_model.specs.Sessions.{no_session}
 use Rattle.dpc_model.specs.declared.plans.FragSpec.{FragSpec}
+use Rattle.dpc_model.proofs.FragmentValues.{frag-is}
 use Rattle.sunion.specs.Values.{SUnionValue}
 use Rattle.pipeline.specs.Flowing.{IsMillOf}
 use Rattle.pipeline.specs.Recovery.{restarted_inputs}
-use Rattle.pipeline.proofs.Begun.{frag-at, sound-at, begins, restarted-ports}
+use Rattle.pipeline.proofs.Begun.{sound-at, begins, restarted-ports}
 use Rattle.pipeline.proofs.pipeline.Pipeline.restart.Goals as goal
 
 pub returns-clause-stands : goal.returns-clause-stands
@@ -18,7 +19,7 @@ returns-clause-stands c = λ f e.
     let inc = c.args.inc in
     let n = length f.inputs in
     let at = rw c.as_slice.ensures at c.index-as_slice-frag.is in
-    let same : spec ≡ f = at ∙ frag-at frags c.args.frag spec f e in
+    let same : spec ≡ f = at ∙ frag-is frags c.args.frag spec f e in
     let ports : c.len.result ≡ n = c.len.ensures ∙ ap (λ (g : FragSpec). length g.inputs) same in
     let none : c.as_slice-counts.result.now ≡ replicate n 0 = c.as_slice-counts.ensures.value ∙ c.in_ok-counts.ensures ∙ ap (λ (m : ℕ). replicate m 0) ports in
     let stood = restarted-ports u plan.width plan.end c.unwrap_or-delay.result inc n c.as_slice-counts.result.now c.in_ok-inputs.ensures none in

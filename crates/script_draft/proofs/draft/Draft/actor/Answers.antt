@@ -5,9 +5,9 @@ use Rattle.dpc_model.specs.declared.actors.Role.TheVariants.{Node as IsNode, Cli
 use Rattle.dpc_model.specs.declared.plans.ClientSpec.{ClientSpec}
 use Rattle.script_rules.specs.Drafts.{source_named, source_names, actor_named, place_of_name}
 use Rattle.script_rules.specs.Reasons.{is_among}
-use Rattle.script_rules.proofs.Added.{client_names}
 use Rattle.script_draft.specs.Nodes.{IsActor, names_of_nodes}
 use Rattle.script_draft.specs.contracts.draft.Draft.{the_view}
+use Rattle.script_rules.proofs.Called.{client_names}
 use Rattle.script_draft.proofs.Names.{named-within}
 use Rattle.script_draft.proofs.Nodes.{none-among, few-places}
 use Rattle.script_draft.proofs.Actors.{source-actor, node-actor, client-actor, no-actor}

@@ -3,9 +3,8 @@ use Rattle.dpc_lists.specs.Lists.{nth, changed}
 use Rattle.dpc_model.specs.declared.sessions.Sub.{Sub}
 use Rattle.dpc_model.specs.declared.messages.Message.TheVariants as message
 use Rattle.dpc_model.specs.declared.messages.Out.{Out}
-use Rattle.dpc_lists.proofs.Elements.{set-changed}
+use Rattle.dpc_lists.proofs.Elements.{set-changed, nth-is}
 use Rattle.node_model.specs.Mails.{mails}
-use Rattle.soutput.proofs.Answering.{nth-is}
 use Rattle.source_core.specs.Emitting.{SourceValue}
 use Rattle.source_core.specs.contracts.source.SourceNode.{the_view}
 use Rattle.source_core.proofs.Subscribed.{newer-at, old-stays, old-silent, new-opens, new-told}

@@ -1,5 +1,5 @@
 use Rattle.std.proofs.Common.{rules, ℕ, ◌≡◌, refl, ◌<◌, ◌≤◌, ◌∙◌, List, length, sym, subst, ap, true, false, Some, slice_set}
-use Rattle.dpc_lists.proofs.Elements.{set-changed}
+use Rattle.dpc_lists.proofs.Elements.{set-changed, nth-is}
 use Rattle.dpc_lists.specs.Lists.{nth, changed}
 use Rattle.dpc_model.specs.PartStands.{OutputValue}
 use Rattle.dpc_model.specs.Parts.{shown_of}
@@ -10,7 +10,7 @@ use Rattle.dpc_model.specs.declared.sessions.Sub.{Sub}
 use Rattle.dpc_model.specs.declared.messages.Message.TheVariants as message
 use Rattle.soutput.specs.Giving.{stream_behind, IsAnswered}
 use Rattle.soutput.specs.contracts.output.SOutput.{the_view}
-use Rattle.soutput.proofs.Answering.{nth-is, old-answered, truncated-answered, batch-answered}
+use Rattle.soutput.proofs.Answering.{old-answered, truncated-answered, batch-answered}
 use Rattle.soutput.proofs.output.SOutput.open_session.Goals as goal
 
 pub returns-then-not-is_older_than-clause-ok : goal.returns-then-not-is_older_than-clause-ok

@@ -1,6 +1,6 @@
 use Rattle.std.proofs.Common.{◌≡◌, ◌<◌, ◌≤◌, ◌-◌, ◌/◌, ◌∙◌, refl, sym, subst, ap, length, List, Option, ℕ, arith, slice_set}
 use Rattle.std.proofs.lemmas.List.Elements.{All-weaker}
-use Rattle.dpc_lists.proofs.Elements.{set-changed}
+use Rattle.dpc_lists.proofs.Elements.{set-changed, nth-is}
 use Rattle.dpc_lists.specs.Lists.{nth}
 use Rattle.dpc_model.specs.Reading.{tuples_in}
 use Rattle.dpc_model.specs.PartStands.{InletValue}
@@ -13,7 +13,6 @@ use Rattle.sunion.specs.Values.{SUnionValue}
 use Rattle.sunion.specs.Unions.{no_value, IsAccepted}
 use Rattle.sunion.specs.declared.sunion.Verdict.TheVariants as verdict
 use Rattle.sunion.specs.contracts.sunion.SUnion.{the_view}
-use Rattle.sunion.proofs.Standing.{nth-is}
 use Rattle.sunion.proofs.Accepting.{accepted}
 use Rattle.sunion.proofs.sunion.SUnion.accept.Goals as goal
 

@@ -1,12 +1,11 @@
 use Rattle.std.proofs.Common.{◌<◌, ◌∙◌, List, length, ap, sym, subst}
-use Rattle.dpc_lists.proofs.Elements.{set-changed}
+use Rattle.dpc_lists.proofs.Elements.{set-changed, nth-is}
 use Rattle.dpc_lists.specs.Lists.{nth}
 use Rattle.dpc_model.specs.Inlets.{after_tally, shows_loss}
 use Rattle.dpc_model.specs.PartStands.{InletValue}
 use Rattle.sunion.specs.Values.{SUnionValue}
 use Rattle.sunion.specs.Unions.{no_value, with_inlet_state}
 use Rattle.sunion.specs.contracts.sunion.SUnion.{the_view}
-use Rattle.sunion.proofs.Standing.{nth-is}
 use Rattle.sunion.proofs.sunion.SUnion.heard.Goals as goal
 
 pub returns-clause-after : goal.returns-clause-after
