@@ -4,4 +4,5 @@ pub mod Sharing
 pub mod Places
 pub mod Steps
 pub mod Joining
+pub mod Standing
 mod Range

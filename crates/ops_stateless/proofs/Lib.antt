@@ -1,2 +1,3 @@
 pub mod UnionBuckets
 pub mod Values
+pub mod Standing

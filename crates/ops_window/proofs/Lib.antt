@@ -7,4 +7,5 @@ pub mod Feeds
 pub mod Held
 pub mod Ends
 pub mod Step
+pub mod Standing
 mod Kept
