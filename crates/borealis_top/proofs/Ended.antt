@@ -6,8 +6,9 @@ use Rattle.std.specs.Io.KnownBytes.{Consumes, Keeps, IsAtEnd}
 use Rattle.dpc_edge.specs.Faults.{Rises}
 use Rattle.dpc_edge.specs.Edges.{Edge, Stays, Gave, Took}
 use Rattle.dpc_model.specs.declared.scripts.Script.{Script}
-use Rattle.dpc_model.specs.declared.scripts.PlanFault.{PlanFault}
 use Rattle.dpc_model.specs.Limits.{most_input}
+use Rattle.script_rules.specs.declared.reasons.Reason.TheVariants.{PastLimit}
+use Rattle.script_rules.specs.declared.reasons.PlanFault.{PlanFault}
 use Rattle.script_rules.specs.Reading.{reading, read, refusal, script_in}
 use Rattle.world_model.specs.Worlds.{Sums}
 use Rattle.borealis_top.specs.declared.command.Reading.{Reading}
@@ -25,7 +26,7 @@ consumed-all None known bytes c e = absurd c
 consumed-all (Some rest) known bytes c e = sym (c ∙ rw e (append-nil bytes))
 
 -- a text that is longer than the longest is refused at line 0
-pub long-refusal : (text : List ℕ) → length text ≡ most_input + 1 → refusal text ≡ Some (record { line = 0; reason = 14 })
+pub long-refusal : (text : List ℕ) → length text ≡ most_input + 1 → refusal text ≡ Some (record { line = 0; reason = PastLimit })
 unfolding reading
 long-refusal text e = let long : 2 ^ 26 < length text = omega (arith, e) in rw (lt-ltb (2 ^ 26) (length text) long) refl
 

@@ -6,7 +6,7 @@ use Rattle.borealis_top.specs.declared.command.Form.TheVariants.{Text, Short, Js
 use Rattle.borealis_top.specs.declared.command.Reading.{Reading}
 use Rattle.borealis_top.specs.declared.command.Reading.TheVariants.{Run, Check, Print, Ideal}
 use Rattle.borealis_top.specs.declared.command.Command.{Command}
-use Rattle.borealis_top.specs.declared.command.Command.TheVariants.{Read, Gen, Help, Version}
+use Rattle.borealis_top.specs.declared.command.Command.TheVariants.{Read, Gen, Help, Reasons, Version}
 
 -- what is done with a script that is read
 abbrev pub reading_word : List ℕ → Option Reading
@@ -22,7 +22,8 @@ abbrev pub command_word : List ℕ → Option Command
 command_word w =
     if bytes_eq w (codes "--help") then Some Help
     else (if bytes_eq w (codes "--version") then Some Version
-    else option_map Read (reading_word w))
+    else (if bytes_eq w (codes "reasons") then Some Reasons
+    else option_map Read (reading_word w)))
 
 -- the number of a generated script: 1 to 1000
 abbrev pub seed_of : List ℕ → Option ℕ

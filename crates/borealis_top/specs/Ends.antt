@@ -6,7 +6,8 @@ use Rattle.dpc_edge.specs.Edges.{Edge, Stays, Gave, Took}
 use Rattle.dpc_model.specs.Limits.{most_input}
 use Rattle.dpc_model.specs.ScriptText.{script_text}
 use Rattle.dpc_model.specs.declared.scripts.Script.{Script}
-use Rattle.dpc_model.specs.declared.scripts.PlanFault.{PlanFault}
+use Rattle.script_rules.specs.declared.reasons.PlanFault.{PlanFault}
+use Rattle.script_rules.specs.ReasonTable.{number_of}
 use Rattle.script_rules.specs.Reading.{read, refusal}
 use Rattle.load_gen.specs.Generated.{generated}
 use Rattle.world_model.specs.Worlds.{World, Sums, run, all_settled}
@@ -117,7 +118,7 @@ pub record Passes (reading : Reading) (input input_new : Edge) (sums : Sums) : T
   pub past : excess_of reading script ≡ Some sums
 
 abbrev pub fault_line : PlanFault → List ℕ
-fault_line fault = refusal_line fault.line fault.reason
+fault_line fault = refusal_line fault.line (number_of fault.reason)
 
 -- how such a command ends, by its status
 abbrev pub ReadEnds : Reading → Edge → Edge → Edge → Edge → Edge → Edge → Status → Type 0

@@ -1,8 +1,9 @@
 -- How the program ends: each side by the words, and the exit status.
 use Rattle.std.specs.Prelude.{◌≡◌, ℕ, ◌⊎◌, List, Option, None, Some}
 use Rattle.dpc_edge.specs.Edges.{Edge}
+use Rattle.script_rules.specs.ReasonTable.{reasons_text}
 use Rattle.borealis_top.specs.declared.command.Command.{Command}
-use Rattle.borealis_top.specs.declared.command.Command.TheVariants.{Read, Gen, Help, Version}
+use Rattle.borealis_top.specs.declared.command.Command.TheVariants.{Read, Gen, Help, Reasons, Version}
 use Rattle.borealis_top.specs.declared.status.Status.{Status}
 use Rattle.borealis_top.specs.declared.status.Status.TheVariants.{Done, Words, NoMemory}
 use Rattle.borealis_top.specs.Codes.{code_of}
@@ -16,6 +17,8 @@ CommandEnds None input input_new out out_new err err_new result =
     IsTold err err_new unknown_words_line Words result × (out_new ≡ out) × (input_new ≡ input)
 CommandEnds (Some Help) input input_new out out_new err err_new result =
     IsTold out out_new help_text Done result × (err_new ≡ err) × (input_new ≡ input)
+CommandEnds (Some Reasons) input input_new out out_new err err_new result =
+    IsTold out out_new reasons_text Done result × (err_new ≡ err) × (input_new ≡ input)
 CommandEnds (Some Version) input input_new out out_new err err_new result =
     IsTold out out_new version_text Done result × (err_new ≡ err) × (input_new ≡ input)
 CommandEnds (Some (Read reading)) input input_new out out_new err err_new result =

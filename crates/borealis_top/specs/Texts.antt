@@ -1,20 +1,27 @@
 -- The texts and lines that the program writes beside reports.
-use Rattle.std.specs.Prelude.{ℕ, List, [], ◌∷◌, ◌++◌, codes, decimal}
+use Rattle.std.specs.Prelude.{ℕ, List, [], ◌∷◌, ◌++◌, flat_map, codes, decimal}
 use Rattle.world_model.specs.Worlds.{Sums}
+
+-- lines as a text: behind each one a line feed
+abbrev pub of_lines : List (List ℕ) → List ℕ
+of_lines lines = flat_map (λ (line : List ℕ). line ++ 10 ∷ []) lines
 
 -- what `--help` writes
 abbrev pub help_text : List ℕ
 help_text =
-    codes "borealis run < SCRIPT        runs a script, and writes what each client received" ++ 10
-    ∷ codes "borealis run short < SCRIPT  the summary lines alone" ++ 10
-    ∷ codes "borealis run json < SCRIPT   the same as JSON" ++ 10
-    ∷ codes "borealis check < SCRIPT      tells whether a script is right, or its first faulty line and why" ++ 10
-    ∷ codes "borealis print < SCRIPT      writes a script in canonical form" ++ 10
-    ∷ codes "borealis ideal < SCRIPT      writes the failure-free stream of each client" ++ 10
-    ∷ codes "borealis gen N               writes the generated script of a number, 1 to 1000" ++ 10
-    ∷ codes "borealis --help              writes these lines" ++ 10
-    ∷ codes "borealis --version           writes the version" ++ 10
-    ∷ codes "The script language, and the reasons: docs/SCRIPT.md" ++ 10 ∷ []
+    of_lines
+    (codes "borealis run < SCRIPT        runs a script, and writes what each client received"
+    ∷ codes "borealis run short < SCRIPT  the summary lines alone"
+    ∷ codes "borealis run json < SCRIPT   the same as JSON"
+    ∷ codes "borealis check < SCRIPT      tells whether a script is right, or its first faulty line and why"
+    ∷ codes "borealis print < SCRIPT      writes a script in canonical form"
+    ∷ codes "borealis ideal < SCRIPT      writes the failure-free stream of each client"
+    ∷ codes "borealis gen N               writes the generated script of a number, 1 to 1000"
+    ∷ codes "borealis reasons             writes the reasons to refuse a line, each with its number"
+    ∷ codes "borealis --help              writes these lines"
+    ∷ codes "borealis --version           writes the version"
+    ∷ codes "The script language, and the reasons: docs/SCRIPT.md"
+    ∷ [])
 
 -- what `--version` writes
 abbrev pub version_text : List ℕ
@@ -24,9 +31,9 @@ version_text = codes "borealis 0.1" ++ 10 ∷ []
 abbrev pub unknown_words_line : List ℕ
 unknown_words_line = codes "borealis: unknown words" ++ 10 ∷ []
 
--- the line on a refusal: the first faulty line, and the reason
+-- the line on a refusal: the first faulty line, and the number of the reason
 abbrev pub refusal_line : ℕ → ℕ → List ℕ
-refusal_line line reason = codes "line " ++ decimal line ++ codes ": reason " ++ decimal reason ++ 10 ∷ []
+refusal_line line number = codes "line " ++ decimal line ++ codes ": reason " ++ decimal number ++ 10 ∷ []
 
 -- the line on clients that are not settled after all quiet phases
 abbrev pub not_settled_line : List ℕ

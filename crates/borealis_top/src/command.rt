@@ -37,6 +37,8 @@ pub enum Command {
     Gen(u64),
     /// Writes which words there are.
     Help,
+    /// Writes the reasons to refuse a line.
+    Reasons,
     /// Writes the version.
     Version,
 }
@@ -76,6 +78,8 @@ fn lone_command(word: &String) -> Option<Command>
         Some(Command::Help)
     } else if is_word(word, b"--version") {
         Some(Command::Version)
+    } else if is_word(word, b"reasons") {
+        Some(Command::Reasons)
     } else {
         Some(Command::Read(reading_in(word)?))
     }

@@ -3,6 +3,7 @@ ghost use Rattle.std.specs.Prelude.{◌≡◌, ◌⊎◌, ℕ, IfOk, Some, None,
 ghost use Rattle.dpc_edge.specs.Edges.{Stays};
 ghost use Rattle.dpc_model.specs.ScriptText.{script_text};
 ghost use Rattle.load_gen.specs.Generated.{generated};
+ghost use Rattle.script_rules.specs.ReasonTable.{reasons_text};
 ghost use Rattle.borealis_top.specs.Commands.{command_of};
 ghost use Rattle.borealis_top.specs.Texts.{help_text, version_text, unknown_words_line, refusal_line};
 ghost use Rattle.borealis_top.specs.Ends.{IsTold, IsToldOpen, fault_line, ReadEnds, ReadIsWhole, GenEnds};
@@ -18,14 +19,43 @@ use diagram_reader::read_script;
 use dpc_edge::sink::Sink;
 use dpc_edge::source::Source;
 use dpc_lists::faults::NoMemory;
-use dpc_model::scripts::PlanFault;
 use itoa::Buffer;
 use load_gen::generate;
+use script_rules::reasons::{PlanFault, Reason};
 use std::alloc::{AllocError, Global};
 
 /// What `--help` writes.
-const HELP: &[u8] =
-    b"borealis run < SCRIPT        runs a script, and writes what each client received\nborealis run short < SCRIPT  the summary lines alone\nborealis run json < SCRIPT   the same as JSON\nborealis check < SCRIPT      tells whether a script is right, or its first faulty line and why\nborealis print < SCRIPT      writes a script in canonical form\nborealis ideal < SCRIPT      writes the failure-free stream of each client\nborealis gen N               writes the generated script of a number, 1 to 1000\nborealis --help              writes these lines\nborealis --version           writes the version\nThe script language, and the reasons: docs/SCRIPT.md\n";
+const HELP: &[u8] = b"\
+borealis run < SCRIPT        runs a script, and writes what each client received
+borealis run short < SCRIPT  the summary lines alone
+borealis run json < SCRIPT   the same as JSON
+borealis check < SCRIPT      tells whether a script is right, or its first faulty line and why
+borealis print < SCRIPT      writes a script in canonical form
+borealis ideal < SCRIPT      writes the failure-free stream of each client
+borealis gen N               writes the generated script of a number, 1 to 1000
+borealis reasons             writes the reasons to refuse a line, each with its number
+borealis --help              writes these lines
+borealis --version           writes the version
+The script language, and the reasons: docs/SCRIPT.md
+";
+
+/// What `reasons` writes: each reason's number, and what it says.
+const REASONS: &[u8] = b"\
+1  a byte that is neither printable ASCII nor a line feed
+2  a first word that begins no line, or a word that can't stand at its place
+3  too few or too many words, also of an expression
+4  no number where one must stand
+5  a number out of its range, or an end that is no multiple of the width
+6  a line in the wrong part
+7  a name that is taken, or a stream twice in one fragment
+8  an unknown source, operator input, actor or node, or two actors without a tally
+9  a log time below the one before, or not below the end
+10  a column that is not there, a wrong number of values, unequal columns in a union, or more than 8 columns in a result
+11  a fragment or client that reads what was not declared before it
+12  a part that is missing at begin, or at the end of input no begin, or directives without a tick
+13  a clock below the one before, a crash of a node that is down, or a restart of one that is up
+14  past a limit
+";
 
 /// What `--version` writes.
 const VERSION: &[u8] = b"borealis 0.1\n";
@@ -36,7 +66,7 @@ const UNKNOWN_WORDS: &[u8] = b"borealis: unknown words\n";
 /// The refusal of an input that is longer than the longest script.
 const TOO_LONG: PlanFault = PlanFault {
     line: 0,
-    reason: 14,
+    reason: Reason::PastLimit,
 };
 
 /// The line on clients that are not settled after all quiet phases.
@@ -57,6 +87,9 @@ pub fn plain<S: Source, O: Sink, E: Sink>(
     ensures help { command_of (map string_bytes words.now) ≡ Some Command.Help
         → IsTold (O.edge out.old) (O.edge out.new) help_text Status.Done result
         × (err.new ≡ err.old) × (input.new ≡ input.old) }
+    ensures reasons { command_of (map string_bytes words.now) ≡ Some Command.Reasons
+        → IsTold (O.edge out.old) (O.edge out.new) reasons_text Status.Done result
+        × (err.new ≡ err.old) × (input.new ≡ input.old) }
     ensures version { command_of (map string_bytes words.now) ≡ Some Command.Version
         → IsTold (O.edge out.old) (O.edge out.new) version_text Status.Done result
         × (err.new ≡ err.old) × (input.new ≡ input.old) }
@@ -71,6 +104,7 @@ pub fn plain<S: Source, O: Sink, E: Sink>(
     match command_in(words) {
         None => told(err, UNKNOWN_WORDS, Status::Words),
         Some(Command::Help) => told(out, HELP, Status::Done),
+        Some(Command::Reasons) => tell_reasons(out),
         Some(Command::Version) => told(out, VERSION, Status::Done),
         Some(Command::Gen(seed)) => gen_script(alloc, seed, out),
         Some(Command::Read(reading)) => read(alloc, reading, input, out, err),
@@ -85,6 +119,13 @@ fn told<K: Sink>(sink: &mut K, text: &[u8], status: Status) -> Status
         Ok(()) => status,
         Err(_) => Status::WriteFault,
     }
+}
+
+/// Writes the table of reasons.
+fn tell_reasons<O: Sink>(out: &mut O) -> Status
+    ensures { IsTold (O.edge out.old) (O.edge out.new) reasons_text Status.Done result }
+{
+    told(out, REASONS, Status::Done)
 }
 
 /// The text of the generated script of a number.
@@ -152,21 +193,21 @@ fn refused<K: Sink>(alloc: Global, err: &mut K, fault: PlanFault) -> Status
     ensures { IsTold (K.edge err.old) (K.edge err.new) (fault_line fault) Status.Refused result
         ⊎ ((result ≡ Status.NoMemory) × Stays (K.edge err.old) (K.edge err.new)) }
 {
-    match refusal(alloc, fault.line, fault.reason) {
+    match refusal(alloc, fault.line, fault.reason.number()) {
         Ok(text) => told(err, text.as_slice(), Status::Refused),
         Err(_) => Status::NoMemory,
     }
 }
 
-/// The line of a refusal.
-fn refusal(alloc: Global, line: u64, reason: u64) -> Result<Vec<u8>, AllocError>
-    ensures { IfOk result (λ text. text.items ≡ refusal_line line reason) }
+/// The line of a refusal, by the number of its reason.
+fn refusal(alloc: Global, line: u64, number: u64) -> Result<Vec<u8>, AllocError>
+    ensures { IfOk result (λ text. text.items ≡ refusal_line line number) }
 {
     let mut buffer = Buffer::new();
     let mut text = Vec::from_slice(alloc, b"line ")?;
     text.extend_from_slice(buffer.format(line).as_bytes())?;
     text.extend_from_slice(b": reason ")?;
-    text.extend_from_slice(buffer.format(reason).as_bytes())?;
+    text.extend_from_slice(buffer.format(number).as_bytes())?;
     text.push(b'\n')?;
     Ok(text)
 }

@@ -169,6 +169,8 @@ fn words_are_commands_or_not(rt: HostRuntime) -> Result<(), Fail> {
     let rows = [
         ("--help", "", Status::Done),
         ("--version", "", Status::Done),
+        ("reasons", "", Status::Done),
+        ("reasons", "2", Status::Words),
         ("run", "fast", Status::Words),
         ("live", "", Status::Words),
     ];

@@ -1,10 +1,12 @@
--- The numbers of a line against which no reason of 2 to 5 stands.
+-- The numbers of a line against whose words no reason stands.
 use Rattle.std.specs.Prelude.{if◌then◌else◌, unwrap_or, is_none}
 use Rattle.std.proofs.Common.{◌≡◌, ◌||◌, ℕ, ℤ, zero, suc, ◌-◌, ◌^◌, ◌<◌, ◌≤◌, Bool, true, false, ◌&&◌, List, take, Option, None, Some, not, refl, sym, arith, slice_get, nat_lt}
 use Rattle.dpc_lists.specs.Lists.{is_nil, list_all}
 use Rattle.script_rules.specs.Reasons.{is_its_part, declares, first_of_tests, tests_said, last_time, source_at}
 use Rattle.dpc_model.specs.Words.{Word}
 use Rattle.dpc_lists.proofs.Truths.{both, not-false, not-less}
+use Rattle.script_rules.specs.declared.reasons.Reason.{Reason}
+use Rattle.script_rules.specs.declared.reasons.Reason.TheVariants.{Unknown, OutOfTime}
 use Rattle.script_rules.specs.Statements.{word, number_at, LogLine}
 use Rattle.script_rules.specs.Drafts.{Draft, is_wide, greatest_end, width_of, end_of, source_named}
 use Rattle.script_rules.specs.Places.{must, places_of}
@@ -76,7 +78,7 @@ time_stands d ws h = stands (u64_of (word ws 1)) refl
     stands None e = u64_past (word ws 1) numeral e
     stands (Some n) e = (u64_is (word ws 1) n e).1
 
-second-false : (a b : Bool) (rest : Option ℕ) → (if a then Some 8 else (if b then Some 9 else rest)) ≡ None → b ≡ false
+second-false : (a b : Bool) (rest : Option Reason) → (if a then Some Unknown else (if b then Some OutOfTime else rest)) ≡ None → b ≡ false
 second-false true b rest e = absurd cc
 second-false false true rest e = absurd cc
 second-false false false rest e = refl

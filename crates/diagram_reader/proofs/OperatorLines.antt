@@ -1,6 +1,6 @@
--- What the words of an operator's line are, where nothing of reasons 2 to 5 stands against it.
-use Rattle.std.proofs.Common.{◌≡◌, ℕ, zero, suc, ◌+◌, ◌-◌, ◌^◌, ◌<◌, ◌≤◌, max, Bool, true, false, cond, not, ◌&&◌, List, [], ◌∷◌, length, take, drop, map, Option, Some, None, refl, sym, ap, subst, ◌∙◌, arith}
-use Rattle.std.proofs.lemmas.Bool.{and_parts, or_parts, leb-true, leb-false, lt-ltb, le-ltb, ltb-false, lt-leb}
+-- What the words of an operator's line are, where no reason stands against them.
+use Rattle.std.proofs.Common.{◌≡◌, ℕ, zero, suc, ◌+◌, ◌<◌, ◌≤◌, max, Bool, true, false, not, ◌&&◌, List, [], ◌∷◌, length, take, drop, map, Option, Some, None, refl, sym, ap, subst, ◌∙◌, arith}
+use Rattle.std.proofs.lemmas.Bool.{and_parts, or_parts, leb-true, leb-false, lt-ltb, le-ltb, ltb-false}
 use Rattle.std.proofs.lemmas.List.Folds.{list_all_more}
 use Rattle.std.specs.Prelude.{nat_lt, nat_le, option_map, unwrap_or, get_or}
 use Rattle.dpc_model.specs.Formula.{Formula}
@@ -8,7 +8,7 @@ use Rattle.dpc_lists.specs.Lists.{list_all, nth}
 use Rattle.dpc_model.specs.Words.{Word}
 use Rattle.dpc_model.specs.declared.operators.Agg.{Agg}
 use Rattle.dpc_model.specs.declared.operators.OpKind.TheVariants as kind
-use Rattle.script_rules.specs.Drafts.{Draft, greatest_end, is_wide}
+use Rattle.script_rules.specs.Drafts.{Draft, greatest_end}
 use Rattle.script_rules.specs.Reasons.{agg_reads_below, first_of_tests, tests_said, input_columns, fits_inputs}
 use Rattle.script_rules.specs.Spelling.{is_numeral, number}
 use Rattle.script_rules.specs.Statements.{word, number_at, pairs, OperatorLine}

@@ -37,7 +37,7 @@ abbrev pub IsKeyword : Keyword → Type 0
 IsKeyword (Header place) = place < 5
 IsKeyword _ = ⊤
 
--- so of what a line says, as far as reasons of 7 to 14 go
+-- so of what a line says, as far as the reasons against that go
 abbrev pub IsSaid : {X : Type 0} → Draft → Draft → Statement → Result X LineFault → Type 0
 IsSaid old new s (Ok x) = (first_of_tests (tests_said old s) ≡ None) × (new ≡ and_then old s)
 IsSaid old new s (Err line.NoMemory) = ⊤

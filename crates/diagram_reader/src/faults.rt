@@ -1,6 +1,6 @@
 //! Why a text or a line is refused.
 use dpc_lists::faults::NoMemory;
-use dpc_model::scripts::PlanFault;
+use script_rules::reasons::{PlanFault, Reason};
 
 /// Why a text was not read as a script.
 #[derive(Clone, Copy, PartialEq, Eq, Debug)]
@@ -16,7 +16,7 @@ pub enum ScriptFault {
 pub enum LineFault {
     NoMemory,
     /// The least reason that applies to it.
-    Refused(u64),
+    Refused(Reason),
 }
 
 impl From<NoMemory> for LineFault {

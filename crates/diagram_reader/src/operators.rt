@@ -1,4 +1,4 @@
-//! Lines of operators, taken into the script under way. Nothing of reasons 1 to 6 stands against the line.
+//! Lines of operators, taken into the script under way. No reason stands against the line's words and its part.
 ghost use Rattle.std.specs.Prelude.{◌≡◌, ◌+◌, ◌^◌, ◌<◌, ◌≤◌, ℕ, nat_lt, nat_le, true, length, map, drop, option_map, unwrap_or, is_some, if◌then◌else◌, IfSome};
 ghost use Rattle.dpc_model.specs.Formula as formula;
 ghost use Rattle.dpc_lists.specs.Lists.{nth, list_all};

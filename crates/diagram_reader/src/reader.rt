@@ -7,9 +7,10 @@ ghost use Rattle.diagram_reader.specs.Readings.{IsReadingOf, IsLineOf, IsWordsOf
 
 use crate::faults::{LineFault, ScriptFault};
 use crate::statements::said;
-use dpc_model::scripts::{PlanFault, Script};
+use dpc_model::scripts::Script;
 use script_draft::draft::Draft;
 use script_rules::keywords::Keyword;
+use script_rules::reasons::{PlanFault, Reason};
 use script_words::keywords::keyword_of;
 use script_words::lines::{Lines, has_foreign_byte, is_skipped};
 use script_words::places::{Limits, fault_of_words};
@@ -18,18 +19,6 @@ use std::alloc::Global;
 
 /// The longest script, in bytes: 64 MiB.
 const MOST_BYTES: usize = 1 << 26;
-
-/// A byte that may not stand there.
-const FOREIGN_BYTE: u64 = 1;
-
-/// A word that can't stand at its place.
-const FOREIGN_WORD: u64 = 2;
-
-/// A line in the wrong part.
-const WRONG_PART: u64 = 6;
-
-/// A part is missing, or the script is too long.
-const PAST_A_LIMIT: u64 = 14;
 
 /// What the places of the next line depend on.
 fn limits_of(draft: &Draft) -> Limits
@@ -58,7 +47,7 @@ fn read_words(
         return Err(LineFault::Refused(reason));
     }
     if !draft.is_its_part(keyword) {
-        return Err(LineFault::Refused(WRONG_PART));
+        return Err(LineFault::Refused(Reason::OutOfPart));
     }
     said(alloc, draft, keyword, words)
 }
@@ -68,7 +57,7 @@ fn read_line(alloc: Global, draft: &mut Draft, line: &[u8]) -> Result<(), LineFa
     ensures { IsLineOf draft.old draft.new line.now result }
 {
     if has_foreign_byte(line) {
-        return Err(LineFault::Refused(FOREIGN_BYTE));
+        return Err(LineFault::Refused(Reason::ForeignByte));
     }
     if is_skipped(line) {
         return Ok(());
@@ -78,7 +67,7 @@ fn read_line(alloc: Global, draft: &mut Draft, line: &[u8]) -> Result<(), LineFa
     words.skip(1);
     match keyword_of(draft.version_of(), first) {
         Some(keyword) => read_words(alloc, draft, keyword, words),
-        None => Err(LineFault::Refused(FOREIGN_WORD)),
+        None => Err(LineFault::Refused(Reason::ForeignWord)),
     }
 }
 
@@ -112,14 +101,15 @@ fn read_lines(alloc: Global, text: &[u8]) -> Result<Script, ScriptFault>
 }
 
 /// Reads a text as a script, all of it: the script that it is, or its first faulty line and the least
-/// reason that applies to that line. It is linear in the text.
+/// reason that applies to that line; a text that is longer than the longest is past a limit, at line 0. It is linear in the
+/// text.
 pub fn read_script(alloc: Global, text: &[u8]) -> Result<Script, ScriptFault>
     ensures { IsReadingOf text.now result }
 {
     if text.len() > MOST_BYTES {
         return Err(ScriptFault::Refused(PlanFault {
             line: 0,
-            reason: PAST_A_LIMIT,
+            reason: Reason::PastLimit,
         }));
     }
     read_lines(alloc, text)

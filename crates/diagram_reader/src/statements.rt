@@ -1,4 +1,4 @@
-//! What a line says, taken into the script under way. Nothing of reasons 1 to 6 stands against the line.
+//! What a line says, taken into the script under way. No reason stands against the line's words and its part.
 ghost use Rattle.std.specs.Prelude.{◌≡◌, ◌<◌, ◌^◌, ℕ, true, drop, take, Some};
 ghost use Rattle.script_rules.specs.Drafts.{end_of};
 ghost use Rattle.dpc_model.specs.declared.scripts.Directive.{Directive};

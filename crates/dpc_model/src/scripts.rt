@@ -26,10 +26,3 @@ pub struct Script {
     pub phases: Listed<Phase>,
     pub settle: bool,
 }
-
-/// The first fault of a script: its line in the canonical text, and the reason.
-#[derive(Clone, Copy, PartialEq, Eq, Debug)]
-pub struct PlanFault {
-    pub line: u64,
-    pub reason: u64,
-}

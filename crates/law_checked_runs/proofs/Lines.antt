@@ -3,7 +3,8 @@ use Rattle.std.proofs.Common.{◌≡◌, ℕ, ◌+◌, true, false, List, [], �
 use Rattle.std.specs.Prelude.{Result, Ok, Err, if◌then◌else◌, drop}
 use Rattle.dpc_model.specs.Words.{Word}
 use Rattle.dpc_model.specs.declared.scripts.Script.{Script}
-use Rattle.dpc_model.specs.declared.scripts.PlanFault.{PlanFault}
+use Rattle.script_rules.specs.declared.reasons.Reason.TheVariants.{ForeignByte, PastLimit}
+use Rattle.script_rules.specs.declared.reasons.PlanFault.{PlanFault}
 use Rattle.script_rules.specs.declared.keywords.Keyword.{Keyword}
 use Rattle.script_rules.specs.Lines.{lines_of, words_of, is_skipped}
 use Rattle.script_rules.specs.Statements.{statement_of}
@@ -27,7 +28,7 @@ module _ (P : Draft → Type 0) (keeps : IsKept P) where
       (elim (is_skipped line) as (λ b. first_of_tests (tests_unless_skipped b d (words_of line)) ≡ None → P (if b then d else with_words d (keyword_in d (words_of line)) (drop 1 (words_of line)))) [
         | true ↦ λ e. h
         | false ↦ λ e. words_keep d (keyword_in d (words_of line)) (drop 1 (words_of line)) e h
-      ]) (further_tests (has_foreign_byte line) 1 (tests_unless_skipped (is_skipped line) d (words_of line)) none)
+      ]) (further_tests (has_foreign_byte line) ForeignByte (tests_unless_skipped (is_skipped line) d (words_of line)) none)
 
   lines_keep : (n : ℕ) (d e : Draft) (lines : List (List ℕ)) → read_from n d lines ≡ Ok e → P d → P e
   lines_keep n d e [] read h =
@@ -49,7 +50,7 @@ module _ (P : Draft → Type 0) (keeps : IsKept P) where
   pub read_keeps : P nothing_yet → (text : List ℕ) (s : Script) → read text ≡ Some s → (d : Draft) × (script_of d ≡ s) × P d
   unfolding reading
   read_keeps h text s =
-      elim (is_too_large_text text) as (λ b. script_in (if b then Err (record { line = 0; reason = 14 }) else concluded (read_from 1 nothing_yet (lines_of text))) ≡ Some s → (d : Draft) × (script_of d ≡ s) × P d) [
+      elim (is_too_large_text text) as (λ b. script_in (if b then Err (record { line = 0; reason = PastLimit }) else concluded (read_from 1 nothing_yet (lines_of text))) ≡ Some s → (d : Draft) × (script_of d ≡ s) × P d) [
         | true ↦ λ e. absurd cc
         | false ↦ λ e. concluded_keeps (read_from 1 nothing_yet (lines_of text)) s (λ d is. lines_keep 1 nothing_yet d (lines_of text) is h) e
       ]

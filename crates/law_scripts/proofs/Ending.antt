@@ -21,6 +21,8 @@ use Rattle.dpc_model.specs.declared.scripts.Directive.TheVariants.{Emit, Release
 use Rattle.dpc_model.specs.declared.scripts.Phase.{Phase}
 use Rattle.dpc_model.specs.declared.scripts.Script.{Script}
 use Rattle.dpc_lists.proofs.Elements.{nil-of}
+use Rattle.script_rules.specs.declared.reasons.Reason.{Reason}
+use Rattle.script_rules.specs.declared.reasons.Reason.TheVariants.{PartMissing}
 use Rattle.script_rules.specs.Statements.{Statement, HeaderLine, SourceLine, LogLine, FragmentLine, OperatorLine, BeginLine, TickLine}
 use Rattle.script_rules.specs.Drafts.{Draft, is_wide, is_passing, has_header, plan_of, source_names, frag_names, op_names, script_of}
 use Rattle.script_rules.specs.Reasons.{lacks_end}
@@ -121,7 +123,7 @@ before_begin d rest =
 ended : (d : Draft) → fault_of_end d ≡ None → lacks_end d ≡ false
 ended d h = of (lacks_end d) h
   where
-    of : (b : Bool) → if◌then◌else◌ {A = Option ℕ} b (Some 12) None ≡ None → b ≡ false
+    of : (b : Bool) → if◌then◌else◌ {A = Option Reason} b (Some PartMissing) None ≡ None → b ≡ false
     of true h = absurd cc
     of false h = refl
 

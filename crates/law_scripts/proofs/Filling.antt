@@ -13,7 +13,7 @@ use Rattle.script_rules.specs.Places.{opened, placed, leaves_over, is_foreign, i
 use Rattle.script_rules.proofs.Numerals.{numeral_is}
 use Rattle.script_rules.proofs.Ranges.{between}
 
--- no reason of 2, 4 or 5 stands against a word at its place
+-- a word may stand at its place, with a number in its range where one must stand
 pub record Keeps (sort : Sort) (w : Word) : Type 0 where
   pub sorted : is_foreign sort w ≡ false
   pub number : is_no_number sort w ≡ false

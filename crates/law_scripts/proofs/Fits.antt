@@ -7,7 +7,7 @@ use Rattle.script_rules.specs.declared.places.Place.{Place}
 use Rattle.script_rules.specs.Places.{opened, placed, leaves_over, is_foreign, is_no_number, is_out_of_range}
 use Rattle.law_scripts.proofs.Lines.{is_plain}
 
--- a plain word against which no reason of 2, 4 or 5 stands
+-- a plain word that may stand at its place, with a number in its range where one must stand
 pub record Stands (sort : Sort) (w : Word) : Type 0 where
   pub plain : is_plain w ≡ true
   pub sorted : is_foreign sort w ≡ false

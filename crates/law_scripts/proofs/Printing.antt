@@ -6,6 +6,7 @@ use Rattle.dpc_lists.specs.Lists.{list_all}
 use Rattle.dpc_model.specs.Words.{spaced}
 use Rattle.dpc_model.specs.ScriptText.{script_text, script_lines}
 use Rattle.dpc_model.specs.declared.scripts.Script.{Script}
+use Rattle.script_rules.specs.declared.reasons.Reason.TheVariants.{PastLimit}
 use Rattle.script_rules.specs.Lines.{lines_of, words_of}
 use Rattle.script_rules.specs.Drafts.{nothing_yet}
 use Rattle.script_rules.specs.Reading.{read_from, concluded, reading, fault_in, script_in}
@@ -32,7 +33,7 @@ module _ (s : Script) (in_range : is_in_range s ≡ true) (named : refers_to_nam
   printed_is_read : length (script_text s) ≤ 2 ^ 26 → reading (script_text s) ≡ concluded (judged 1 nothing_yet (statements_of s))
   unfolding reading
   printed_is_read short =
-      ap (λ t. if t then Err (record { line = 0; reason = 14 }) else concluded (read_from 1 nothing_yet (lines_of (script_text s)))) (le-ltb (2 ^ 26) (length (script_text s)) short)
+      ap (λ t. if t then Err (record { line = 0; reason = PastLimit }) else concluded (read_from 1 nothing_yet (lines_of (script_text s)))) (le-ltb (2 ^ 26) (length (script_text s)) short)
       ∙ ap (λ lines. concluded (read_from 1 nothing_yet lines)) printed_lines
       ∙ ap concluded (reads_as_judged 1 nothing_yet (script_lines s) (statements_of s) (script_says s in_range named))
 

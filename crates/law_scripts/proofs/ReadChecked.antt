@@ -5,7 +5,8 @@ use Rattle.std.proofs.lemmas.Bool.{not-false}
 use Rattle.dpc_lists.specs.Lists.{is_nil}
 use Rattle.dpc_model.specs.Words.{Word}
 use Rattle.dpc_model.specs.declared.scripts.Script.{Script}
-use Rattle.dpc_model.specs.declared.scripts.PlanFault.{PlanFault}
+use Rattle.script_rules.specs.declared.reasons.Reason.TheVariants.{ForeignByte, PartMissing, PastLimit}
+use Rattle.script_rules.specs.declared.reasons.PlanFault.{PlanFault}
 use Rattle.script_rules.specs.Lines.{lines_of, words_of, is_skipped}
 use Rattle.script_rules.specs.declared.keywords.Keyword.{Keyword}
 use Rattle.script_rules.specs.Keywords.{keyword_of}
@@ -71,7 +72,7 @@ line_kept d line none kept =
     (elim (is_skipped line) as (λ b. first_of_tests (tests_unless_skipped b d (words_of line)) ≡ None → IsKept (if b then d else with_words d (keyword_in d (words_of line)) (drop 1 (words_of line)))) [
       | true ↦ λ e. kept
       | false ↦ λ e. with_its_words d (words_of line) e kept
-    ]) (further_tests (has_foreign_byte line) 1 (tests_unless_skipped (is_skipped line) d (words_of line)) none)
+    ]) (further_tests (has_foreign_byte line) ForeignByte (tests_unless_skipped (is_skipped line) d (words_of line)) none)
 
 -- ---- all lines
 
@@ -101,7 +102,7 @@ unfolding check
 is_checked d read =
     let told = read.kept.told in
     let whole = told.state.fitted.form.parts.whole in
-    let begun = begun_at_end d.begun (not (is_nil d.directives)) 12 read.ended in
+    let begun = begun_at_end d.begun (not (is_nil d.directives)) PartMissing read.ended in
     let said = said_in_the_end d read.ended (λ begun. (whole begun).header) told.state.flag in
     record {
       in_range = ranges_at_end d (whole begun).header read.kept.ranges;
@@ -115,7 +116,7 @@ concluded_checked (Err fault) s reads e = absurd cc
 pub reads_checked : ReadsChecked
 unfolding reading
 reads_checked text s =
-    elim (is_too_large_text text) as (λ b. script_in (if b then Err (record { line = 0; reason = 14 }) else concluded (read_from 1 nothing_yet (lines_of text))) ≡ Some s → IsChecked s) [
+    elim (is_too_large_text text) as (λ b. script_in (if b then Err (record { line = 0; reason = PastLimit }) else concluded (read_from 1 nothing_yet (lines_of text))) ≡ Some s → IsChecked s) [
       | true ↦ λ e. absurd cc
       | false ↦ λ e. concluded_checked (read_from 1 nothing_yet (lines_of text)) s (λ d is. lines_kept 1 nothing_yet d (lines_of text) is nothing_kept) e
     ]

@@ -6,7 +6,8 @@ use Rattle.dpc_lists.specs.Lists.{list_any, nth}
 use Rattle.dpc_model.specs.Words.{Word, text_of}
 use Rattle.dpc_model.specs.ScriptText.{script_text}
 use Rattle.dpc_model.specs.declared.scripts.Script.{Script}
-use Rattle.dpc_model.specs.declared.scripts.PlanFault.{PlanFault}
+use Rattle.script_rules.specs.declared.reasons.Reason.TheVariants.{ForeignByte, PastLimit}
+use Rattle.script_rules.specs.declared.reasons.PlanFault.{PlanFault}
 use Rattle.script_rules.specs.Lines.{lines_of, words_of, is_skipped}
 use Rattle.script_rules.specs.declared.keywords.Keyword.{Keyword}
 use Rattle.script_rules.specs.Keywords.{keyword_of}
@@ -93,7 +94,7 @@ line_said : (last : Word) (d : Draft) (line : List ℕ) (lines : List (List Word
     IsSaid last d (with_line d line) (words_of line) lines
 unfolding fault_of with_line
 line_said last d line lines none kept follow u =
-    let tests = further_tests (has_foreign_byte line) 1 (tests_unless_skipped (is_skipped line) d (words_of line)) none in
+    let tests = further_tests (has_foreign_byte line) ForeignByte (tests_unless_skipped (is_skipped line) d (words_of line)) none in
     let here : first_of_tests (tests_of_words d (keyword_in d (words_of line)) (drop 1 (words_of line))) ≡ None = ap (λ b. first_of_tests (tests_unless_skipped b d (words_of line))) (sym kept) ∙ tests in
     subst (λ b. IsSaid last d (if b then d else with_words d (keyword_in d (words_of line)) (drop 1 (words_of line))) (words_of line) lines) (sym kept)
     (with_its_words last d (words_of line) lines here follow u)
@@ -153,7 +154,7 @@ concluded_text text (Err fault) s reads h = absurd cc
 pub prints_back : PrintsBack
 unfolding reading
 prints_back text s h c =
-    (elim (is_too_large_text text) as (λ b. script_in (if b then Err (record { line = 0; reason = 14 }) else concluded (read_from 1 nothing_yet (lines_of text))) ≡ Some s → text ≡ script_text s) [
+    (elim (is_too_large_text text) as (λ b. script_in (if b then Err (record { line = 0; reason = PastLimit }) else concluded (read_from 1 nothing_yet (lines_of text))) ≡ Some s → text ≡ script_text s) [
       | true ↦ λ h. absurd cc
       | false ↦ λ h. concluded_text text (read_from 1 nothing_yet (lines_of text)) s (λ e is.
           text_is text e (lines_said 1 [] nothing_yet e (lines_of text) is c.nothing_skipped c.logs (nothing_under_way nothing_fitted)) c) h

@@ -5,8 +5,8 @@ use Rattle.std.proofs.lemmas.Bool.{not-false, ltb-true}
 use Rattle.std.proofs.lemmas.List.{append-nil, append_assoc, length-append}
 use Rattle.dpc_model.specs.Words.{Word}
 use Rattle.dpc_model.specs.declared.plans.SourceSpec.{SourceSpec}
-use Rattle.dpc_model.specs.declared.scripts.PlanFault.{PlanFault}
 use Rattle.dpc_lists.proofs.Elements.{length-changed, nil-of}
+use Rattle.script_rules.specs.declared.reasons.PlanFault.{PlanFault}
 use Rattle.script_rules.specs.declared.keywords.Keyword.{Keyword}
 use Rattle.script_rules.specs.declared.keywords.Keyword.TheVariants as key
 use Rattle.script_rules.specs.Statements.{Statement, statement_of, word, number_at, HeaderLine, SourceLine, LogLine, FragmentLine, PatienceLine, OperatorLine, ClientLine, BeginLine, SendLine, LinkLine, NodeLine, TickLine, SettleLine}

@@ -5,7 +5,9 @@ use Rattle.std.proofs.lemmas.Bool.{and_parts}
 use Rattle.std.proofs.lemmas.List.{append_assoc}
 use Rattle.dpc_lists.specs.Lists.{list_all}
 use Rattle.dpc_model.specs.Words.{Word, spaced}
-use Rattle.dpc_model.specs.declared.scripts.PlanFault.{PlanFault}
+use Rattle.script_rules.specs.declared.reasons.Reason.{Reason}
+use Rattle.script_rules.specs.declared.reasons.Reason.TheVariants.{ForeignByte, ForeignWord, WrongCount, NoNumber, OutOfRange, OutOfPart}
+use Rattle.script_rules.specs.declared.reasons.PlanFault.{PlanFault}
 use Rattle.script_rules.specs.declared.keywords.Keyword.{Keyword}
 use Rattle.script_rules.specs.Lines.{words_of, is_skipped, begins_with_hash}
 use Rattle.script_rules.specs.Keywords.{keyword_of}
@@ -19,7 +21,7 @@ use Rattle.script_rules.proofs.Passing.{all_said}
 use Rattle.law_scripts.proofs.Lines.{is_plain, is_first, words_of-spaced, no_foreign_byte, not_skipped}
 use Rattle.law_scripts.proofs.Fits.{Fits, nothing_over, none_breaks, all_plain}
 
--- behind what d says, a first word and those behind it are a line of some keyword that says s, and no reason below 7 stands against it
+-- behind what d says, a first word and those behind it are a line of some keyword that says s, and no reason stands against its words and its part
 pub record SaysLine (d : Draft) (w : Word) (ws : List Word) (s : Statement) : Type 0 where
   pub keyword : Keyword
   pub known : keyword_of (version_of d) w ≡ Some keyword
@@ -52,23 +54,23 @@ words_tested d w ws s h =
     let number : lacks_number d h.keyword ws ≡ false = none_breaks is_no_number (λ sort w h. h.number) places ws h.fits in
     let range : is_past_range d h.keyword ws ≡ false = none_breaks is_out_of_range (λ sort w h. h.range) places ws h.fits in
     let part : is_out_of_part d h.keyword ≡ false = ap not h.part in
-    let from_6 : List (Bool × ℕ) = (is_out_of_part d h.keyword, 6) ∷ tests_said d (statement_of h.keyword ws) in
-    let from_5 : List (Bool × ℕ) = (is_past_range d h.keyword ws, 5) ∷ from_6 in
-    let from_4 : List (Bool × ℕ) = (lacks_number d h.keyword ws, 4) ∷ from_5 in
-    let from_3 : List (Bool × ℕ) = (has_wrong_length d h.keyword ws, 3) ∷ from_4 in
-    passed (has_foreign_word d h.keyword ws) 2 from_3 foreign ∙ passed (has_wrong_length d h.keyword ws) 3 from_4 short ∙ passed (lacks_number d h.keyword ws) 4 from_5 number
-    ∙ passed (is_past_range d h.keyword ws) 5 from_6 range ∙ passed (is_out_of_part d h.keyword) 6 (tests_said d (statement_of h.keyword ws)) part
+    let from_part : List (Bool × Reason) = (is_out_of_part d h.keyword, OutOfPart) ∷ tests_said d (statement_of h.keyword ws) in
+    let from_range : List (Bool × Reason) = (is_past_range d h.keyword ws, OutOfRange) ∷ from_part in
+    let from_number : List (Bool × Reason) = (lacks_number d h.keyword ws, NoNumber) ∷ from_range in
+    let from_count : List (Bool × Reason) = (has_wrong_length d h.keyword ws, WrongCount) ∷ from_number in
+    passed (has_foreign_word d h.keyword ws) ForeignWord from_count foreign ∙ passed (has_wrong_length d h.keyword ws) WrongCount from_number short ∙ passed (lacks_number d h.keyword ws) NoNumber from_range number
+    ∙ passed (is_past_range d h.keyword ws) OutOfRange from_part range ∙ passed (is_out_of_part d h.keyword) OutOfPart (tests_said d (statement_of h.keyword ws)) part
     ∙ ap (λ s. first_of_tests (tests_said d s)) h.said
   where
-    passed : (b : Bool) (n : ℕ) (tests : List (Bool × ℕ)) → b ≡ false → first_of_tests ((b, n) ∷ tests) ≡ first_of_tests tests
-    passed b n tests e = rw e refl
+    passed : (b : Bool) (r : Reason) (tests : List (Bool × Reason)) → b ≡ false → first_of_tests ((b, r) ∷ tests) ≡ first_of_tests tests
+    passed b r tests e = rw e refl
 
 line_tested : (d : Draft) (w : Word) (ws : List Word) (s : Statement) → SaysLine d w ws s → first_of_tests (tests_of d (spaced (w ∷ ws))) ≡ first_of_tests (tests_said d s)
 line_tested d w ws s h =
     let line = spaced (w ∷ ws) in
     let plain : list_all is_plain (w ∷ ws) ≡ true = plain_line d w ws s h in
     let skipped : is_skipped line ≡ false = not_skipped w ws h.first (all_plain (places_of d h.keyword) ws h.fits) in
-    ap (λ b. first_of_tests ((b, 1) ∷ tests_unless_skipped (is_skipped line) d (words_of line))) (no_foreign_byte (w ∷ ws) plain)
+    ap (λ b. first_of_tests ((b, ForeignByte) ∷ tests_unless_skipped (is_skipped line) d (words_of line))) (no_foreign_byte (w ∷ ws) plain)
     ∙ ap (λ b. first_of_tests (tests_unless_skipped b d (words_of line))) skipped
     ∙ ap (λ l. first_of_tests (tests_of_words d (keyword_in d l) (drop 1 l))) (words_of-spaced (w ∷ ws) plain)
     ∙ ap (λ o. first_of_tests (tests_of_words d o ws)) h.known ∙ words_tested d w ws s h

@@ -1,16 +1,15 @@
 -- Sources whose logs fit pass every test, each one followed by its log.
-use Rattle.std.proofs.Common.{◌≡◌, ℕ, ◌+◌, ◌≤◌, true, false, List, [], ◌∷◌, ◌++◌, map, length, Some, refl, sym, ap, subst, ◌∙◌, arith}
-use Rattle.std.specs.Prelude.{not, ◌==◌, nat_lt, is_none, unwrap_or, flat_map}
+use Rattle.std.proofs.Common.{◌≡◌, ℕ, ◌+◌, ◌≤◌, true, false, List, [], ◌∷◌, ◌++◌, map, length, Some, refl, sym, ap, subst, ◌∙◌, arith, Bool}
+use Rattle.std.specs.Prelude.{not, ◌==◌, nat_lt, is_none, unwrap_or, flat_map, ◌&&◌}
 use Rattle.std.proofs.lemmas.Bool.{and_parts, or_from, not_from_true, lt-ltb, le-ltb}
-use Rattle.std.proofs.lemmas.List.{append-nil, append_assoc, map_push, map-append, length-append, length-map}
+use Rattle.std.proofs.lemmas.List.{append-nil, append_assoc, map-append, length-append}
 use Rattle.std.proofs.lemmas.List.Sums.{sum_by-append}
-use Rattle.dpc_lists.specs.Lists.{nth, list_all}
+use Rattle.dpc_lists.specs.Lists.{list_all}
 use Rattle.dpc_model.specs.Streams.{NoneBelow, IsOrdered}
 use Rattle.dpc_model.specs.declared.tuples.Tuple.{Tuple}
 use Rattle.dpc_model.specs.declared.plans.SourceSpec.{SourceSpec}
 use Rattle.script_rules.specs.Statements.{Statement, SourceLine}
-use Rattle.script_rules.specs.Drafts.{Draft, source_named, place_of_name, with_log, and_then}
-use Rattle.script_rules.proofs.Lasts.{place-last, nth-last}
+use Rattle.script_rules.specs.Drafts.{Draft, source_named, with_log, and_then}
 use Rattle.script_rules.specs.Reasons.{is_among, has_twice, source_at, last_time}
 use Rattle.script_rules.specs.Checking.{source_statements}
 use Rattle.script_rules.specs.Facts.{log_fits}

@@ -6,7 +6,9 @@ use Rattle.std.proofs.lemmas.List.Sums.{sum_by-append}
 use Rattle.dpc_model.specs.declared.tuples.Tuple.{Tuple}
 use Rattle.dpc_model.specs.declared.plans.SourceSpec.{SourceSpec}
 use Rattle.dpc_model.specs.declared.plans.Plan.{Plan}
-use Rattle.dpc_model.specs.declared.scripts.PlanFault.{PlanFault}
+use Rattle.script_rules.specs.declared.reasons.Reason.{Reason}
+use Rattle.script_rules.specs.declared.reasons.Reason.TheVariants.{NameTaken, PastLimit}
+use Rattle.script_rules.specs.declared.reasons.PlanFault.{PlanFault}
 use Rattle.script_rules.specs.Statements.{SourceLine}
 use Rattle.script_rules.specs.Drafts.{Draft}
 use Rattle.script_rules.specs.Reasons.{first_of_tests, tests_said, is_among, is_full}
@@ -21,9 +23,9 @@ use Rattle.script_check.proofs.Judging.{judges_none, judges_then, judges_stop, j
 pub source_tested : (plan : Plan) (before : List SourceSpec) (s : SourceSpec) → first_of_tests (tests_said (declaring plan before [] []) (SourceLine s.name s.columns)) ≡ first_of_tests (against_source before s)
 source_tested plan before s =
     let names = named_sources before in
-    ap (λ ws. first_of_tests ((is_among s.name ws, 7) ∷ (is_full 16 before, 14) ∷ [])) (append-nil ((names ++ []) ++ []) ∙ append-nil (names ++ []) ∙ append-nil names)
+    ap (λ ws. first_of_tests ((is_among s.name ws, NameTaken) ∷ (is_full 16 before, PastLimit) ∷ [])) (append-nil ((names ++ []) ++ []) ∙ append-nil (names ++ []) ∙ append-nil names)
 
-pub source_fails : (plan : Plan) (before : List SourceSpec) (s : SourceSpec) (line r n : ℕ) → first_of_tests (against_source before s) ≡ Some r → line ≡ told n →
+pub source_fails : (plan : Plan) (before : List SourceSpec) (s : SourceSpec) (line : ℕ) (r : Reason) (n : ℕ) → first_of_tests (against_source before s) ≡ Some r → line ≡ told n →
     Judges (Err (record { line = line; reason = r })) n (declaring plan before [] []) (source_statements s)
 source_fails plan before s line r n some at =
     judges_fault line r n (declaring plan before [] []) (SourceLine s.name s.columns) (map (entry_of s) s.log) at (source_tested plan before s ∙ some)

@@ -12,6 +12,8 @@ use Rattle.dpc_model.specs.declared.plans.ClientSpec.{ClientSpec}
 use Rattle.dpc_model.specs.declared.plans.Plan.{Plan}
 use Rattle.dpc_model.specs.declared.plans.StreamRef.TheVariants.{Source}
 use Rattle.dpc_lists.proofs.Elements.{nil-map}
+use Rattle.script_rules.specs.declared.reasons.Reason.{Reason}
+use Rattle.script_rules.specs.declared.reasons.Reason.TheVariants.{NameTaken, ReadsAhead, PartMissing, PastLimit}
 use Rattle.script_rules.specs.Statements.{BeginLine}
 use Rattle.script_rules.specs.Drafts.{Draft, and_then, op_names, stream_named}
 use Rattle.script_rules.specs.Reasons.{first_of_tests, tests_said, is_among, is_full}
@@ -32,12 +34,12 @@ module _ (plan : Plan) where
       let among = is_among c.name in
       let many : length b.clients ≡ length before = sym (length-map b.clients (λ (x : ClientSpec). x.name)) ∙ ap (λ (l : List Word). length l) b.same ∙ length-map before (λ (x : ClientSpec). x.name) in
       ap (λ e. first_of_tests (tests_said e (client_statement plan c))) b.draft
-      ∙ ap (λ x. first_of_tests ((x, 7) ∷ (is_none (stream_at s (named_frags b.fs) w), 11) ∷ (is_full 16 b.clients, 14) ∷ []))
+      ∙ ap (λ x. first_of_tests ((x, NameTaken) ∷ (is_none (stream_at s (named_frags b.fs) w), ReadsAhead) ∷ (is_full 16 b.clients, PastLimit) ∷ []))
       (list_any-append (bytes_eq c.name) ((s ++ named_frags b.fs) ++ flat_map op_names b.fs) (named_clients b.clients)
       ∙ ap (λ l. among ((s ++ l) ++ flat_map op_names b.fs) || among (named_clients b.clients)) b.named ∙ ap (λ l. among ((s ++ named_frags plan.frags) ++ l) || among (named_clients b.clients)) (flat-same b.fs plan.frags b.ops)
       ∙ ap (λ l. among (names_before plan.sources plan.frags) || among l) b.same)
-      ∙ ap (λ l. first_of_tests ((among (names_before plan.sources plan.frags) || among (named_clients before), 7) ∷ (is_none (stream_at s l w), 11) ∷ (is_full 16 b.clients, 14) ∷ [])) b.named
-      ∙ ap (λ n. first_of_tests ((among (names_before plan.sources plan.frags) || among (named_clients before), 7) ∷ (is_none (stream_of plan.sources plan.frags w), 11) ∷ (not (nat_lt n 16), 14) ∷ [])) many
+      ∙ ap (λ l. first_of_tests ((among (names_before plan.sources plan.frags) || among (named_clients before), NameTaken) ∷ (is_none (stream_at s l w), ReadsAhead) ∷ (is_full 16 b.clients, PastLimit) ∷ [])) b.named
+      ∙ ap (λ n. first_of_tests ((among (names_before plan.sources plan.frags) || among (named_clients before), NameTaken) ∷ (is_none (stream_of plan.sources plan.frags w), ReadsAhead) ∷ (not (nat_lt n 16), PastLimit) ∷ [])) many
 
   client_behind : (before : List ClientSpec) (d : Draft) (c : ClientSpec) → IsBehindClients plan before d → IsBehindClients plan (before ++ c ∷ []) (and_then d (client_statement plan c))
   client_behind before d c b =
@@ -76,7 +78,7 @@ module _ (plan : Plan) where
             (subst (λ l. IsBehindClients plan l (and_then (all_said d done) (g c))) whole (client_behind (take i clients) (all_said d done) c (h.behind d b)));
       }
 
-  pub clients_fail : (line : ℕ) (clients : List ClientSpec) (i next r : ℕ) (c : ClientSpec) → i < length clients → c ≡ get_or clients i c → first_of_tests (against_client plan (take i clients) c) ≡ Some r →
+  pub clients_fail : (line : ℕ) (clients : List ClientSpec) (i next : ℕ) (r : Reason) (c : ClientSpec) → i < length clients → c ≡ get_or clients i c → first_of_tests (against_client plan (take i clients) c) ≡ Some r →
       AreClientsTo line clients i next → (n : ℕ) (d : Draft) → line ≡ told n → IsBehindClients plan [] d → Judges (Err (record { line = next; reason = r })) n d (map (client_statement plan) clients)
   clients_fail line clients i next r c low is some h n d at b =
       let g = client_statement plan in
@@ -98,18 +100,18 @@ module _ (plan : Plan) where
   some-empty [] = refl
   some-empty (f ∷ fs) = ap (λ b. b || list_any (λ (g : FragSpec). is_nil g.ops) fs) (sym (nil-map (λ (op : OpSpec). op.name) f.ops)) ∙ ap (λ b. is_nil (op_names f) || b) (some-empty fs)
 
-  begin_tested : (d : Draft) → IsBehindClients plan plan.clients d → first_of_tests (tests_said d BeginLine) ≡ first_of_tests ((lacks_part plan, 12) ∷ [])
+  begin_tested : (d : Draft) → IsBehindClients plan plan.clients d → first_of_tests (tests_said d BeginLine) ≡ first_of_tests ((lacks_part plan, PartMissing) ∷ [])
   begin_tested d b =
       let frags : is_nil b.fs ≡ is_nil plan.frags = sym (nil-map (λ (f : FragSpec). f.name) b.fs) ∙ ap is_nil b.named ∙ nil-map (λ (f : FragSpec). f.name) plan.frags in
       let clients : is_nil b.clients ≡ is_nil plan.clients = sym (nil-map (λ (c : ClientSpec). c.name) b.clients) ∙ ap is_nil b.same ∙ nil-map (λ (c : ClientSpec). c.name) plan.clients in
       let empty : list_any (λ (f : FragSpec). is_nil f.ops) b.fs ≡ list_any (λ (f : FragSpec). is_nil f.ops) plan.frags = some-empty b.fs ∙ ap (list_any (λ (ws : List Word). is_nil ws)) b.ops ∙ sym (some-empty plan.frags) in
       ap (λ e. first_of_tests (tests_said e BeginLine)) b.draft
-      ∙ ap (λ t. first_of_tests ((((is_nil plan.sources || t) || is_nil b.clients) || list_any (λ (f : FragSpec). is_nil f.ops) b.fs, 12) ∷ [])) frags
-      ∙ ap (λ t. first_of_tests ((((is_nil plan.sources || is_nil plan.frags) || t) || list_any (λ (f : FragSpec). is_nil f.ops) b.fs, 12) ∷ [])) clients
-      ∙ ap (λ t. first_of_tests ((((is_nil plan.sources || is_nil plan.frags) || is_nil plan.clients) || t, 12) ∷ [])) empty
+      ∙ ap (λ t. first_of_tests ((((is_nil plan.sources || t) || is_nil b.clients) || list_any (λ (f : FragSpec). is_nil f.ops) b.fs, PartMissing) ∷ [])) frags
+      ∙ ap (λ t. first_of_tests ((((is_nil plan.sources || is_nil plan.frags) || t) || list_any (λ (f : FragSpec). is_nil f.ops) b.fs, PartMissing) ∷ [])) clients
+      ∙ ap (λ t. first_of_tests ((((is_nil plan.sources || is_nil plan.frags) || is_nil plan.clients) || t, PartMissing) ∷ [])) empty
 
-  pub begin_fails : (line n : ℕ) (d : Draft) → lacks_part plan ≡ true → line ≡ told n → IsBehindClients plan plan.clients d → Judges (Err (record { line = line; reason = 12 })) n d (BeginLine ∷ [])
-  begin_fails line n d lacks at b = judges_fault line 12 n d BeginLine [] at (begin_tested d b ∙ ap (λ t. first_of_tests ((t, 12) ∷ [])) lacks)
+  pub begin_fails : (line n : ℕ) (d : Draft) → lacks_part plan ≡ true → line ≡ told n → IsBehindClients plan plan.clients d → Judges (Err (record { line = line; reason = PartMissing })) n d (BeginLine ∷ [])
+  begin_fails line n d lacks at b = judges_fault line PartMissing n d BeginLine [] at (begin_tested d b ∙ ap (λ t. first_of_tests ((t, PartMissing) ∷ [])) lacks)
 
   pub begin_judged : (line next n : ℕ) (d : Draft) → lacks_part plan ≡ false → line ≡ told n → next ≡ told (line + 1) → IsBehindClients plan plan.clients d → Judges (Ok next) n d (BeginLine ∷ [])
-  begin_judged line next n d whole at more b = judges_one line next n d BeginLine at more (begin_tested d b ∙ ap (λ t. first_of_tests ((t, 12) ∷ [])) whole)
+  begin_judged line next n d whole at more b = judges_one line next n d BeginLine at more (begin_tested d b ∙ ap (λ t. first_of_tests ((t, PartMissing) ∷ [])) whole)

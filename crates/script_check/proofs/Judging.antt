@@ -3,7 +3,8 @@ use Rattle.std.proofs.Common.{◌≡◌, ℕ, zero, suc, ◌+◌, ◌-◌, ◌^�
 use Rattle.std.specs.Prelude.{Result, Ok, Err, option_map, flat_map}
 use Rattle.std.proofs.lemmas.List.{length-append, take_more}
 use Rattle.std.proofs.lemmas.Grind.{flat_map-append}
-use Rattle.dpc_model.specs.declared.scripts.PlanFault.{PlanFault}
+use Rattle.script_rules.specs.declared.reasons.Reason.{Reason}
+use Rattle.script_rules.specs.declared.reasons.PlanFault.{PlanFault}
 use Rattle.script_rules.specs.Statements.{Statement}
 use Rattle.script_rules.specs.Drafts.{Draft, and_then}
 use Rattle.script_rules.specs.Reasons.{first_of_tests, tests_said}
@@ -11,7 +12,7 @@ use Rattle.script_rules.specs.Checking.{check_from}
 use Rattle.script_rules.proofs.Passing.{all_said}
 use Rattle.script_check.specs.Judging.{told, told_fault, Judges}
 
-abbrev found_at : ℕ → Option ℕ → Option PlanFault → Option PlanFault
+abbrev found_at : ℕ → Option Reason → Option PlanFault → Option PlanFault
 found_at n o rest = elim o as (λ o. Option PlanFault) [ None ↦ rest | Some r ↦ Some (record { line = n; reason = r }) ]
 
 pub check-append : (n : ℕ) (d : Draft) (a b : List Statement) → check_from n d a ≡ None → check_from n d (a ++ b) ≡ check_from (n + length a) (all_said d a) b
@@ -54,7 +55,7 @@ told_next line next n h k = omega (arith, h, k)
 pub judges_one : (line next n : ℕ) (d : Draft) (s : Statement) → line ≡ told n → next ≡ told (line + 1) → first_of_tests (tests_said d s) ≡ None → Judges (Ok next) n d (s ∷ [])
 judges_one line next n d s h k none = (told_next line next n h k, ap (λ o. found_at n o None) none)
 
-pub judges_fault : (line r n : ℕ) (d : Draft) (s : Statement) (rest : List Statement) → line ≡ told n → first_of_tests (tests_said d s) ≡ Some r → Judges (Err (record { line = line; reason = r })) n d (s ∷ rest)
+pub judges_fault : (line : ℕ) (r : Reason) (n : ℕ) (d : Draft) (s : Statement) (rest : List Statement) → line ≡ told n → first_of_tests (tests_said d s) ≡ Some r → Judges (Err (record { line = line; reason = r })) n d (s ∷ rest)
 judges_fault line r n d s rest h some =
     ap (λ o. option_map told_fault (found_at n o (check_from (n + 1) (and_then d s) rest))) some ∙ ap (λ l. Some (record { line = l; reason = r })) (sym h)
 

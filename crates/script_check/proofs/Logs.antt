@@ -8,6 +8,8 @@ use Rattle.dpc_lists.specs.Lists.{nth, last_or}
 use Rattle.dpc_model.specs.declared.tuples.Tuple.{Tuple}
 use Rattle.dpc_model.specs.declared.plans.SourceSpec.{SourceSpec}
 use Rattle.dpc_model.specs.declared.plans.Plan.{Plan}
+use Rattle.script_rules.specs.declared.reasons.Reason.{Reason}
+use Rattle.script_rules.specs.declared.reasons.Reason.TheVariants.{Unknown, OutOfTime, NoSuchColumn, PastLimit}
 use Rattle.script_rules.specs.Statements.{Statement}
 use Rattle.script_rules.specs.Drafts.{Draft, source_named, place_of_name}
 use Rattle.script_rules.specs.Reasons.{first_of_tests, tests_said, is_among, source_at, last_time, log_entries}
@@ -58,9 +60,9 @@ entry_judged plan before source log t fresh =
     let count : ℕ = sum_by (λ (s : SourceSpec). length s.log) before in
     let full : not (nat_lt (log_entries d) 200000) ≡ nat_le (room_behind before) (length log) =
     ap (λ n. not (nat_lt n 200000)) (entries before source log) ∙ no_room count (length log) in
-    ap (λ o. first_of_tests ((is_none o, 8) ∷ (nat_lt t.stime (last_time (source_at d source.name).log) || not (nat_lt t.stime plan.end), 9) ∷ (not (length t.vals == (source_at d source.name).columns), 10) ∷ (not (nat_lt (log_entries d) 200000), 14) ∷ [])) (found plan before source log fresh)
-    ∙ ap (λ (s : SourceSpec). first_of_tests ((nat_lt t.stime (last_time s.log) || not (nat_lt t.stime plan.end), 9) ∷ (not (length t.vals == s.columns), 10) ∷ (not (nat_lt (log_entries d) 200000), 14) ∷ [])) (at_last plan before source log fresh)
-    ∙ ap (λ b. first_of_tests ((nat_lt t.stime (last_time log) || not (nat_lt t.stime plan.end), 9) ∷ (not (length t.vals == source.columns), 10) ∷ (b, 14) ∷ [])) full
+    ap (λ o. first_of_tests ((is_none o, Unknown) ∷ (nat_lt t.stime (last_time (source_at d source.name).log) || not (nat_lt t.stime plan.end), OutOfTime) ∷ (not (length t.vals == (source_at d source.name).columns), NoSuchColumn) ∷ (not (nat_lt (log_entries d) 200000), PastLimit) ∷ [])) (found plan before source log fresh)
+    ∙ ap (λ (s : SourceSpec). first_of_tests ((nat_lt t.stime (last_time s.log) || not (nat_lt t.stime plan.end), OutOfTime) ∷ (not (length t.vals == s.columns), NoSuchColumn) ∷ (not (nat_lt (log_entries d) 200000), PastLimit) ∷ [])) (at_last plan before source log fresh)
+    ∙ ap (λ b. first_of_tests ((nat_lt t.stime (last_time log) || not (nat_lt t.stime plan.end), OutOfTime) ∷ (not (length t.vals == source.columns), NoSuchColumn) ∷ (b, PastLimit) ∷ [])) full
 
 -- a log that is judged up to its entry number i
 pub record IsJudgedTo (end columns room line : ℕ) (log : List Tuple) (i last next : ℕ) : Type 0 where
@@ -109,7 +111,7 @@ log_goes_on end columns room line log i last next behind t low is none more h =
           subst (Judges (Ok behind) n d) (sym (map-more (entry_of source) i t log low is)) (judges_then (Ok behind) next n d done (entry_of source t ∷ []) so_far one);
     }
 
-pub log_fails : (end columns room line : ℕ) (log : List Tuple) (i last next r : ℕ) (t : Tuple) → i < length log → t ≡ get_or log i t → first_of_tests (against_entry end columns room last i t) ≡ Some r →
+pub log_fails : (end columns room line : ℕ) (log : List Tuple) (i last next : ℕ) (r : Reason) (t : Tuple) → i < length log → t ≡ get_or log i t → first_of_tests (against_entry end columns room last i t) ≡ Some r →
     IsJudgedTo end columns room line log i last next → (plan : Plan) (before : List SourceSpec) (source : SourceSpec) (n : ℕ) → BeginsLog plan before source end columns room line n →
     Judges (Err (record { line = next; reason = r })) n (declaring plan (with_source before source []) [] []) (map (entry_of source) log)
 log_fails end columns room line log i last next r t low is some h plan before source n b =

@@ -8,7 +8,8 @@ use Rattle.dpc_model.specs.Columns.{kind_columns}
 use Rattle.dpc_model.specs.declared.operators.OpSpec.{OpSpec}
 use Rattle.dpc_model.specs.declared.plans.FragSpec.{FragSpec}
 use Rattle.dpc_model.specs.declared.plans.Plan.{Plan}
-use Rattle.dpc_model.specs.declared.scripts.PlanFault.{PlanFault}
+use Rattle.script_rules.specs.declared.reasons.Reason.{Reason}
+use Rattle.script_rules.specs.declared.reasons.PlanFault.{PlanFault}
 use Rattle.script_rules.specs.Statements.{Statement, FragmentLine, PatienceLine}
 use Rattle.script_rules.specs.Drafts.{Draft, and_then}
 use Rattle.script_rules.specs.Reasons.{first_of_tests, tests_said}
@@ -66,7 +67,7 @@ module _ (plan : Plan) (before : List FragSpec) (columns : List ℕ) (f : FragSp
             subst (IsInside plan before columns f (take (i + 1) ops) (outs ++ c ∷ [])) (sym (ap (all_said d) lines ∙ said-append d (map g (take i ops)) (g op ∷ []))) taken;
       }
 
-  pub ops_fail : (line : ℕ) (ops done : List OpSpec) (i : ℕ) (outs : List ℕ) (next r : ℕ) (op : OpSpec) → i < length ops → op ≡ get_or ops i op → done ≡ take i ops →
+  pub ops_fail : (line : ℕ) (ops done : List OpSpec) (i : ℕ) (outs : List ℕ) (next : ℕ) (r : Reason) (op : OpSpec) → i < length ops → op ≡ get_or ops i op → done ≡ take i ops →
       first_of_tests (against_operator plan before f done ports outs op) ≡ Some r → AreOpsTo line ops i outs next → (n : ℕ) (d : Draft) → line ≡ told n → IsInside plan before columns f [] [] d →
       Judges (Err (record { line = next; reason = r })) n d (map (operator_statement plan f) ops)
   ops_fail line ops done i outs next r op low is same some h n d at x =
@@ -95,7 +96,7 @@ module _ (plan : Plan) (before : List FragSpec) (columns : List ℕ) (f : FragSp
   line_tested : (d : Draft) → IsBehind plan before columns d → first_of_tests (tests_said d (FragmentLine f.name f.replicas (map (stream_name plan) f.inputs))) ≡ first_of_tests (against_fragment plan before f)
   line_tested d b = ap (λ e. first_of_tests (tests_said e (FragmentLine f.name f.replicas (map (stream_name plan) f.inputs)))) b.draft ∙ fragment_tested plan before columns b.fs b.stand f
 
-  pub fragment_fails : (line r n : ℕ) (d : Draft) → first_of_tests (against_fragment plan before f) ≡ Some r → line ≡ told n → IsBehind plan before columns d → Judges (Err (record { line = line; reason = r })) n d (frag_statements plan f)
+  pub fragment_fails : (line : ℕ) (r : Reason) (n : ℕ) (d : Draft) → first_of_tests (against_fragment plan before f) ≡ Some r → line ≡ told n → IsBehind plan before columns d → Judges (Err (record { line = line; reason = r })) n d (frag_statements plan f)
   fragment_fails line r n d some at b =
       judges_fault line r n d (FragmentLine f.name f.replicas (map (stream_name plan) f.inputs)) (patience_statements f.delay ++ map (operator_statement plan f) f.ops) at (line_tested d b ∙ some)
 

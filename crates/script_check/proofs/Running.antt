@@ -12,10 +12,12 @@ use Rattle.dpc_model.specs.declared.plans.Plan.{Plan}
 use Rattle.dpc_model.specs.declared.scripts.Directive.{Directive}
 use Rattle.dpc_model.specs.declared.scripts.Directive.TheVariants.{Emit, Release, Cut, Heal, Lose, Repeat, Crash, Restart}
 use Rattle.dpc_model.specs.declared.scripts.Phase.{Phase}
-use Rattle.dpc_model.specs.declared.scripts.PlanFault.{PlanFault}
 use Rattle.dpc_lists.proofs.Truths.{not-false, not-both}
 use Rattle.dpc_lists.proofs.Elements.{nth-past}
 use Rattle.dpc_model.proofs.Roles.{nothing_sent, no_peer}
+use Rattle.script_rules.specs.declared.reasons.Reason.{Reason}
+use Rattle.script_rules.specs.declared.reasons.Reason.TheVariants.{Unknown, AgainstState}
+use Rattle.script_rules.specs.declared.reasons.PlanFault.{PlanFault}
 use Rattle.script_rules.specs.Statements.{Statement, LinkLine, TickLine}
 use Rattle.script_rules.specs.Drafts.{Draft, and_then, plan_of, place_of_name, actor_named, op_names}
 use Rattle.script_rules.specs.Reasons.{first_of_tests, tests_said, is_among, is_node, down_after, names_link, names_node}
@@ -114,10 +116,10 @@ module _ (plan : Plan) (good : IsGood plan) where
 
     -- ---- sources
 
-    send_tested : (s : ℕ) → first_of_tests ((is_none (place_of_name (source_name plan s) (named_sources plan.sources)), 8) ∷ []) ≡ first_of_tests ((not (nat_lt s (length plan.sources)), 8) ∷ [])
+    send_tested : (s : ℕ) → first_of_tests ((is_none (place_of_name (source_name plan s) (named_sources plan.sources)), Unknown) ∷ []) ≡ first_of_tests ((not (nat_lt s (length plan.sources)), Unknown) ∷ [])
     send_tested s =
-        ap (λ o. first_of_tests ((is_none o, 8) ∷ [])) (source_at s)
-        ∙ (elim (nat_lt s (length plan.sources)) as (λ b. first_of_tests ((is_none (elim b as (λ b. Option ℕ) [ true ↦ Some s | false ↦ None ]), 8) ∷ []) ≡ first_of_tests ((not b, 8) ∷ [])) [ true ↦ refl | false ↦ refl ])
+        ap (λ o. first_of_tests ((is_none o, Unknown) ∷ [])) (source_at s)
+        ∙ (elim (nat_lt s (length plan.sources)) as (λ b. first_of_tests ((is_none (elim b as (λ b. Option ℕ) [ true ↦ Some s | false ↦ None ]), Unknown) ∷ []) ≡ first_of_tests ((not b, Unknown) ∷ [])) [ true ↦ refl | false ↦ refl ])
 
     source_found : (s : ℕ) → not (nat_lt s (length plan.sources)) ≡ false → place_of_name (source_name plan s) (named_sources plan.sources) ≡ Some s
     source_found s h =
@@ -152,8 +154,8 @@ module _ (plan : Plan) (good : IsGood plan) where
         pick (inl e) = e
         pick (inr n) = absurd (some n.1)
 
-    link_tested : (a b : ℕ) → first_of_tests ((not (names_link d (actor_name plan a) (actor_name plan b)), 8) ∷ []) ≡ first_of_tests ((not (are_linked plan a b), 8) ∷ [])
-    link_tested a b = ap (λ t. first_of_tests ((not t, 8) ∷ [])) (link_same a b)
+    link_tested : (a b : ℕ) → first_of_tests ((not (names_link d (actor_name plan a) (actor_name plan b)), Unknown) ∷ []) ≡ first_of_tests ((not (are_linked plan a b), Unknown) ∷ [])
+    link_tested a b = ap (λ t. first_of_tests ((not t, Unknown) ∷ [])) (link_same a b)
 
     link_said : (make : ℕ → ℕ → Directive) (a b : ℕ) → not (are_linked plan a b) ≡ false → and_then d (LinkLine make (actor_name plan a) (actor_name plan b)) ≡ running plan ps (xs ++ make a b ∷ [])
     link_said make a b h =
@@ -170,17 +172,17 @@ module _ (plan : Plan) (good : IsGood plan) where
     abbrev down_by : Option ℕ → Bool
     down_by o = fold (down_after (unwrap_or o 0)) false (flat_map (λ (p : Phase). p.directives) ps ++ xs)
 
-    by_node : (g : Bool → Bool) (a : ℕ) (o : Option ℕ) → IsFoundOr a o → first_of_tests ((not (node_by plan o), 8) ∷ (g (down_by o), 13) ∷ []) ≡ first_of_tests ((not (is_node (role_of plan a)), 8) ∷ (g (is_down ps xs a), 13) ∷ [])
-    by_node g a o (inl e) = ap (λ o. first_of_tests ((not (node_by plan o), 8) ∷ (g (down_by o), 13) ∷ [])) e
+    by_node : (g : Bool → Bool) (a : ℕ) (o : Option ℕ) → IsFoundOr a o → first_of_tests ((not (node_by plan o), Unknown) ∷ (g (down_by o), AgainstState) ∷ []) ≡ first_of_tests ((not (is_node (role_of plan a)), Unknown) ∷ (g (is_down ps xs a), AgainstState) ∷ [])
+    by_node g a o (inl e) = ap (λ o. first_of_tests ((not (node_by plan o), Unknown) ∷ (g (down_by o), AgainstState) ∷ [])) e
     by_node g a o (inr n) =
-        ap (λ o. first_of_tests ((not (node_by plan o), 8) ∷ (g (down_by o), 13) ∷ [])) n.0
-        ∙ sym (ap (λ r. first_of_tests ((not (is_node r), 8) ∷ (g (is_down ps xs a), 13) ∷ [])) n.1)
+        ap (λ o. first_of_tests ((not (node_by plan o), Unknown) ∷ (g (down_by o), AgainstState) ∷ [])) n.0
+        ∙ sym (ap (λ r. first_of_tests ((not (is_node r), Unknown) ∷ (g (is_down ps xs a), AgainstState) ∷ [])) n.1)
 
     node_tested : (g : Bool → Bool) (a : ℕ) →
-        first_of_tests ((not (names_node d (actor_name plan a)), 8) ∷ (g (down_by (actor_named d (actor_name plan a))), 13) ∷ []) ≡ first_of_tests ((not (is_node (role_of plan a)), 8) ∷ (g (is_down ps xs a), 13) ∷ [])
+        first_of_tests ((not (names_node d (actor_name plan a)), Unknown) ∷ (g (down_by (actor_named d (actor_name plan a))), AgainstState) ∷ []) ≡ first_of_tests ((not (is_node (role_of plan a)), Unknown) ∷ (g (is_down ps xs a), AgainstState) ∷ [])
     node_tested g a =
         let o = actor_named d (actor_name plan a) in
-        ap (λ p. first_of_tests ((not (node_by p o), 8) ∷ (g (down_by o), 13) ∷ [])) same_plan ∙ by_node g a o (named_at a)
+        ap (λ p. first_of_tests ((not (node_by p o), Unknown) ∷ (g (down_by o), AgainstState) ∷ [])) same_plan ∙ by_node g a o (named_at a)
 
     node_found : (a : ℕ) → not (is_node (role_of plan a)) ≡ false → actor_named d (actor_name plan a) ≡ Some a
     node_found a h = found_actor a (λ r. not-both (is_node (role_of plan a)) (not-false (is_node (role_of plan a)) h) (ap is_node r))
@@ -197,19 +199,19 @@ module _ (plan : Plan) (good : IsGood plan) where
     directive_tested (Crash a) = node_tested (λ b. b) a
     directive_tested (Restart a) = node_tested not a
 
-    first_test : (b : Bool) (r : ℕ) (rest : List (Bool × ℕ)) → first_of_tests ((b, r) ∷ rest) ≡ None → b ≡ false
+    first_test : (b : Bool) (r : Reason) (rest : List (Bool × Reason)) → first_of_tests ((b, r) ∷ rest) ≡ None → b ≡ false
     first_test true r rest h = absurd cc
     first_test false r rest h = refl
 
     pub directive_said : (x : Directive) → first_of_tests (against_directive plan ps xs x) ≡ None → and_then d (directive_statement plan x) ≡ running plan ps (xs ++ x ∷ [])
-    directive_said (Emit s t) h = ap (λ o. running plan ps (xs ++ Emit (unwrap_or o 0) t ∷ [])) (source_found s (first_test _ 8 [] h))
-    directive_said (Release s t) h = ap (λ o. running plan ps (xs ++ Release (unwrap_or o 0) t ∷ [])) (source_found s (first_test _ 8 [] h))
-    directive_said (Cut a b) h = link_said Cut a b (first_test _ 8 [] h)
-    directive_said (Heal a b) h = link_said Heal a b (first_test _ 8 [] h)
-    directive_said (Lose a b) h = link_said Lose a b (first_test _ 8 [] h)
-    directive_said (Repeat a b) h = link_said Repeat a b (first_test _ 8 [] h)
-    directive_said (Crash a) h = ap (λ o. running plan ps (xs ++ Crash (unwrap_or o 0) ∷ [])) (node_found a (first_test _ 8 ((is_down ps xs a, 13) ∷ []) h))
-    directive_said (Restart a) h = ap (λ o. running plan ps (xs ++ Restart (unwrap_or o 0) ∷ [])) (node_found a (first_test _ 8 ((not (is_down ps xs a), 13) ∷ []) h))
+    directive_said (Emit s t) h = ap (λ o. running plan ps (xs ++ Emit (unwrap_or o 0) t ∷ [])) (source_found s (first_test _ Unknown [] h))
+    directive_said (Release s t) h = ap (λ o. running plan ps (xs ++ Release (unwrap_or o 0) t ∷ [])) (source_found s (first_test _ Unknown [] h))
+    directive_said (Cut a b) h = link_said Cut a b (first_test _ Unknown [] h)
+    directive_said (Heal a b) h = link_said Heal a b (first_test _ Unknown [] h)
+    directive_said (Lose a b) h = link_said Lose a b (first_test _ Unknown [] h)
+    directive_said (Repeat a b) h = link_said Repeat a b (first_test _ Unknown [] h)
+    directive_said (Crash a) h = ap (λ o. running plan ps (xs ++ Crash (unwrap_or o 0) ∷ [])) (node_found a (first_test _ Unknown ((is_down ps xs a, AgainstState) ∷ []) h))
+    directive_said (Restart a) h = ap (λ o. running plan ps (xs ++ Restart (unwrap_or o 0) ∷ [])) (node_found a (first_test _ Unknown ((not (is_down ps xs a), AgainstState) ∷ []) h))
 
 -- ---- directives and phases that pass are said
 
@@ -271,7 +273,7 @@ directives_go_on plan ps line xs i next more x e low is none step h =
           subst (Judges (Ok more) n d) (sym (map-more g i x xs low (itself xs i x e low is))) (judges_then (Ok more) next n d done (g x ∷ []) so_far one);
     }
 
-pub directives_fail : (plan : Plan) (ps : List Phase) (line : ℕ) (xs : List Directive) (i next r : ℕ) (x e : Directive) → i < length xs → x ≡ get_or xs i e → first_of_tests (against_directive plan ps (take i xs) x) ≡ Some r →
+pub directives_fail : (plan : Plan) (ps : List Phase) (line : ℕ) (xs : List Directive) (i next : ℕ) (r : Reason) (x e : Directive) → i < length xs → x ≡ get_or xs i e → first_of_tests (against_directive plan ps (take i xs) x) ≡ Some r →
     AreDirectivesTo plan ps line xs i next → (n : ℕ) → line ≡ told n → IsChecked (bare plan) → Judges (Err (record { line = next; reason = r })) n (running plan ps []) (map (directive_statement plan) xs)
 directives_fail plan ps line xs i next r x e low is some h n at c =
     let g = directive_statement plan in
@@ -305,7 +307,7 @@ phase_judged plan ps q line next more none step judges n at c =
     let so_far = judges n at c in
     judges_then (Ok more) next n d done (TickLine q.now ∷ []) so_far (judges_one next more (n + length done) (all_said d done) (TickLine q.now) so_far.0 step (tick_at plan ps q n c so_far.1 ∙ none))
 
-pub phase_ticks_wrong : (plan : Plan) (ps : List Phase) (q : Phase) (line next r : ℕ) → first_of_tests (against_tick ps q.now) ≡ Some r → DirectivesJudge plan ps q.directives line (Ok next) →
+pub phase_ticks_wrong : (plan : Plan) (ps : List Phase) (q : Phase) (line next : ℕ) (r : Reason) → first_of_tests (against_tick ps q.now) ≡ Some r → DirectivesJudge plan ps q.directives line (Ok next) →
     (n : ℕ) → line ≡ told n → IsChecked (bare plan) → Judges (Err (record { line = next; reason = r })) n (running plan ps []) (phase_statements plan q)
 phase_ticks_wrong plan ps q line next r some judges n at c =
     let done = map (directive_statement plan) q.directives in

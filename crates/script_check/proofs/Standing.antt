@@ -19,6 +19,7 @@ use Rattle.dpc_model.specs.declared.plans.StreamRef.{StreamRef}
 use Rattle.dpc_model.specs.declared.plans.StreamRef.TheVariants.{Source, Frag}
 use Rattle.dpc_lists.proofs.Truths.{any-same}
 use Rattle.dpc_lists.proofs.Elements.{map-map, map-same}
+use Rattle.script_rules.specs.declared.reasons.Reason.TheVariants.{NameTaken, Unknown, NoSuchColumn, ReadsAhead, PastLimit}
 use Rattle.script_rules.specs.Statements.{FragmentLine, PatienceLine}
 use Rattle.script_rules.specs.Drafts.{Draft, and_then, names, op_names, plan_of, last_frag, wire_named, with_op, with_delay}
 use Rattle.script_rules.specs.Reasons.{first_of_tests, tests_said, is_among, has_twice, is_full, is_too_large, input_columns}
@@ -68,9 +69,9 @@ module _ (plan : Plan) (before : List FragSpec) (columns : List ℕ) (fs : List 
   fragment_tested f =
       let s = named_sources plan.sources in
       let words = map (stream_name plan) f.inputs in
-      ap (λ ws. first_of_tests ((is_among f.name ws || has_twice words, 7) ∷ (list_any (λ w. is_none (stream_at s (named_frags fs) w)) words, 11) ∷ (is_full 16 fs, 14) ∷ [])) names_same
-      ∙ ap (λ l. first_of_tests ((is_among f.name (names_before plan.sources before) || has_twice words, 7) ∷ (list_any (λ w. is_none (stream_at s l w)) words, 11) ∷ (is_full 16 fs, 14) ∷ [])) h.named
-      ∙ ap (λ n. first_of_tests ((is_among f.name (names_before plan.sources before) || has_twice words, 7) ∷ (list_any (λ w. is_none (stream_of plan.sources before w)) words, 11) ∷ (not (nat_lt n 16), 14) ∷ [])) (as_many fs before h.named)
+      ap (λ ws. first_of_tests ((is_among f.name ws || has_twice words, NameTaken) ∷ (list_any (λ w. is_none (stream_at s (named_frags fs) w)) words, ReadsAhead) ∷ (is_full 16 fs, PastLimit) ∷ [])) names_same
+      ∙ ap (λ l. first_of_tests ((is_among f.name (names_before plan.sources before) || has_twice words, NameTaken) ∷ (list_any (λ w. is_none (stream_at s l w)) words, ReadsAhead) ∷ (is_full 16 fs, PastLimit) ∷ [])) h.named
+      ∙ ap (λ n. first_of_tests ((is_among f.name (names_before plan.sources before) || has_twice words, NameTaken) ∷ (list_any (λ w. is_none (stream_of plan.sources before w)) words, ReadsAhead) ∷ (not (nat_lt n 16), PastLimit) ∷ [])) (as_many fs before h.named)
 
   pub fragment_inside : (f : FragSpec) → first_of_tests (against_fragment plan before f) ≡ None → IsInside plan before columns f [] [] (and_then behind (FragmentLine f.name f.replicas (map (stream_name plan) f.inputs)))
   fragment_inside f none =
@@ -227,10 +228,10 @@ module _ (plan : Plan) (before : List FragSpec) (columns : List ℕ) (f : FragSp
       let unknown : list_any (λ w. is_none (wire_named inside w)) words ≡ list_any (λ r. is_none (wire_of plan f done (wire_word plan f r))) op.reads =
       any-map (λ w. is_none (wire_named inside w)) (wire_word plan f) op.reads
       ∙ any-same (λ r. is_none (wire_named inside (wire_word plan f r))) (λ r. is_none (wire_of plan f done (wire_word plan f r))) op.reads (λ r. ap is_none (wires_same (wire_word plan f r))) in
-      ap (λ b. first_of_tests ((b, 7) ∷ (list_any (λ w. is_none (wire_named inside w)) words, 8) ∷ (misses_column op.kind (input_columns inside words), 10) ∷ (is_full 16 (last_frag inside).ops || is_too_large op.kind, 14) ∷ [])) (takes_same op.name)
-      ∙ ap (λ b. first_of_tests ((takes_name plan before f done op.name, 7) ∷ (b, 8) ∷ (misses_column op.kind (input_columns inside words), 10) ∷ (is_full 16 (last_frag inside).ops || is_too_large op.kind, 14) ∷ [])) unknown
-      ∙ ap (λ l. first_of_tests ((takes_name plan before f done op.name, 7) ∷ (list_any (λ r. is_none (wire_of plan f done (wire_word plan f r))) op.reads, 8) ∷ (misses_column op.kind l, 10) ∷ (is_full 16 (last_frag inside).ops || is_too_large op.kind, 14) ∷ [])) (input_columns_same op.reads)
-      ∙ ap (λ b. first_of_tests ((takes_name plan before f done op.name, 7) ∷ (list_any (λ r. is_none (wire_of plan f done (wire_word plan f r))) op.reads, 8) ∷ (misses_column op.kind (read_columns plan f done ports outs op.reads), 10) ∷ (b || is_too_large op.kind, 14) ∷ [])) full_same
+      ap (λ b. first_of_tests ((b, NameTaken) ∷ (list_any (λ w. is_none (wire_named inside w)) words, Unknown) ∷ (misses_column op.kind (input_columns inside words), NoSuchColumn) ∷ (is_full 16 (last_frag inside).ops || is_too_large op.kind, PastLimit) ∷ [])) (takes_same op.name)
+      ∙ ap (λ b. first_of_tests ((takes_name plan before f done op.name, NameTaken) ∷ (b, Unknown) ∷ (misses_column op.kind (input_columns inside words), NoSuchColumn) ∷ (is_full 16 (last_frag inside).ops || is_too_large op.kind, PastLimit) ∷ [])) unknown
+      ∙ ap (λ l. first_of_tests ((takes_name plan before f done op.name, NameTaken) ∷ (list_any (λ r. is_none (wire_of plan f done (wire_word plan f r))) op.reads, Unknown) ∷ (misses_column op.kind l, NoSuchColumn) ∷ (is_full 16 (last_frag inside).ops || is_too_large op.kind, PastLimit) ∷ [])) (input_columns_same op.reads)
+      ∙ ap (λ b. first_of_tests ((takes_name plan before f done op.name, NameTaken) ∷ (list_any (λ r. is_none (wire_of plan f done (wire_word plan f r))) op.reads, Unknown) ∷ (misses_column op.kind (read_columns plan f done ports outs op.reads), NoSuchColumn) ∷ (b || is_too_large op.kind, PastLimit) ∷ [])) full_same
 
   pub operator_inside : (op : OpSpec) → first_of_tests (against_operator plan before f done ports outs op) ≡ None →
       IsInside plan before columns f (done ++ op ∷ []) (outs ++ kind_columns op.kind (read_columns plan f done ports outs op.reads) ∷ []) (and_then inside (operator_statement plan f op))

@@ -4,7 +4,7 @@ use Rattle.std.specs.Prelude.{Result, Ok, Err, flat_map, option_map}
 use Rattle.std.proofs.lemmas.List.{append_assoc}
 use Rattle.dpc_model.specs.declared.plans.Plan.{Plan}
 use Rattle.dpc_model.specs.declared.scripts.Script.{Script}
-use Rattle.dpc_model.specs.declared.scripts.PlanFault.{PlanFault}
+use Rattle.script_rules.specs.declared.reasons.PlanFault.{PlanFault}
 use Rattle.script_rules.specs.Statements.{Statement, BeginLine}
 use Rattle.script_rules.specs.Drafts.{Draft, nothing_yet, and_then, script_of}
 use Rattle.script_rules.specs.Checking.{check, check_from, is_in_range, IsChecked, header_statements, phase_statements, statements_of}

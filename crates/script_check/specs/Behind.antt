@@ -8,7 +8,7 @@ use Rattle.dpc_model.specs.declared.operators.OpSpec.{OpSpec}
 use Rattle.dpc_model.specs.declared.plans.FragSpec.{FragSpec}
 use Rattle.dpc_model.specs.declared.plans.ClientSpec.{ClientSpec}
 use Rattle.dpc_model.specs.declared.plans.Plan.{Plan}
-use Rattle.dpc_model.specs.declared.scripts.PlanFault.{PlanFault}
+use Rattle.script_rules.specs.declared.reasons.PlanFault.{PlanFault}
 use Rattle.script_rules.specs.Statements.{Statement}
 use Rattle.script_rules.specs.Drafts.{Draft, nothing_yet, op_names, and_then}
 use Rattle.script_rules.specs.Checking.{frag_statements, client_statement, statements_of}

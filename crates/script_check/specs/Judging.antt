@@ -7,8 +7,8 @@ use Rattle.dpc_model.specs.declared.plans.Plan.{Plan}
 use Rattle.dpc_model.specs.declared.scripts.Directive.{Directive}
 use Rattle.dpc_model.specs.declared.scripts.Phase.{Phase}
 use Rattle.dpc_model.specs.declared.scripts.Script.{Script}
-use Rattle.dpc_model.specs.declared.scripts.PlanFault.{PlanFault}
 use Rattle.std.specs.Prelude.{◌∷◌, if◌then◌else◌, ◌==◌}
+use Rattle.script_rules.specs.declared.reasons.PlanFault.{PlanFault}
 use Rattle.script_rules.specs.Statements.{Statement}
 use Rattle.script_rules.specs.Drafts.{Draft}
 use Rattle.script_rules.specs.Checking.{check_from}

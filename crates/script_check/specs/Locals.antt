@@ -19,12 +19,14 @@ use Rattle.dpc_model.specs.declared.plans.StreamRef.TheVariants.{Source, Frag}
 use Rattle.dpc_model.specs.declared.scripts.Directive.{Directive}
 use Rattle.dpc_model.specs.declared.scripts.Directive.TheVariants.{Emit, Release, Cut, Heal, Lose, Repeat, Crash, Restart}
 use Rattle.dpc_model.specs.declared.scripts.Phase.{Phase}
+use Rattle.script_rules.specs.declared.reasons.Reason.{Reason}
+use Rattle.script_rules.specs.declared.reasons.Reason.TheVariants.{NameTaken, Unknown, OutOfTime, NoSuchColumn, ReadsAhead, AgainstState, PastLimit}
 use Rattle.script_check.specs.Judging.{told}
 use Rattle.script_rules.specs.Drafts.{op_names, place_of_name, or_else}
 use Rattle.script_rules.specs.Reasons.{is_among, has_twice, fits_inputs, is_too_large, is_full, is_node, down_after}
 
 abbrev pub Reasons : Type 0
-Reasons = List (Bool × ℕ)
+Reasons = List (Bool × Reason)
 
 -- ---- sources and their logs
 
@@ -32,12 +34,12 @@ abbrev pub named_sources : List SourceSpec → List Word
 named_sources sources = map (λ (s : SourceSpec). s.name) sources
 
 abbrev pub against_source : List SourceSpec → SourceSpec → Reasons
-against_source before s = (is_among s.name (named_sources before), 7) ∷ (is_full 16 before, 14) ∷ []
+against_source before s = (is_among s.name (named_sources before), NameTaken) ∷ (is_full 16 before, PastLimit) ∷ []
 
 -- against the entry number i of a log, where so many entries of all logs are left at its beginning
 abbrev pub against_entry : ℕ → ℕ → ℕ → ℕ → ℕ → Tuple → Reasons
 against_entry end columns room last i t =
-    (nat_lt t.stime last || not (nat_lt t.stime end), 9) ∷ (not (length t.vals == columns), 10) ∷ (nat_le room i, 14) ∷ []
+    (nat_lt t.stime last || not (nat_lt t.stime end), OutOfTime) ∷ (not (length t.vals == columns), NoSuchColumn) ∷ (nat_le room i, PastLimit) ∷ []
 
 -- ---- fragments
 
@@ -55,8 +57,8 @@ stream_of sources frags w = or_else (option_map Source (place_of_name w (named_s
 abbrev pub against_fragment : Plan → List FragSpec → FragSpec → Reasons
 against_fragment plan before f =
     let streams = map (stream_name plan) f.inputs in
-    (is_among f.name (names_before plan.sources before) || has_twice streams, 7)
-    ∷ (list_any (λ w. is_none (stream_of plan.sources before w)) streams, 11) ∷ (is_full 16 before, 14) ∷ []
+    (is_among f.name (names_before plan.sources before) || has_twice streams, NameTaken)
+    ∷ (list_any (λ w. is_none (stream_of plan.sources before w)) streams, ReadsAhead) ∷ (is_full 16 before, PastLimit) ∷ []
 
 -- the line behind the one that tells a delay, where there is one
 abbrev pub behind_delay : Option ℕ → ℕ → ℕ
@@ -96,8 +98,8 @@ takes_name plan before f done w =
 abbrev pub against_operator : Plan → List FragSpec → FragSpec → List OpSpec → List ℕ → List ℕ → OpSpec → Reasons
 against_operator plan before f done ports outs op =
     let columns = read_columns plan f done ports outs op.reads in
-    (takes_name plan before f done op.name, 7) ∷ (list_any (λ r. is_none (wire_of plan f done (wire_word plan f r))) op.reads, 8)
-    ∷ (misses_column op.kind columns, 10) ∷ (is_full 16 done || is_too_large op.kind, 14) ∷ []
+    (takes_name plan before f done op.name, NameTaken) ∷ (list_any (λ r. is_none (wire_of plan f done (wire_word plan f r))) op.reads, Unknown)
+    ∷ (misses_column op.kind columns, NoSuchColumn) ∷ (is_full 16 done || is_too_large op.kind, PastLimit) ∷ []
 
 -- ---- clients, and `begin`
 
@@ -106,8 +108,8 @@ named_clients clients = map (λ (c : ClientSpec). c.name) clients
 
 abbrev pub against_client : Plan → List ClientSpec → ClientSpec → Reasons
 against_client plan before c =
-    (is_among c.name (names_before plan.sources plan.frags) || is_among c.name (named_clients before), 7)
-    ∷ (is_none (stream_of plan.sources plan.frags (stream_name plan c.input)), 11) ∷ (is_full 16 before, 14) ∷ []
+    (is_among c.name (names_before plan.sources plan.frags) || is_among c.name (named_clients before), NameTaken)
+    ∷ (is_none (stream_of plan.sources plan.frags (stream_name plan c.input)), ReadsAhead) ∷ (is_full 16 before, PastLimit) ∷ []
 
 abbrev pub lacks_part : Plan → Bool
 lacks_part plan = is_nil plan.sources || is_nil plan.frags || is_nil plan.clients || list_any (λ (f : FragSpec). is_nil f.ops) plan.frags
@@ -119,17 +121,17 @@ abbrev pub is_down : List Phase → List Directive → ℕ → Bool
 is_down phases directives node = fold (down_after node) false (flat_map (λ (p : Phase). p.directives) phases ++ directives)
 
 abbrev pub against_directive : Plan → List Phase → List Directive → Directive → Reasons
-against_directive plan phases directives (Emit s t) = (not (nat_lt s (length plan.sources)), 8) ∷ []
-against_directive plan phases directives (Release s t) = (not (nat_lt s (length plan.sources)), 8) ∷ []
-against_directive plan phases directives (Cut a b) = (not (are_linked plan a b), 8) ∷ []
-against_directive plan phases directives (Heal a b) = (not (are_linked plan a b), 8) ∷ []
-against_directive plan phases directives (Lose a b) = (not (are_linked plan a b), 8) ∷ []
-against_directive plan phases directives (Repeat a b) = (not (are_linked plan a b), 8) ∷ []
-against_directive plan phases directives (Crash a) = (not (is_node (role_of plan a)), 8) ∷ (is_down phases directives a, 13) ∷ []
-against_directive plan phases directives (Restart a) = (not (is_node (role_of plan a)), 8) ∷ (not (is_down phases directives a), 13) ∷ []
+against_directive plan phases directives (Emit s t) = (not (nat_lt s (length plan.sources)), Unknown) ∷ []
+against_directive plan phases directives (Release s t) = (not (nat_lt s (length plan.sources)), Unknown) ∷ []
+against_directive plan phases directives (Cut a b) = (not (are_linked plan a b), Unknown) ∷ []
+against_directive plan phases directives (Heal a b) = (not (are_linked plan a b), Unknown) ∷ []
+against_directive plan phases directives (Lose a b) = (not (are_linked plan a b), Unknown) ∷ []
+against_directive plan phases directives (Repeat a b) = (not (are_linked plan a b), Unknown) ∷ []
+against_directive plan phases directives (Crash a) = (not (is_node (role_of plan a)), Unknown) ∷ (is_down phases directives a, AgainstState) ∷ []
+against_directive plan phases directives (Restart a) = (not (is_node (role_of plan a)), Unknown) ∷ (not (is_down phases directives a), AgainstState) ∷ []
 
 abbrev pub last_clock : List Phase → ℕ
 last_clock phases = unwrap_or (last_or None (map (λ (p : Phase). p.now) phases)) 0
 
 abbrev pub against_tick : List Phase → ℕ → Reasons
-against_tick before now = (nat_lt now (last_clock before), 13) ∷ (is_full 2000 before, 14) ∷ []
+against_tick before now = (nat_lt now (last_clock before), AgainstState) ∷ (is_full 2000 before, PastLimit) ∷ []

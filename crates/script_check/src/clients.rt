@@ -9,26 +9,26 @@ ghost use Rattle.script_check.specs.Behind.{IsBehindClients, JudgesClients};
 
 use crate::names::{is_taken, name_of_stream, stream_of};
 use dpc_model::plans::{ClientSpec, Plan};
-use dpc_model::scripts::PlanFault;
 use script_draft::fragments::has_empty;
 use script_draft::limits::MOST_CLIENTS;
 use script_draft::named::has_name;
+use script_rules::reasons::{PlanFault, Reason};
 
 /// The least reason against the line of a client behind these.
-fn fault_of_client(plan: &Plan, before: &[ClientSpec], client: &ClientSpec) -> Option<u64>
+fn fault_of_client(plan: &Plan, before: &[ClientSpec], client: &ClientSpec) -> Option<Reason>
     ensures { result ≡ first_of_tests (local.against_client plan.now before.now client.now) }
 {
     let sources = plan.sources.as_slice();
     let frags = plan.frags.as_slice();
     let name = client.name.as_slice();
     if is_taken(name, sources, frags) || has_name(name, before) {
-        return Some(7);
+        return Some(Reason::NameTaken);
     }
     let Some(_) = stream_of(name_of_stream(plan, client.input), sources, frags) else {
-        return Some(11);
+        return Some(Reason::ReadsAhead);
     };
     if before.len() >= MOST_CLIENTS {
-        Some(14)
+        Some(Reason::PastLimit)
     } else {
         None
     }
@@ -66,7 +66,10 @@ pub fn check_begin(plan: &Plan, line: u64) -> Result<u64, PlanFault>
         → Judges result n d (BeginLine ∷ []) }
 {
     if lacks_part(plan) {
-        return Err(PlanFault { line, reason: 12 });
+        return Err(PlanFault {
+            line,
+            reason: Reason::PartMissing,
+        });
     }
     Ok(line.saturating_add(1))
 }

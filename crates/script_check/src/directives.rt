@@ -9,9 +9,10 @@ ghost use Rattle.script_check.specs.Locals as local;
 
 use dpc_model::actors::{Role, are_linked, role_of};
 use dpc_model::plans::Plan;
-use dpc_model::scripts::{Directive, Phase, PlanFault};
+use dpc_model::scripts::{Directive, Phase};
 use script_draft::ends::clock_of;
 use script_draft::limits::MOST_PHASES;
+use script_rules::reasons::{PlanFault, Reason};
 
 /// Whether the actor of that number is a node.
 fn is_node(plan: &Plan, actor: u64) -> bool
@@ -68,7 +69,7 @@ fn fault_of_directive(
     phases: &[Phase],
     directives: &[Directive],
     directive: &Directive,
-) -> Option<u64>
+) -> Option<Reason>
     ensures { result ≡ first_of_tests (local.against_directive plan.now phases.now directives.now directive.now) }
 {
     match *directive {
@@ -76,7 +77,7 @@ fn fault_of_directive(
             if source < plan.sources.len() as u64 {
                 None
             } else {
-                Some(8)
+                Some(Reason::Unknown)
             }
         }
         Directive::Cut(a, b)
@@ -86,38 +87,38 @@ fn fault_of_directive(
             if are_linked(plan, a, b) {
                 None
             } else {
-                Some(8)
+                Some(Reason::Unknown)
             }
         }
         Directive::Crash(node) => {
             if !is_node(plan, node) {
-                Some(8)
+                Some(Reason::Unknown)
             } else if is_down(phases, directives, node) {
-                Some(13)
+                Some(Reason::AgainstState)
             } else {
                 None
             }
         }
         Directive::Restart(node) => {
             if !is_node(plan, node) {
-                Some(8)
+                Some(Reason::Unknown)
             } else if is_down(phases, directives, node) {
                 None
             } else {
-                Some(13)
+                Some(Reason::AgainstState)
             }
         }
     }
 }
 
 /// The least reason against a tick behind these phases.
-fn fault_of_tick(before: &[Phase], now: u64) -> Option<u64>
+fn fault_of_tick(before: &[Phase], now: u64) -> Option<Reason>
     ensures { result ≡ first_of_tests (local.against_tick before.now now) }
 {
     if now < clock_of(before) {
-        Some(13)
+        Some(Reason::AgainstState)
     } else if before.len() >= MOST_PHASES {
-        Some(14)
+        Some(Reason::PastLimit)
     } else {
         None
     }

@@ -10,7 +10,8 @@ use crate::fragments::check_fragments;
 use crate::headers::check_header;
 use crate::sources::check_sources;
 use dpc_model::plans::Plan;
-use dpc_model::scripts::{PlanFault, Script};
+use dpc_model::scripts::Script;
+use script_rules::reasons::PlanFault;
 
 /// The line behind `begin`, or the first fault of a plan.
 fn check_plan(plan: &Plan) -> Result<u64, PlanFault>
@@ -34,7 +35,7 @@ fn check_plan(plan: &Plan) -> Result<u64, PlanFault>
     }
 }
 
-/// The first fault of reasons 7 to 14 of a script in range, and its line in the canonical text; a line past 2^64 - 1 is told as that
+/// The first fault of a script in range, and its line in the canonical text; a line past 2^64 - 1 is told as that
 /// number. It takes no memory. Time: each name is compared with at most all names of the plan, and a crash or a restart looks back
 /// over the directives up to the node's last one.
 pub fn check(script: &Script) -> Result<(), PlanFault>

@@ -13,8 +13,8 @@ use crate::names::{is_taken, name_of_stream, place_of_stream, stream_of};
 use crate::operators::Place;
 use arrayvec::ArrayVec;
 use dpc_model::plans::{FragSpec, Plan, StreamRef};
-use dpc_model::scripts::PlanFault;
 use script_draft::limits::MOST_FRAGMENTS;
+use script_rules::reasons::{PlanFault, Reason};
 
 /// Whether one of these streams has that name.
 fn has_stream(name: &[u8], plan: &Plan, streams: &[StreamRef]) -> bool
@@ -50,16 +50,16 @@ fn reads_ahead(plan: &Plan, before: &[FragSpec], streams: &[StreamRef]) -> bool
 }
 
 /// The least reason against the line of a fragment behind these.
-fn fault_of_fragment(plan: &Plan, before: &[FragSpec], frag: &FragSpec) -> Option<u64>
+fn fault_of_fragment(plan: &Plan, before: &[FragSpec], frag: &FragSpec) -> Option<Reason>
     ensures { result ≡ reason.first_of_tests (local.against_fragment plan.now before.now frag.now) }
 {
     let streams = frag.inputs.as_slice();
     if is_taken(frag.name.as_slice(), plan.sources.as_slice(), before) || has_twice(plan, streams) {
-        Some(7)
+        Some(Reason::NameTaken)
     } else if reads_ahead(plan, before, streams) {
-        Some(11)
+        Some(Reason::ReadsAhead)
     } else if before.len() >= MOST_FRAGMENTS {
-        Some(14)
+        Some(Reason::PastLimit)
     } else {
         None
     }

@@ -5,8 +5,8 @@ ghost use Rattle.script_rules.specs.Checking.{header_statements};
 ghost use Rattle.script_check.specs.Judging.{Judges};
 
 use dpc_model::plans::Plan;
-use dpc_model::scripts::PlanFault;
 use script_draft::limits::MOST_BUCKETS;
+use script_rules::reasons::{PlanFault, Reason};
 
 /// The line that names the end.
 const END_LINE: u64 = 4;
@@ -25,7 +25,7 @@ pub fn check_header(plan: &Plan) -> Result<u64, PlanFault>
     if has_many_buckets(plan) {
         return Err(PlanFault {
             line: END_LINE,
-            reason: 14,
+            reason: Reason::PastLimit,
         });
     }
     if plan.version == 3 { Ok(6) } else { Ok(5) }

@@ -1,5 +1,5 @@
-//! What a script's value must keep: the ranges of its names, numbers and counts, and the reasons 7 to 14 of each line of its
-//! canonical text. No function takes memory.
+//! What a script's value must keep: the ranges of its names, numbers and counts, and the reasons against what each line of
+//! its canonical text says. No function takes memory.
 #![tactic(auto)]
 
 mod clients;

@@ -18,10 +18,10 @@ use crate::names::{is_taken, name_of_stream, name_of_wire, place_of_stream, stre
 use arrayvec::ArrayVec;
 use dpc_model::operators::{OpKind, OpSpec, Wire};
 use dpc_model::plans::{FragSpec, Plan, StreamRef};
-use dpc_model::scripts::PlanFault;
 use script_draft::ends::{last_number, number_at};
 use script_draft::limits::{MOST_COLUMNS, MOST_OPERATORS};
 use script_draft::named::{has_name, place_of};
+use script_rules::reasons::{PlanFault, Reason};
 
 /// A fragment with those before it in the plan, and the columns of these.
 #[derive(Clone, Copy)]
@@ -164,18 +164,18 @@ impl<'a> Place<'a> {
     }
 
     /// The least reason against an operator behind the first ones of the fragment.
-    fn fault_of_operator(self, done: &[OpSpec], outs: &[u64], op: &OpSpec) -> Option<u64>
+    fn fault_of_operator(self, done: &[OpSpec], outs: &[u64], op: &OpSpec) -> Option<Reason>
         ensures { result ≡ reason.first_of_tests (local.against_operator self.entry.plan.now self.entry.before.now self.entry.frag.now done.now
             (local.port_columns self.entry.plan.now self.entry.before.now self.entry.columns.now self.entry.frag.now) outs.now op.now) }
     {
         if self.is_taken(done, op.name.as_slice()) {
-            Some(7)
+            Some(Reason::NameTaken)
         } else if self.reads_unknown(done, op.reads.as_slice()) {
-            Some(8)
+            Some(Reason::Unknown)
         } else if self.misses_column(done, outs, op) {
-            Some(10)
+            Some(Reason::NoSuchColumn)
         } else if done.len() >= MOST_OPERATORS || is_too_large(&op.kind) {
-            Some(14)
+            Some(Reason::PastLimit)
         } else {
             None
         }

@@ -9,19 +9,19 @@ ghost use Rattle.script_check.specs.Locals.{against_source, against_entry};
 ghost use Rattle.script_check.specs.Rooms.{room_behind, with_source, entry_of, BeginsLog};
 
 use dpc_model::plans::{Plan, SourceSpec};
-use dpc_model::scripts::PlanFault;
 use dpc_model::tuples::Tuple;
 use script_draft::limits::{MOST_ENTRIES, MOST_SOURCES};
 use script_draft::named::has_name;
+use script_rules::reasons::{PlanFault, Reason};
 
 /// The least reason against the line of a source behind these.
-fn fault_of_source(before: &[SourceSpec], source: &SourceSpec) -> Option<u64>
+fn fault_of_source(before: &[SourceSpec], source: &SourceSpec) -> Option<Reason>
     ensures { result ≡ first_of_tests (against_source before.now source.now) }
 {
     if has_name(source.name.as_slice(), before) {
-        Some(7)
+        Some(Reason::NameTaken)
     } else if before.len() >= MOST_SOURCES {
-        Some(14)
+        Some(Reason::PastLimit)
     } else {
         None
     }
@@ -36,15 +36,15 @@ struct Bounds {
 }
 
 /// The least reason against the entry of that number, the entry before it being of the time `last`.
-fn fault_of_entry(bounds: Bounds, last: u64, number: u64, entry: &Tuple) -> Option<u64>
+fn fault_of_entry(bounds: Bounds, last: u64, number: u64, entry: &Tuple) -> Option<Reason>
     ensures { result ≡ first_of_tests (against_entry bounds.end bounds.columns bounds.room last number entry.now) }
 {
     if entry.stime < last || entry.stime >= bounds.end {
-        Some(9)
+        Some(Reason::OutOfTime)
     } else if entry.vals.len() as u64 != bounds.columns {
-        Some(10)
+        Some(Reason::NoSuchColumn)
     } else if number >= bounds.room {
-        Some(14)
+        Some(Reason::PastLimit)
     } else {
         None
     }

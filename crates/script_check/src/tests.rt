@@ -5,8 +5,9 @@ use dpc_lists::lists::{Listed, Name};
 use dpc_model::expressions::{Expr, ExprNode};
 use dpc_model::operators::{OpKind, OpSpec, Wire};
 use dpc_model::plans::{ClientSpec, FragSpec, Plan, SourceSpec, StreamRef};
-use dpc_model::scripts::{Directive, Phase, PlanFault, Script};
+use dpc_model::scripts::{Directive, Phase, Script};
 use dpc_model::tuples::{Tuple, Vals};
+use script_rules::reasons::{PlanFault, Reason};
 use std::alloc::Global;
 use std::test::Fail;
 
@@ -92,7 +93,10 @@ fn script(
 /// The first fault of a script, and that of line 0 where it isn't in range.
 fn fault_of(script: &Script) -> Option<PlanFault> {
     if !is_in_range(script) {
-        return Some(PlanFault { line: 0, reason: 0 });
+        return Some(PlanFault {
+            line: 0,
+            reason: Reason::OutOfRange,
+        });
     }
     match check(script) {
         Ok(()) => None,
@@ -113,21 +117,21 @@ fn small_scripts(rt: HostRuntime) -> Result<(), Fail> {
         fault_of(&no_column),
         Some(PlanFault {
             line: 8,
-            reason: 10
+            reason: Reason::NoSuchColumn
         })
     );
     assert_eq!(rt;
         fault_of(&no_link),
         Some(PlanFault {
             line: 11,
-            reason: 8
+            reason: Reason::Unknown
         })
     );
     assert_eq!(rt;
         fault_of(&crashed_twice),
         Some(PlanFault {
             line: 12,
-            reason: 13
+            reason: Reason::AgainstState
         })
     );
     Ok(())

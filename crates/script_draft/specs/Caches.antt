@@ -6,6 +6,7 @@ use Rattle.dpc_model.specs.declared.plans.SourceSpec.{SourceSpec}
 use Rattle.dpc_model.specs.declared.plans.FragSpec.{FragSpec}
 use Rattle.dpc_model.specs.declared.scripts.Directive.{Directive}
 use Rattle.dpc_model.specs.declared.scripts.Phase.{Phase}
+use Rattle.script_rules.specs.declared.reasons.Reason.{Reason}
 use Rattle.script_rules.specs.Drafts.{Draft, source_named}
 use Rattle.script_rules.specs.Reasons.{down_after, source_at}
 
@@ -24,7 +25,7 @@ pub record HasFewNodes (fs : List FragSpec) : Type 0 where
   pub replicas : list_all (λ (f : FragSpec). nat_le f.replicas 4) fs ≡ true
 
 -- what a test found: a value, or the reason against it
-abbrev pub fault_in : {X : Type 0} → Result X ℕ → Option ℕ
+abbrev pub fault_in : {X : Type 0} → Result X Reason → Option Reason
 fault_in (Ok x) = None
 fault_in (Err reason) = Some reason
 

@@ -7,6 +7,7 @@ use dpc_model::operators::OpKind;
 use dpc_model::scripts::Directive;
 use dpc_model::tuples::Vals;
 use script_rules::keywords::Keyword;
+use script_rules::reasons::Reason;
 use script_words::words::Words;
 use std::alloc::Global;
 use std::test::Fail;
@@ -84,7 +85,10 @@ fn a_small_script(rt: HostRuntime) -> Result<(), Fail> {
     assert_eq!(rt; draft.actor_named(b"c"), Some(3));
     assert_eq!(rt; draft.node_of_line(true, b"f.1"), Err(13));
     assert_eq!(rt; draft.link_of_line(b"s", b"c"), Err(8));
-    assert_eq!(rt; draft.source_of_log(b"s", Some(4), 1), Err(9));
+    assert_eq!(rt;
+        draft.source_of_log(b"s", Some(4), 1),
+        Err(Reason::OutOfTime)
+    );
     assert_eq!(rt; draft.fault_of_end(), None);
     let script = draft.into_script();
     assert_eq!(rt; script.phases.len(), 1);

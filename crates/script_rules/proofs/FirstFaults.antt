@@ -2,7 +2,9 @@
 use Rattle.std.proofs.Common.{◌≡◌, ℕ, suc, ◌+◌, List, [], ◌∷◌, ◌++◌, length, Some, None, refl, sym, ap, subst, ◌∙◌, arith, inl, inr}
 use Rattle.std.specs.Prelude.{Result, Ok, Err, fold}
 use Rattle.std.proofs.lemmas.List.{append-nil}
-use Rattle.dpc_model.specs.declared.scripts.PlanFault.{PlanFault}
+use Rattle.script_rules.specs.declared.reasons.Reason.{Reason}
+use Rattle.script_rules.specs.declared.reasons.Reason.TheVariants.{ForeignByte}
+use Rattle.script_rules.specs.declared.reasons.PlanFault.{PlanFault}
 use Rattle.script_rules.specs.Drafts.{Draft}
 use Rattle.script_rules.specs.Reading.{fault_of, fault_of_end, with_line, read_from}
 use Rattle.script_rules.specs.Laws.{AreFaultless, IsRefusedFrom}
@@ -12,8 +14,8 @@ abbrev line_in : Result Draft PlanFault → ℕ
 line_in (Ok d) = 0
 line_in (Err fault) = fault.line
 
-abbrev reason_in : Result Draft PlanFault → ℕ
-reason_in (Ok d) = 0
+abbrev reason_in : Result Draft PlanFault → Reason
+reason_in (Ok d) = ForeignByte
 reason_in (Err fault) = fault.reason
 
 abbrev Lines : Type 0
@@ -33,7 +35,7 @@ one_in_front d line lines none rest (x ∷ before) after other e =
     subst (λ l. fault_of (fold with_line (with_line d l) before) other ≡ None) same (rest before after other behind)
 
 -- a refusal further on, seen from one line before
-further : (n : ℕ) (d : Draft) (line : List ℕ) (lines : Lines) (m r : ℕ) → fault_of d line ≡ None → IsRefusedFrom (n + 1) (with_line d line) lines m r → IsRefusedFrom n d (line ∷ lines) m r
+further : (n : ℕ) (d : Draft) (line : List ℕ) (lines : Lines) (m : ℕ) (r : Reason) → fault_of d line ≡ None → IsRefusedFrom (n + 1) (with_line d line) lines m r → IsRefusedFrom n d (line ∷ lines) m r
 further n d line lines m r none (inl x) =
     inl (record {
       before = line ∷ x.before;
@@ -48,7 +50,7 @@ further n d line lines m r none (inr x) =
     inr (record { number = omega (arith, x.number); faultless = one_in_front d line lines none x.faultless; fault = x.fault })
 
 -- what a reading refuses is refused
-pub refused : (n : ℕ) (d : Draft) (lines : Lines) (m r : ℕ) → read_from n d lines ≡ Err (record { line = m; reason = r }) → IsRefusedFrom n d lines m r
+pub refused : (n : ℕ) (d : Draft) (lines : Lines) (m : ℕ) (r : Reason) → read_from n d lines ≡ Err (record { line = m; reason = r }) → IsRefusedFrom n d lines m r
 refused n d [] m r e =
     (elim (fault_of_end d) as (λ o. fault_of_end d ≡ o → (elim o as (λ o. Result Draft PlanFault) [ None ↦ Ok d | Some q ↦ Err (record { line = n; reason = q }) ]) ≡ Err (record { line = m; reason = r }) → IsRefusedFrom n d [] m r) [
       | None ↦ λ is e. absurd cc
@@ -76,7 +78,7 @@ reads_on n d (line ∷ before) rest none =
     rw (now, read_from) (reads_on (n + 1) (with_line d line) before rest later ∙ ap (λ k. read_from k (fold with_line (with_line d line) before) rest) number)
 
 -- what is refused a reading refuses
-pub refuses : (n : ℕ) (d : Draft) (lines : Lines) (m r : ℕ) → IsRefusedFrom n d lines m r → read_from n d lines ≡ Err (record { line = m; reason = r })
+pub refuses : (n : ℕ) (d : Draft) (lines : Lines) (m : ℕ) (r : Reason) → IsRefusedFrom n d lines m r → read_from n d lines ≡ Err (record { line = m; reason = r })
 refuses n d lines m r (inl x) =
     ap (read_from n d) x.parts ∙ reads_on n d x.before (x.line ∷ x.after) x.faultless
     ∙ rw (x.fault, read_from) (ap (λ k. Err (record { line = k; reason = r })) (sym x.number))

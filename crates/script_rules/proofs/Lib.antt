@@ -26,6 +26,7 @@ pub mod Refusals
 pub mod Stacks
 pub mod FirstFaults
 pub mod Least
+pub mod Numbered
 pub mod Growing
 pub mod Found
 pub mod Formed

@@ -2,13 +2,14 @@
 use Rattle.std.proofs.Common.{◌≡◌, ℕ, ◌+◌, Bool, true, false, List, [], ◌∷◌, ◌++◌, Option, Some, None, refl, ◌^◌, ◌<◌, ◌-◌, arith}
 use Rattle.std.specs.Prelude.{⊤, fold, if◌then◌else◌}
 use Rattle.dpc_model.specs.declared.scripts.Script.{Script}
-use Rattle.dpc_model.specs.declared.scripts.PlanFault.{PlanFault}
+use Rattle.script_rules.specs.declared.reasons.Reason.{Reason}
+use Rattle.script_rules.specs.declared.reasons.PlanFault.{PlanFault}
 use Rattle.script_rules.specs.Statements.{Statement}
 use Rattle.script_rules.specs.Drafts.{Draft, nothing_yet, and_then, greatest_end, is_wide}
 use Rattle.script_rules.specs.Reasons.{takes_name, is_unknown, is_out_of_time, misses_column, reads_ahead, lacks_part, is_against_state, passes_limit, first_of_tests, tests_said}
 use Rattle.script_rules.specs.Checking.{check, check_from, statements_of, IsChecked}
 
--- no reason of 7 to 14 stands against what is said
+-- no reason stands against what is said
 pub record IsFine (d : Draft) (s : Statement) : Type 0 where
   pub name : takes_name d s ≡ false
   pub known : is_unknown d s ≡ false
@@ -29,11 +30,11 @@ abbrev pub all_said : Draft → List Statement → Draft
 all_said d ss = fold and_then d ss
 
 -- no test holds
-abbrev pub NoneHolds : List (Bool × ℕ) → Type 0
+abbrev pub NoneHolds : List (Bool × Reason) → Type 0
 NoneHolds [] = ⊤
 NoneHolds (x ∷ tests) = (x.0 ≡ false) × NoneHolds tests
 
-pub none_holds : (tests : List (Bool × ℕ)) → first_of_tests tests ≡ None → NoneHolds tests
+pub none_holds : (tests : List (Bool × Reason)) → first_of_tests tests ≡ None → NoneHolds tests
 none_holds [] e = tt
 none_holds ((true, n) ∷ tests) e = absurd cc
 none_holds ((false, n) ∷ tests) e = (refl, none_holds tests e)

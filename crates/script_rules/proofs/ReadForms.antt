@@ -12,7 +12,9 @@ use Rattle.dpc_model.specs.declared.plans.ClientSpec.{ClientSpec}
 use Rattle.dpc_model.specs.declared.plans.Plan.{Plan}
 use Rattle.dpc_model.specs.declared.scripts.Phase.{Phase}
 use Rattle.dpc_model.specs.declared.scripts.Script.{Script}
-use Rattle.dpc_model.specs.declared.scripts.PlanFault.{PlanFault}
+use Rattle.script_rules.specs.declared.reasons.Reason.{Reason}
+use Rattle.script_rules.specs.declared.reasons.Reason.TheVariants.{ForeignByte, PartMissing, PastLimit}
+use Rattle.script_rules.specs.declared.reasons.PlanFault.{PlanFault}
 use Rattle.script_rules.specs.declared.keywords.Keyword.{Keyword}
 use Rattle.script_rules.specs.Lines.{lines_of, words_of, is_skipped}
 use Rattle.script_rules.specs.Keywords.{keyword_of}
@@ -37,7 +39,7 @@ use Rattle.script_rules.proofs.Fitted.{IsFitted, fitted}
 -- ---- every line keeps the form
 
 abbrev pub Tests : Type 0
-Tests = List (Bool × ℕ)
+Tests = List (Bool × Reason)
 
 -- none of those that do not hold is found
 pub none_found : (tests : Tests) → NoneHolds tests → first_of_tests tests ≡ None
@@ -63,7 +65,7 @@ with_its_words : (d : Draft) (words : List Word) → first_of_tests (tests_of_wo
 with_its_words d [] none h = absurd cc
 with_its_words d (w ∷ words) none h = with_first d w words (keyword_of (version_of d) w) refl none h
 
-pub further_tests : (b : Bool) (n : ℕ) (tests : Tests) → first_of_tests ((b, n) ∷ tests) ≡ None → first_of_tests tests ≡ None
+pub further_tests : (b : Bool) (n : Reason) (tests : Tests) → first_of_tests ((b, n) ∷ tests) ≡ None → first_of_tests tests ≡ None
 further_tests true n tests e = absurd cc
 further_tests false n tests e = e
 
@@ -73,7 +75,7 @@ line_fitted d line none h =
     (elim (is_skipped line) as (λ b. first_of_tests (tests_unless_skipped b d (words_of line)) ≡ None → IsFitted (if b then d else with_words d (keyword_in d (words_of line)) (drop 1 (words_of line)))) [
       | true ↦ λ e. h
       | false ↦ λ e. with_its_words d (words_of line) e h
-    ]) (further_tests (has_foreign_byte line) 1 (tests_unless_skipped (is_skipped line) d (words_of line)) none)
+    ]) (further_tests (has_foreign_byte line) ForeignByte (tests_unless_skipped (is_skipped line) d (words_of line)) none)
 
 -- what is read is well formed, and ended
 pub record IsRead (d : Draft) : Type 0 where
@@ -126,7 +128,7 @@ numbers_of wide (v ∷ w ∷ dl ∷ []) d whole k = absurd (few_of wide 3 whole 
 numbers_of wide (v ∷ w ∷ dl ∷ e ∷ rest) d whole k = record { width = k.0; end = k.1 }
 
 -- the end of input lacks nothing only behind `begin`
-pub begun_at_end : (begun waiting : Bool) (n : ℕ) → (if not begun || waiting then Some n else None) ≡ None → begun ≡ true
+pub begun_at_end : (begun waiting : Bool) (n : Reason) → (if not begun || waiting then Some n else None) ≡ None → begun ≡ true
 begun_at_end true waiting n e = refl
 begun_at_end false waiting n e = absurd cc
 
@@ -136,7 +138,7 @@ clients_there plan cs h = h
 pub has_form : (d : Draft) → IsRead d → HasForm (script_of d)
 has_form d read =
     let f = read.fitted.form in
-    let begun = begun_at_end d.begun (not (is_nil d.directives)) 12 read.ended in
+    let begun = begun_at_end d.begun (not (is_nil d.directives)) PartMissing read.ended in
     let whole = f.parts.whole begun in
     let numbers : HasNumbers (nth 1 d.header 1) (plan_of d).end = numbers_of (is_wide d) d.header _ whole.header f.parts.header in
     let plan = plan_of d in
@@ -182,7 +184,7 @@ has_facts d read =
     let form = has_form d read in
     let k = read.fitted in
     let plan = plan_of d in
-    let begun = begun_at_end d.begun (not (is_nil d.directives)) 12 read.ended in
+    let begun = begun_at_end d.begun (not (is_nil d.directives)) PartMissing read.ended in
     let ops = all_fit plan [] d.frags (all_columns plan [] d.frags) (length d.sources) 0 refl k.form.frags.reads k.frags in
     let named = flat_map (λ (p : Phase). p.directives) d.phases in
     let directives = and_parts (list_all (directive_fits plan) named) (list_all (directive_fits plan) d.directives) (sym (list_all-append (directive_fits plan) named d.directives) ∙ k.directives.fit) in
@@ -195,7 +197,7 @@ concluded_facts (Err fault) s reads e = absurd cc
 pub reads_have_facts : ReadsHaveFacts
 unfolding reading
 reads_have_facts text s =
-    elim (is_too_large_text text) as (λ b. script_in (if b then Err (record { line = 0; reason = 14 }) else concluded (read_from 1 nothing_yet (lines_of text))) ≡ Some s → HasFacts s) [
+    elim (is_too_large_text text) as (λ b. script_in (if b then Err (record { line = 0; reason = PastLimit }) else concluded (read_from 1 nothing_yet (lines_of text))) ≡ Some s → HasFacts s) [
       | true ↦ λ e. absurd cc
       | false ↦ λ e. concluded_facts (read_from 1 nothing_yet (lines_of text)) s (λ d is. lines_fitted 1 nothing_yet d (lines_of text) is nothing_fitted) e
     ]

@@ -3,7 +3,8 @@ use Rattle.std.proofs.Common.{◌≡◌, ℕ, ◌^◌, ◌≤◌, cond, List, le
 use Rattle.std.specs.Prelude.{Result, Ok, Err}
 use Rattle.std.proofs.lemmas.Bool.{lt-ltb, le-ltb}
 use Rattle.dpc_model.specs.declared.scripts.Script.{Script}
-use Rattle.dpc_model.specs.declared.scripts.PlanFault.{PlanFault}
+use Rattle.script_rules.specs.declared.reasons.Reason.TheVariants.{PastLimit}
+use Rattle.script_rules.specs.declared.reasons.PlanFault.{PlanFault}
 use Rattle.script_rules.specs.Lines.{lines_of}
 use Rattle.script_rules.specs.Drafts.{Draft, nothing_yet}
 use Rattle.script_rules.specs.Reading.{reading, read_from, concluded, fault_in, script_in, refusal}
@@ -23,13 +24,13 @@ reads_or_refuses text = either (reading text)
 pub refuses_long : RefusesLong
 unfolding reading
 refuses_long text long =
-    ap (λ t. fault_in (cond t (Err (record { line = 0; reason = 14 })) (concluded (read_from 1 nothing_yet (lines_of text))))) (lt-ltb (2 ^ 26) (length text) (omega arith))
+    ap (λ t. fault_in (cond t (Err (record { line = 0; reason = PastLimit })) (concluded (read_from 1 nothing_yet (lines_of text))))) (lt-ltb (2 ^ 26) (length text) (omega arith))
 
 -- a shorter one is refused where its lines are
 refused_by_lines : (text : List ℕ) → length text ≤ 2 ^ 26 → refusal text ≡ fault_in (concluded (read_from 1 nothing_yet (lines_of text)))
 unfolding reading
 refused_by_lines text short =
-    ap (λ t. fault_in (cond t (Err (record { line = 0; reason = 14 })) (concluded (read_from 1 nothing_yet (lines_of text))))) (le-ltb (2 ^ 26) (length text) short)
+    ap (λ t. fault_in (cond t (Err (record { line = 0; reason = PastLimit })) (concluded (read_from 1 nothing_yet (lines_of text))))) (le-ltb (2 ^ 26) (length text) short)
 
 fault_of_lines : (r : Result Draft PlanFault) (fault : PlanFault) → fault_in (concluded r) ≡ Some fault → r ≡ Err fault
 fault_of_lines (Ok d) fault e = absurd cc

@@ -15,7 +15,7 @@ use Rattle.dpc_model.specs.declared.scripts.Directive.{Directive}
 use Rattle.dpc_model.specs.declared.scripts.Directive.TheVariants.{Emit, Release, Cut, Heal, Lose, Repeat, Crash, Restart}
 use Rattle.dpc_model.specs.declared.scripts.Phase.{Phase}
 use Rattle.dpc_model.specs.declared.scripts.Script.{Script}
-use Rattle.dpc_model.specs.declared.scripts.PlanFault.{PlanFault}
+use Rattle.script_rules.specs.declared.reasons.PlanFault.{PlanFault}
 use Rattle.script_rules.specs.Spelling.{is_name, is_i64}
 use Rattle.script_rules.specs.Places.{is_between}
 use Rattle.script_rules.specs.Statements.{Statement, HeaderLine, SourceLine, LogLine, FragmentLine, PatienceLine, OperatorLine, ClientLine, BeginLine, SendLine, LinkLine, NodeLine, TickLine, SettleLine}
@@ -67,7 +67,7 @@ statements_of s =
 
 -- ---- the rules of what is said
 
--- the first statement, of those numbered from n, against which a reason of 7 to 14 stands, and the least one
+-- the first statement, of those numbered from n, against which a reason stands, and the least one
 abbrev pub check_from : ℕ → Draft → List Statement → Option PlanFault
 check_from n d [] = None
 check_from n d (s ∷ ss) =

@@ -1,5 +1,5 @@
 -- The laws that are wanted of these definitions.
-use Rattle.std.specs.Prelude.{◌≡◌, ℕ, ◌+◌, ◌^◌, ◌≤◌, Bool, true, false, ◌&&◌, nat_lt, ◌⊎◌, ◌↔◌, List, ◌∷◌, ◌++◌, map, length, flat_map, fold, Some, None}
+use Rattle.std.specs.Prelude.{◌≡◌, ℕ, ◌+◌, ◌^◌, ◌≤◌, Bool, true, false, ◌&&◌, nat_lt, ◌⊎◌, ◌↔◌, List, ◌∷◌, ◌++◌, map, length, flat_map, fold, Some, None, ◌-◌, slice_get}
 use Rattle.dpc_lists.specs.Lists.{list_all, IsRising}
 use Rattle.dpc_model.specs.Actors.{roles_of, actors_where}
 use Rattle.dpc_model.specs.declared.actors.Role.{Role}
@@ -15,7 +15,10 @@ use Rattle.dpc_model.specs.declared.scripts.Directive.{Directive}
 use Rattle.dpc_model.specs.declared.scripts.Directive.TheVariants.{Emit, Release, Cut, Heal, Lose, Repeat, Crash, Restart}
 use Rattle.dpc_model.specs.declared.scripts.Phase.{Phase}
 use Rattle.dpc_model.specs.declared.scripts.Script.{Script}
-use Rattle.dpc_model.specs.declared.scripts.PlanFault.{PlanFault}
+use Rattle.script_rules.specs.declared.reasons.Reason.{Reason}
+use Rattle.script_rules.specs.declared.reasons.Reason.TheVariants.{PastLimit}
+use Rattle.script_rules.specs.declared.reasons.PlanFault.{PlanFault}
+use Rattle.script_rules.specs.ReasonTable.{reasons, number_of}
 use Rattle.script_rules.specs.Lines.{lines_of}
 use Rattle.script_rules.specs.Symbols.{formulas}
 use Rattle.script_rules.specs.Places.{must, leaves_over}
@@ -35,7 +38,7 @@ AreFaultless d lines =
     (before after : List (List ℕ)) (line : List ℕ) → lines ≡ before ++ line ∷ after → fault_of (fold with_line d before) line ≡ None
 
 -- of the lines from number n on, behind those that said d, line m is the first one with a fault, and r the least reason there
-pub record IsRefusedAtLine (n : ℕ) (d : Draft) (lines : List (List ℕ)) (m r : ℕ) : Type 0 where
+pub record IsRefusedAtLine (n : ℕ) (d : Draft) (lines : List (List ℕ)) (m : ℕ) (r : Reason) : Type 0 where
   pub before : List (List ℕ)
   pub line : List ℕ
   pub after : List (List ℕ)
@@ -45,31 +48,41 @@ pub record IsRefusedAtLine (n : ℕ) (d : Draft) (lines : List (List ℕ)) (m r 
   pub fault : fault_of (fold with_line d before) line ≡ Some r
 
 -- no line has a fault, and the end of input has
-pub record IsRefusedAtEnd (n : ℕ) (d : Draft) (lines : List (List ℕ)) (m r : ℕ) : Type 0 where
+pub record IsRefusedAtEnd (n : ℕ) (d : Draft) (lines : List (List ℕ)) (m : ℕ) (r : Reason) : Type 0 where
   pub number : m ≡ n + length lines
   pub faultless : AreFaultless d lines
   pub fault : fault_of_end (fold with_line d lines) ≡ Some r
 
-abbrev pub IsRefusedFrom : ℕ → Draft → List (List ℕ) → ℕ → ℕ → Type 0
+abbrev pub IsRefusedFrom : ℕ → Draft → List (List ℕ) → ℕ → Reason → Type 0
 IsRefusedFrom n d lines m r = IsRefusedAtLine n d lines m r ⊎ IsRefusedAtEnd n d lines m r
 
 -- a text of at most 64 MiB is refused at its first faulty line
 abbrev pub RefusesFirst : Type 0
 RefusesFirst =
-    (text : List ℕ) (m r : ℕ) → length text ≤ 2 ^ 26
+    (text : List ℕ) (m : ℕ) (r : Reason) → length text ≤ 2 ^ 26
     → (refusal text ≡ Some (record { line = m; reason = r })) ↔ IsRefusedFrom 1 nothing_yet (lines_of text) m r
 
--- .. with the least reason that applies there
+-- reasons of one number are the same, so that "the least reason" is one
+abbrev pub NumbersTell : Type 0
+NumbersTell = (q r : Reason) → number_of q ≡ number_of r → q ≡ r
+
+-- the reasons are listed by their numbers, from 1
+abbrev pub ReasonsAreListed : Type 0
+ReasonsAreListed = (r : Reason) → slice_get reasons (number_of r - 1) ≡ Some r
+
+-- a line with a fault has the least reason that applies to it
 abbrev pub NamesLeast : Type 0
-NamesLeast = (d : Draft) (line : List ℕ) (r : ℕ) → fault_of d line ≡ Some r → (applies d line r ≡ true) × ((q : ℕ) → applies d line q ≡ true → r ≤ q)
+NamesLeast =
+    (d : Draft) (line : List ℕ) (r : Reason) → fault_of d line ≡ Some r
+    → (applies d line r ≡ true) × ((q : Reason) → applies d line q ≡ true → number_of r ≤ number_of q)
 
 -- .. and a line to which none applies has no fault
 abbrev pub RefusesOnlyFaults : Type 0
-RefusesOnlyFaults = (d : Draft) (line : List ℕ) → fault_of d line ≡ None → (q : ℕ) → applies d line q ≡ false
+RefusesOnlyFaults = (d : Draft) (line : List ℕ) → fault_of d line ≡ None → (q : Reason) → applies d line q ≡ false
 
 -- a longer one at line 0
 abbrev pub RefusesLong : Type 0
-RefusesLong = (text : List ℕ) → 2 ^ 26 + 1 ≤ length text → refusal text ≡ Some (record { line = 0; reason = 14 })
+RefusesLong = (text : List ℕ) → 2 ^ 26 + 1 ≤ length text → refusal text ≡ Some (record { line = 0; reason = PastLimit })
 
 -- a text is a script or is refused, and not both
 abbrev pub ReadsOrRefuses : Type 0

@@ -5,6 +5,7 @@ pub mod Symbols
 pub mod Statements
 pub mod Drafts
 pub mod Places
+pub mod ReasonTable
 pub mod Reasons
 pub mod Reading
 pub mod Checking

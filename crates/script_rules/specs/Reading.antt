@@ -2,7 +2,9 @@
 use Rattle.std.specs.Prelude.{ℕ, ◌+◌, ◌^◌, Bool, nat_lt, if◌then◌else◌, List, [], ◌∷◌, length, drop, Option, Some, None, Result, Ok, Err}
 use Rattle.dpc_model.specs.Words.{Word}
 use Rattle.dpc_model.specs.declared.scripts.Script.{Script}
-use Rattle.dpc_model.specs.declared.scripts.PlanFault.{PlanFault}
+use Rattle.script_rules.specs.declared.reasons.Reason.{Reason}
+use Rattle.script_rules.specs.declared.reasons.Reason.TheVariants.{PartMissing, PastLimit}
+use Rattle.script_rules.specs.declared.reasons.PlanFault.{PlanFault}
 use Rattle.script_rules.specs.Lines.{lines_of, words_of, is_skipped}
 use Rattle.script_rules.specs.declared.keywords.Keyword.{Keyword}
 use Rattle.script_rules.specs.Statements.{statement_of}
@@ -10,7 +12,7 @@ use Rattle.script_rules.specs.Drafts.{Draft, nothing_yet, and_then, script_of}
 use Rattle.script_rules.specs.Reasons.{first_of_tests, tests_of, keyword_in, lacks_end}
 
 -- the least reason that applies to a line
-unfoldable pub fault_of : Draft → List ℕ → Option ℕ
+unfoldable pub fault_of : Draft → List ℕ → Option Reason
 fault_of d line = first_of_tests (tests_of d line)
 
 abbrev pub with_words : Draft → Option Keyword → List Word → Draft
@@ -22,8 +24,8 @@ unfoldable pub with_line : Draft → List ℕ → Draft
 with_line d line = if is_skipped line then d else with_words d (keyword_in d (words_of line)) (drop 1 (words_of line))
 
 -- the reason that applies to the end of input
-abbrev pub fault_of_end : Draft → Option ℕ
-fault_of_end d = if lacks_end d then Some 12 else None
+abbrev pub fault_of_end : Draft → Option Reason
+fault_of_end d = if lacks_end d then Some PartMissing else None
 
 -- what is said with all these lines, the first one numbered n; or the first line that has a fault, and the least reason there
 abbrev pub read_from : ℕ → Draft → List (List ℕ) → Result Draft PlanFault
@@ -46,7 +48,7 @@ concluded (Err fault) = Err fault
 -- the script that a text is, or its refusal
 unfoldable pub reading : List ℕ → Result Script PlanFault
 reading text =
-    if is_too_large_text text then Err (record { line = 0; reason = 14 }) else concluded (read_from 1 nothing_yet (lines_of text))
+    if is_too_large_text text then Err (record { line = 0; reason = PastLimit }) else concluded (read_from 1 nothing_yet (lines_of text))
 
 abbrev pub fault_in : Result Script PlanFault → Option PlanFault
 fault_in (Ok s) = None

@@ -19,6 +19,9 @@ use Rattle.dpc_model.specs.declared.plans.FragSpec.{FragSpec}
 use Rattle.dpc_model.specs.declared.scripts.Directive.{Directive}
 use Rattle.dpc_model.specs.declared.scripts.Directive.TheVariants.{Crash, Restart}
 use Rattle.dpc_model.specs.declared.scripts.Phase.{Phase}
+use Rattle.script_rules.specs.declared.reasons.Reason.{Reason}
+use Rattle.script_rules.specs.declared.reasons.Reason.TheVariants.{ForeignByte, ForeignWord, WrongCount, NoNumber, OutOfRange, OutOfPart, NameTaken, Unknown, OutOfTime, NoSuchColumn, ReadsAhead, PartMissing, AgainstState, PastLimit}
+use Rattle.script_rules.specs.ReasonTable.{number_of}
 use Rattle.script_rules.specs.Lines.{is_foreign_byte, is_skipped, words_of}
 use Rattle.script_rules.specs.declared.keywords.Keyword.TheVariants as key
 use Rattle.script_rules.specs.Keywords.{keyword_of}
@@ -28,34 +31,34 @@ use Rattle.script_rules.specs.declared.places.Sort.{Sort}
 use Rattle.script_rules.specs.Statements.{Statement, statement_of, HeaderLine, SourceLine, LogLine, FragmentLine, OperatorLine, ClientLine, BeginLine, SendLine, LinkLine, NodeLine, TickLine}
 use Rattle.script_rules.specs.Drafts.{Draft, version_of, width_of, end_of, has_header, names, source_named, stream_named, wire_named, actor_named, plan_of, last_frag}
 
--- ---- 1: a byte that is neither printable ASCII nor LF
+-- ---- a byte that is neither printable ASCII nor LF
 
 abbrev pub has_foreign_byte : List ℕ → Bool
 has_foreign_byte line = list_any is_foreign_byte line
 
--- ---- 2 to 5: words and numbers at their places. A line is seen here as its keyword and the words behind it
+-- ---- words and numbers at their places. A line is seen here as its keyword and the words behind it
 
 -- some word with a place breaks a rule of places
 abbrev pub some_placed : (Sort → Word → Bool) → Draft → Keyword → List Word → Bool
 some_placed breaks d k words = list_any (λ (x : Sort × Word). breaks x.0 x.1) (placed (places_of d k) words)
 
--- 2: a word that can't stand at its place
+-- a word that can't stand at its place
 abbrev pub has_foreign_word : Draft → Keyword → List Word → Bool
 has_foreign_word d k words = some_placed is_foreign d k words
 
--- 3: too few or too many words
+-- too few or too many words
 abbrev pub has_wrong_length : Draft → Keyword → List Word → Bool
 has_wrong_length d k words = leaves_over (places_of d k) words
 
--- 4: no number at a number's place
+-- no number at a number's place
 abbrev pub lacks_number : Draft → Keyword → List Word → Bool
 lacks_number d k words = some_placed is_no_number d k words
 
--- 5: a number out of its range
+-- a number out of its range
 abbrev pub is_past_range : Draft → Keyword → List Word → Bool
 is_past_range d k words = some_placed is_out_of_range d k words
 
--- ---- 6: a line in the wrong part
+-- ---- a line in the wrong part
 
 -- behind the header and before `begin`
 abbrev pub declares : Draft → Bool
@@ -95,7 +98,7 @@ abbrev pub has_twice : List Word → Bool
 has_twice [] = false
 has_twice (w ∷ ws) = is_among w ws || has_twice ws
 
--- 7: a name that is taken, or a stream twice in one fragment
+-- a name that is taken, or a stream twice in one fragment
 abbrev pub takes_name : Draft → Statement → Bool
 takes_name d (SourceLine name columns) = is_among name (names d)
 takes_name d (FragmentLine name replicas streams) = is_among name (names d) || has_twice streams
@@ -118,7 +121,7 @@ abbrev pub names_link : Draft → Word → Word → Bool
 names_link d a b =
     unwrap_or (option_map (λ x. unwrap_or (option_map (λ y. are_linked (plan_of d) x y) (actor_named d b)) false) (actor_named d a)) false
 
--- 8: an unknown operator input, source, actor or node; two actors without a link
+-- an unknown operator input, source, actor or node; two actors without a link
 abbrev pub is_unknown : Draft → Statement → Bool
 is_unknown d (LogLine source time vals) = is_none (source_named d source)
 is_unknown d (OperatorLine name inputs kind) = list_any (λ w. is_none (wire_named d w)) inputs
@@ -134,7 +137,7 @@ source_at d w = nth (record { name = []; columns = 0; log = [] }) d.sources (unw
 abbrev pub last_time : List Tuple → ℕ
 last_time log = unwrap_or (last_or None (map (λ (t : Tuple). t.stime) log)) 0
 
--- 9: a log time below the source's last one, or not below end
+-- a log time below the source's last one, or not below end
 abbrev pub is_out_of_time : Draft → Statement → Bool
 is_out_of_time d (LogLine source time vals) = nat_lt time (last_time (source_at d source).log) || not (nat_lt time (end_of d))
 is_out_of_time d _ = false
@@ -160,20 +163,20 @@ fits_inputs (kind.Join within keys) inputs = list_all (λ (pair : ℕ × ℕ). n
 fits_inputs (kind.Aggregate size step group aggs) inputs =
     nat_lt (unwrap_or (option_map (λ c. c + 1) group) 0) (nth 0 inputs 0 + 1) && list_all (agg_reads_below (nth 0 inputs 0)) aggs
 
--- 10: a column that isn't there, a wrong number of values, unequal columns in a union, more than 8 columns in a result
+-- a column that isn't there, a wrong number of values, unequal columns in a union, more than 8 columns in a result
 abbrev pub misses_column : Draft → Statement → Bool
 misses_column d (LogLine source time vals) = not (length vals == (source_at d source).columns)
 misses_column d (OperatorLine name inputs kind) =
     not (fits_inputs kind (input_columns d inputs)) || nat_lt 8 (kind_columns kind (input_columns d inputs))
 misses_column d _ = false
 
--- 11: a fragment or client reads a stream that wasn't declared before
+-- a fragment or client reads a stream that wasn't declared before
 abbrev pub reads_ahead : Draft → Statement → Bool
 reads_ahead d (FragmentLine name replicas streams) = list_any (λ w. is_none (stream_named d w)) streams
 reads_ahead d (ClientLine name stream) = is_none (stream_named d stream)
 reads_ahead d _ = false
 
--- 12: a part missing, named at `begin`
+-- a part missing, named at `begin`
 abbrev pub lacks_part : Draft → Statement → Bool
 lacks_part d BeginLine = is_nil d.sources || is_nil d.frags || is_nil d.clients || list_any (λ (f : FragSpec). is_nil f.ops) d.frags
 lacks_part d _ = false
@@ -198,14 +201,14 @@ is_down d node = fold (down_after (unwrap_or (actor_named d node) 0)) false (all
 abbrev pub last_clock : Draft → ℕ
 last_clock d = unwrap_or (last_or None (map (λ (p : Phase). p.now) d.phases)) 0
 
--- 13: a clock below the last one, a crash of a node that is down, a restart of a node that is up
+-- a clock below the last one, a crash of a node that is down, a restart of a node that is up
 abbrev pub is_against_state : Draft → Statement → Bool
 is_against_state d (TickLine now) = nat_lt now (last_clock d)
 is_against_state d (NodeLine true node) = is_down d node
 is_against_state d (NodeLine false node) = not (is_down d node)
 is_against_state d _ = false
 
--- ---- 14: past a limit
+-- ---- past a limit
 
 abbrev pub is_too_long : Formula → Bool
 is_too_long e = nat_lt 64 (formula.words e)
@@ -237,41 +240,42 @@ passes_limit d _ = false
 
 -- ---- all of them
 
--- the number beside the first test that holds
-abbrev pub first_of_tests : List (Bool × ℕ) → Option ℕ
+-- the reason beside the first test that holds
+abbrev pub first_of_tests : List (Bool × Reason) → Option Reason
 first_of_tests [] = None
 first_of_tests (x ∷ xs) = if x.0 then Some x.1 else first_of_tests xs
 
 -- the reasons against what a line says
-abbrev pub tests_said : Draft → Statement → List (Bool × ℕ)
+abbrev pub tests_said : Draft → Statement → List (Bool × Reason)
 tests_said d s =
-    (takes_name d s, 7) ∷ (is_unknown d s, 8) ∷ (is_out_of_time d s, 9) ∷ (misses_column d s, 10) ∷ (reads_ahead d s, 11) ∷ (lacks_part d s, 12)
-    ∷ (is_against_state d s, 13) ∷ (passes_limit d s, 14) ∷ []
+    (takes_name d s, NameTaken) ∷ (is_unknown d s, Unknown) ∷ (is_out_of_time d s, OutOfTime) ∷ (misses_column d s, NoSuchColumn)
+    ∷ (reads_ahead d s, ReadsAhead) ∷ (lacks_part d s, PartMissing) ∷ (is_against_state d s, AgainstState)
+    ∷ (passes_limit d s, PastLimit) ∷ []
 
 -- those against a line's words; without a keyword the first one is foreign
-abbrev pub tests_of_words : Draft → Option Keyword → List Word → List (Bool × ℕ)
-tests_of_words d None words = (true, 2) ∷ []
+abbrev pub tests_of_words : Draft → Option Keyword → List Word → List (Bool × Reason)
+tests_of_words d None words = (true, ForeignWord) ∷ []
 tests_of_words d (Some k) words =
-    (has_foreign_word d k words, 2) ∷ (has_wrong_length d k words, 3) ∷ (lacks_number d k words, 4) ∷ (is_past_range d k words, 5) ∷ (is_out_of_part d k, 6)
-    ∷ tests_said d (statement_of k words)
+    (has_foreign_word d k words, ForeignWord) ∷ (has_wrong_length d k words, WrongCount) ∷ (lacks_number d k words, NoNumber)
+    ∷ (is_past_range d k words, OutOfRange) ∷ (is_out_of_part d k, OutOfPart) ∷ tests_said d (statement_of k words)
 
 abbrev pub keyword_in : Draft → List Word → Option Keyword
 keyword_in d [] = None
 keyword_in d (w ∷ words) = keyword_of (version_of d) w
 
 -- those against a line that is not skipped
-abbrev pub tests_unless_skipped : Bool → Draft → List Word → List (Bool × ℕ)
+abbrev pub tests_unless_skipped : Bool → Draft → List Word → List (Bool × Reason)
 tests_unless_skipped true d words = []
 tests_unless_skipped false d words = tests_of_words d (keyword_in d words) (drop 1 words)
 
 -- all reasons against a line
-abbrev pub tests_of : Draft → List ℕ → List (Bool × ℕ)
-tests_of d line = (has_foreign_byte line, 1) ∷ tests_unless_skipped (is_skipped line) d (words_of line)
+abbrev pub tests_of : Draft → List ℕ → List (Bool × Reason)
+tests_of d line = (has_foreign_byte line, ForeignByte) ∷ tests_unless_skipped (is_skipped line) d (words_of line)
 
 -- whether a reason is among those that hold
-abbrev pub holds_among : List (Bool × ℕ) → ℕ → Bool
-holds_among tests r = list_any (λ (x : Bool × ℕ). x.0 && x.1 == r) tests
+abbrev pub holds_among : List (Bool × Reason) → Reason → Bool
+holds_among tests r = list_any (λ (x : Bool × Reason). x.0 && number_of x.1 == number_of r) tests
 
 -- whether a reason applies to a line, behind those that said d
-abbrev pub applies : Draft → List ℕ → ℕ → Bool
+abbrev pub applies : Draft → List ℕ → Reason → Bool
 applies d line r = holds_among (tests_of d line) r

@@ -1,10 +1,11 @@
 //! What the script language is, by definitions, and what holds of every text and every script.
 #![tactic(auto)]
 
-ghost use Rattle.script_rules.specs.Laws.{RefusesFirst, NamesLeast, RefusesOnlyFaults, RefusesLong, ReadsOrRefuses, ReadsExpressions, FillsExpressions, CheckedHasForm, CheckedHasFacts, ReadsHaveForm, ReadsHaveFacts, ActorsAreInOrder};
+ghost use Rattle.script_rules.specs.Laws.{RefusesFirst, NumbersTell, ReasonsAreListed, NamesLeast, RefusesOnlyFaults, RefusesLong, ReadsOrRefuses, ReadsExpressions, FillsExpressions, CheckedHasForm, CheckedHasFacts, ReadsHaveForm, ReadsHaveFacts, ActorsAreInOrder};
 
 pub mod keywords;
 pub mod places;
+pub mod reasons;
 
 /// A text is a script or is refused, and never both.
 pub fn every_text_reads_or_is_refused()
@@ -14,6 +15,12 @@ pub fn every_text_reads_or_is_refused()
 /// A text of at most 64 MiB is refused exactly at its first line that has a fault, the end of input being a line of its own.
 pub fn a_refusal_names_the_first_faulty_line()
     ensures { RefusesFirst }
+{}
+
+/// Reasons with the same number are the same, and the list of reasons has each one at its number.
+pub fn numbers_tell_reasons()
+    ensures apart { NumbersTell }
+    ensures listed { ReasonsAreListed }
 {}
 
 /// A line is refused with the least reason that applies to it, and not at all where none applies.

@@ -6,6 +6,7 @@ use Rattle.std.proofs.lemmas.List.{append-nil, drop-drop, replicate-append-repli
 use Rattle.dpc_lists.specs.Lists.{list_all, list_any}
 use Rattle.dpc_model.specs.Words.{Word}
 use Rattle.dpc_lists.proofs.Truths.{not-false}
+use Rattle.script_rules.specs.declared.reasons.Reason.TheVariants.{ForeignWord, WrongCount, NoNumber, OutOfRange}
 use Rattle.script_rules.specs.Spelling.{is_numeral, number, is_value, value, is_i64, looks_like_value}
 use Rattle.script_rules.specs.Symbols.{symbol_of, operands, formulas}
 use Rattle.script_rules.specs.Places.{must, may, opened, leaves_over, is_foreign, is_no_number, is_out_of_range, is_between, places_of}
@@ -27,7 +28,7 @@ use Rattle.script_words.proofs.Taking.{drop-one-more, nth-drop}
 use Rattle.script_words.proofs.Spanning.{fewer_formulas}
 
 -- no reason is found
-none_found : (f l n r : Bool) → first_of_tests ((f, 2) ∷ (l, 3) ∷ (n, 4) ∷ (r, 5) ∷ []) ≡ None → (f ≡ false) × (l ≡ false) × (n ≡ false) × (r ≡ false)
+none_found : (f l n r : Bool) → first_of_tests ((f, ForeignWord) ∷ (l, WrongCount) ∷ (n, NoNumber) ∷ (r, OutOfRange) ∷ []) ≡ None → (f ≡ false) × (l ≡ false) × (n ≡ false) × (r ≡ false)
 none_found true l n r e = absurd cc
 none_found false true n r e = absurd cc
 none_found false false true r e = absurd cc
@@ -35,7 +36,7 @@ none_found false false false true e = absurd cc
 none_found false false false false e = (refl, refl, refl, refl)
 
 pub faultless : (d : Draft) (k : Keyword) (words : List Word) →
-    first_of_tests ((has_foreign_word d k words, 2) ∷ (has_wrong_length d k words, 3) ∷ (lacks_number d k words, 4) ∷ (is_past_range d k words, 5) ∷ []) ≡ None → IsFaultless d k words
+    first_of_tests ((has_foreign_word d k words, ForeignWord) ∷ (has_wrong_length d k words, WrongCount) ∷ (lacks_number d k words, NoNumber) ∷ (is_past_range d k words, OutOfRange) ∷ []) ≡ None → IsFaultless d k words
 faultless d k words e =
     let n = none_found (has_foreign_word d k words) (has_wrong_length d k words) (lacks_number d k words) (is_past_range d k words) e in
     record { foreign = n.0; length = n.1; number = n.2; range = n.3 }

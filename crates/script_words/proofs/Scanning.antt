@@ -4,6 +4,7 @@ use Rattle.std.specs.Prelude.{replicate}
 use Rattle.dpc_lists.specs.Lists.{list_any}
 use Rattle.dpc_model.specs.Words.{Word}
 use Rattle.dpc_lists.proofs.Truths.{or-none}
+use Rattle.script_rules.specs.declared.reasons.Reason.TheVariants.{ForeignWord, WrongCount, NoNumber, OutOfRange}
 use Rattle.script_rules.specs.Symbols.{symbol_of, operands}
 use Rattle.script_rules.specs.Places.{must, opened, placed, leaves_over, is_foreign, is_no_number, is_out_of_range}
 use Rattle.script_rules.specs.Reasons.{first_of_tests}
@@ -106,7 +107,7 @@ any_or a b (x ∷ xs) = ap (λ t. (a x || b x) || t) (any_or a b xs) ∙ swapped
     swapped false false true s = refl
     swapped false false false s = refl
 
-least : (f l n r : Bool) → first_of_tests ((f, 2) ∷ (l, 3) ∷ (n, 4) ∷ (n || r, 5) ∷ []) ≡ first_of_tests ((f, 2) ∷ (l, 3) ∷ (n, 4) ∷ (r, 5) ∷ [])
+least : (f l n r : Bool) → first_of_tests ((f, ForeignWord) ∷ (l, WrongCount) ∷ (n, NoNumber) ∷ (n || r, OutOfRange) ∷ []) ≡ first_of_tests ((f, ForeignWord) ∷ (l, WrongCount) ∷ (n, NoNumber) ∷ (r, OutOfRange) ∷ [])
 least true l n r = refl
 least false true n r = refl
 least false false true r = refl
@@ -114,7 +115,7 @@ least false false false r = refl
 
 -- the tests of what was found are those of the whole line
 found : (places : List Place) (all : List Word) (f l n b : Bool) → f ≡ some_breaks is_foreign places all → l ≡ leaves_over places all → n ≡ some_breaks is_no_number places all →
-    b ≡ some_breaks is_bad places all → first_of_tests ((f, 2) ∷ (l, 3) ∷ (n, 4) ∷ (b, 5) ∷ []) ≡ fault_of_places places all
+    b ≡ some_breaks is_bad places all → first_of_tests ((f, ForeignWord) ∷ (l, WrongCount) ∷ (n, NoNumber) ∷ (b, OutOfRange) ∷ []) ≡ fault_of_places places all
 unfolding fault_of_places
 found places all f l n b fe le ne be =
     let both : b ≡ (some_breaks is_no_number places all || some_breaks is_out_of_range places all) =
@@ -123,7 +124,7 @@ found places all f l n b fe le ne be =
 
 -- the last word
 pub ends : (places : List Place) (all left : List Word) (o : Open) (flaws : Flaws) (l : Bool) → left ≡ [] → l ≡ leaves_over (open_places places o) [] → IsScan places all flaws o left →
-    first_of_tests ((flaws.foreign, 2) ∷ (l, 3) ∷ (flaws.no_number, 4) ∷ (flaws.bad, 5) ∷ []) ≡ fault_of_places places all
+    first_of_tests ((flaws.foreign, ForeignWord) ∷ (l, WrongCount) ∷ (flaws.no_number, NoNumber) ∷ (flaws.bad, OutOfRange) ∷ []) ≡ fault_of_places places all
 ends places all left o flaws l none is scan =
     found places all flaws.foreign l flaws.no_number flaws.bad
     (sym (or-none flaws.foreign) ∙ ap (λ ws. flaws.foreign || some_breaks is_foreign (open_places places o) ws) (sym none) ∙ scan.foreign)
@@ -133,7 +134,7 @@ ends places all left o flaws l none is scan =
 
 -- a word that has no place
 pub past : (places : List Place) (all left behind : List Word) (w : Word) (o : Open) (flaws : Flaws) → left ≡ w ∷ behind → open_places places o ≡ [] → IsScan places all flaws o left →
-    first_of_tests ((flaws.foreign, 2) ∷ (true, 3) ∷ (flaws.no_number, 4) ∷ (flaws.bad, 5) ∷ []) ≡ fault_of_places places all
+    first_of_tests ((flaws.foreign, ForeignWord) ∷ (true, WrongCount) ∷ (flaws.no_number, NoNumber) ∷ (flaws.bad, OutOfRange) ∷ []) ≡ fault_of_places places all
 past places all left behind w o flaws at none scan =
     let no_place : (breaks : Sort → Word → Bool) → some_breaks breaks (open_places places o) left ≡ false =
     λ breaks. ap (some_breaks breaks (open_places places o)) at ∙ ap (λ ps. some_breaks breaks ps (w ∷ behind)) none in

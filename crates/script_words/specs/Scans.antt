@@ -1,7 +1,9 @@
 -- Words at places, seen one after another.
-use Rattle.std.specs.Prelude.{◌≡◌, ℕ, Bool, ◌||◌, List, [], ◌∷◌, ◌++◌, drop, replicate, Option}
+use Rattle.std.specs.Prelude.{◌≡◌, Bool, ◌||◌, List, [], ◌∷◌, ◌++◌, drop, replicate, Option}
 use Rattle.dpc_lists.specs.Lists.{list_any}
 use Rattle.dpc_model.specs.Words.{Word}
+use Rattle.script_rules.specs.declared.reasons.Reason.{Reason}
+use Rattle.script_rules.specs.declared.reasons.Reason.TheVariants.{ForeignWord, WrongCount, NoNumber, OutOfRange}
 use Rattle.script_rules.specs.Places.{must, may, opened, placed, leaves_over, is_foreign, is_no_number, is_out_of_range}
 use Rattle.script_rules.specs.Reasons.{first_of_tests}
 use Rattle.script_rules.specs.declared.places.Place.{Place}
@@ -30,11 +32,11 @@ is_bad sort w = is_no_number sort w || is_out_of_range sort w
 abbrev pub some_breaks : (Sort → Word → Bool) → List Place → List Word → Bool
 some_breaks breaks places ws = list_any (λ (x : Sort × Word). breaks x.0 x.1) (placed places ws)
 
--- the least of the reasons 2 to 5
-unfoldable pub fault_of_places : List Place → List Word → Option ℕ
+-- the least reason against words at their places
+unfoldable pub fault_of_places : List Place → List Word → Option Reason
 fault_of_places places ws =
     first_of_tests
-    ((some_breaks is_foreign places ws, 2) ∷ (leaves_over places ws, 3) ∷ (some_breaks is_no_number places ws, 4) ∷ (some_breaks is_out_of_range places ws, 5)
+    ((some_breaks is_foreign places ws, ForeignWord) ∷ (leaves_over places ws, WrongCount) ∷ (some_breaks is_no_number places ws, NoNumber) ∷ (some_breaks is_out_of_range places ws, OutOfRange)
     ∷ [])
 
 -- what code saw of a word at its place

@@ -1,4 +1,4 @@
-//! The places of a line, and the reasons 2 to 5 to refuse it.
+//! The places of a line, and the reasons against the words there.
 ghost use Rattle.std.specs.Prelude.{◌≡◌, ◌∷◌, []};
 ghost use Rattle.dpc_lists.specs.Lists.{nth};
 ghost use Rattle.script_rules.specs.Drafts.{Draft, greatest_end};
@@ -12,6 +12,7 @@ use crate::scans::fault_at;
 use crate::words::Words;
 use script_rules::keywords::Keyword;
 use script_rules::places::{Place, Sort};
+use script_rules::reasons::Reason;
 
 /// What the places of a line depend on.
 #[derive(Clone, Copy)]
@@ -115,17 +116,17 @@ const UNION: [Place; 9] = [
     NAME, NAME, NAME, MORE_NAME, MORE_NAME, MORE_NAME, MORE_NAME, MORE_NAME, MORE_NAME,
 ];
 
-/// The least of the reasons 2 to 5 against the words behind a keyword.
-pub fn fault_of_words(limits: &Limits, keyword: Keyword, words: Words<'_>) -> Option<u64>
+/// The least reason against the words behind a keyword.
+pub fn fault_of_words(limits: &Limits, keyword: Keyword, words: Words<'_>) -> Option<Reason>
     ensures { (d : Draft) → HasLimits d limits.now → result ≡ first_of_tests
-        ((has_foreign_word d keyword (words_left words.entry), 2) ∷ (has_wrong_length d keyword (words_left words.entry), 3)
-        ∷ (lacks_number d keyword (words_left words.entry), 4) ∷ (is_past_range d keyword (words_left words.entry), 5) ∷ []) }
+        ((has_foreign_word d keyword (words_left words.entry), Reason.ForeignWord) ∷ (has_wrong_length d keyword (words_left words.entry), Reason.WrongCount)
+        ∷ (lacks_number d keyword (words_left words.entry), Reason.NoNumber) ∷ (is_past_range d keyword (words_left words.entry), Reason.OutOfRange) ∷ []) }
 {
     fault_by(limits, keyword, words)
 }
 
 /// The same, by the limits alone.
-fn fault_by(limits: &Limits, keyword: Keyword, words: Words<'_>) -> Option<u64>
+fn fault_by(limits: &Limits, keyword: Keyword, words: Words<'_>) -> Option<Reason>
     ensures { result ≡ fault_of_places (places_by limits.now keyword) (words_left words.entry) }
 {
     match keyword {
@@ -183,7 +184,7 @@ fn header_sort(limits: &Limits, place: u64) -> Sort
     }
 }
 
-fn join_fault(limits: &Limits, words: Words<'_>) -> Option<u64>
+fn join_fault(limits: &Limits, words: Words<'_>) -> Option<Reason>
     ensures { result ≡ fault_of_places (places_by limits.now Keyword.Join) (words_left words.entry) }
 {
     let within = needed(Sort::Range(0, greatest_end(limits)));
@@ -194,7 +195,7 @@ fn join_fault(limits: &Limits, words: Words<'_>) -> Option<u64>
     fault_at(&places, words)
 }
 
-fn aggregate_fault(limits: &Limits, words: Words<'_>) -> Option<u64>
+fn aggregate_fault(limits: &Limits, words: Words<'_>) -> Option<Reason>
     ensures { result ≡ fault_of_places (places_by limits.now Keyword.Aggregate) (words_left words.entry) }
 {
     let size = needed(Sort::Range(1, greatest_end(limits)));

@@ -10,6 +10,7 @@ ghost use Rattle.script_words.specs.Scans.{repeated_place, open_places, fault_of
 use crate::seen::{Repeated, Seen, look};
 use crate::words::Words;
 use script_rules::places::Place;
+use script_rules::reasons::Reason;
 
 /// The places that are still open: those that words opened, and then those of the line from number `next` on.
 #[derive(Clone, Copy)]
@@ -89,25 +90,25 @@ impl Flaws {
     }
 
     /// The least reason, with whether there are too few or too many words.
-    fn fault(self, wrong_length: bool) -> Option<u64>
-        ensures { result ≡ first_of_tests ((self.foreign, 2) ∷ (wrong_length, 3) ∷ (self.no_number, 4) ∷ (self.bad, 5) ∷ []) }
+    fn fault(self, wrong_length: bool) -> Option<Reason>
+        ensures { result ≡ first_of_tests ((self.foreign, Reason.ForeignWord) ∷ (wrong_length, Reason.WrongCount) ∷ (self.no_number, Reason.NoNumber) ∷ (self.bad, Reason.OutOfRange) ∷ []) }
     {
         if self.foreign {
-            Some(2)
+            Some(Reason::ForeignWord)
         } else if wrong_length {
-            Some(3)
+            Some(Reason::WrongCount)
         } else if self.no_number {
-            Some(4)
+            Some(Reason::NoNumber)
         } else if self.bad {
-            Some(5)
+            Some(Reason::OutOfRange)
         } else {
             None
         }
     }
 }
 
-/// The least of the reasons 2 to 5 against words at these places.
-pub(crate) fn fault_at(places: &[Place], mut words: Words<'_>) -> Option<u64>
+/// The least reason against words at these places.
+pub(crate) fn fault_at(places: &[Place], mut words: Words<'_>) -> Option<Reason>
     ensures { result ≡ fault_of_places places.now (words_left words.entry) }
 {
     let mut unfilled = Open {

@@ -13,7 +13,9 @@ use Rattle.dpc_model.specs.declared.plans.StreamRef.TheVariants.{Source, Frag}
 use Rattle.dpc_model.specs.declared.scripts.Directive.{Directive}
 use Rattle.dpc_model.specs.declared.scripts.Directive.TheVariants.{Cut, Crash}
 use Rattle.dpc_model.specs.declared.scripts.Script.{Script}
-use Rattle.dpc_model.specs.declared.scripts.PlanFault.{PlanFault}
+use Rattle.script_rules.specs.declared.reasons.Reason.{Reason}
+use Rattle.script_rules.specs.declared.reasons.Reason.TheVariants.{WrongCount, Unknown, ReadsAhead}
+use Rattle.script_rules.specs.declared.reasons.PlanFault.{PlanFault}
 use Rattle.script_rules.specs.Checking.{check, is_in_range}
 use Rattle.trial_scripts.specs.Opened.{all_opened, refused_at}
 
@@ -43,7 +45,7 @@ script stream wire read directives =
       settle = true;
     }
 
-abbrev pub checked_at : Script → Option (ℕ × ℕ)
+abbrev pub checked_at : Script → Option (ℕ × Reason)
 checked_at s = option_map (λ (fault : PlanFault). (fault.line, fault.reason)) (check s)
 
 pub no_fault : checked_at (script (Source 0) (Port 0) (Frag 0) (Cut 1 2 ∷ Cut 0 1 ∷ Cut 5 1 ∷ Crash 1 ∷ [])) ≡ None
@@ -54,23 +56,23 @@ pub in_range : is_in_range (script (Source 0) (Port 0) (Frag 0) (Cut 1 2 ∷ Cut
 unfolding all_opened
 in_range = refl
 
-pub later_stream : checked_at (script (Frag 1) (Port 0) (Frag 0) []) ≡ Some (6, 11)
+pub later_stream : checked_at (script (Frag 1) (Port 0) (Frag 0) []) ≡ Some (6, ReadsAhead)
 unfolding all_opened
 later_stream = refl
 
-pub no_stream : checked_at (script (Source 0) (Port 0) (Frag 2) []) ≡ Some (11, 11)
+pub no_stream : checked_at (script (Source 0) (Port 0) (Frag 2) []) ≡ Some (11, ReadsAhead)
 unfolding all_opened
 no_stream = refl
 
 -- such a line can't be written, so its text has too few words
-pub no_stream_text : refused_at (script_text (script (Source 0) (Port 0) (Frag 2) [])) ≡ Some (11, 3)
+pub no_stream_text : refused_at (script_text (script (Source 0) (Port 0) (Frag 2) [])) ≡ Some (11, WrongCount)
 unfolding all_opened
 no_stream_text = refl
 
-pub later_operator : checked_at (script (Source 0) (Op 1) (Frag 0) []) ≡ Some (9, 8)
+pub later_operator : checked_at (script (Source 0) (Op 1) (Frag 0) []) ≡ Some (9, Unknown)
 unfolding all_opened
 later_operator = refl
 
-pub no_port : checked_at (script (Source 0) (Port 1) (Frag 0) []) ≡ Some (9, 8)
+pub no_port : checked_at (script (Source 0) (Port 1) (Frag 0) []) ≡ Some (9, Unknown)
 unfolding all_opened
 no_port = refl

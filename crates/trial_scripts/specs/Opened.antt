@@ -2,7 +2,8 @@
 use Rattle.std.specs.Prelude.{ℕ, ◌++◌, List, Option, option_map, codes, flat_map, replicate}
 use Rattle.std.specs.Fmt.{digits}
 use Rattle.dpc_model.specs.ScriptText.{script_text}
-use Rattle.dpc_model.specs.declared.scripts.PlanFault.{PlanFault}
+use Rattle.script_rules.specs.declared.reasons.Reason.{Reason}
+use Rattle.script_rules.specs.declared.reasons.PlanFault.{PlanFault}
 use Rattle.script_rules.specs.Checking.{check, is_in_range}
 use Rattle.script_rules.specs.Reading.{fault_of, with_line, reading, refusal}
 
@@ -11,7 +12,7 @@ unfolding digits script_text fault_of with_line reading check is_in_range
 all_opened = tt
 
 -- the line and the reason
-abbrev pub refused_at : List ℕ → Option (ℕ × ℕ)
+abbrev pub refused_at : List ℕ → Option (ℕ × Reason)
 refused_at text = option_map (λ (fault : PlanFault). (fault.line, fault.reason)) (refusal text)
 
 -- the beginning of a text: 6 lines up to its sources, 8 up to an operator, and 10 up to its phases

@@ -6,7 +6,8 @@ use Rattle.dpc_model.specs.ScriptText.{script_text}
 use Rattle.dpc_model.specs.declared.plans.ClientSpec.{ClientSpec}
 use Rattle.dpc_model.specs.declared.scripts.Phase.{Phase}
 use Rattle.dpc_model.specs.declared.scripts.Script.{Script}
-use Rattle.dpc_model.specs.declared.scripts.PlanFault.{PlanFault}
+use Rattle.script_rules.specs.declared.reasons.PlanFault.{PlanFault}
+use Rattle.script_rules.specs.ReasonTable.{number_of}
 use Rattle.script_rules.specs.Lines.{lines_of, words_of, is_skipped}
 use Rattle.script_rules.specs.Drafts.{nothing_yet, script_of}
 use Rattle.script_rules.specs.Reasons.{has_twice}
@@ -22,7 +23,7 @@ script_said text = script_of (fold with_line nothing_yet (lines_of text))
 
 abbrev pub same_fault : Option PlanFault → Option PlanFault → Bool
 same_fault None None = true
-same_fault (Some f) (Some g) = f.line == g.line && f.reason == g.reason
+same_fault (Some f) (Some g) = f.line == g.line && number_of f.reason == number_of g.reason
 same_fault None (Some g) = false
 same_fault (Some f) None = false
 

@@ -12,19 +12,20 @@ use dpc_lists::faults::NoMemory;
 use dpc_lists::lists::Listed;
 use dpc_model::plans::{ClientSpec, Plan, StreamRef};
 use dpc_model::scripts::Script;
+use script_rules::reasons::Reason;
 use std::alloc::Global;
 
 impl Draft {
     /// The least reason against the line of a client.
-    pub fn fault_of_client(&self, name: &[u8], stream: &[u8]) -> Option<u64>
+    pub fn fault_of_client(&self, name: &[u8], stream: &[u8]) -> Option<Reason>
         ensures { result ≡ first_of_tests (tests_said self.now (ClientLine name.now stream.now)) }
     {
         if self.is_name_taken(name) {
-            Some(7)
+            Some(Reason::NameTaken)
         } else if self.stream_named(stream).is_none() {
-            Some(11)
+            Some(Reason::ReadsAhead)
         } else if self.clients.len() >= MOST_CLIENTS {
-            Some(14)
+            Some(Reason::PastLimit)
         } else {
             None
         }
@@ -42,11 +43,11 @@ impl Draft {
     }
 
     /// The reason against the end of input.
-    pub fn fault_of_end(&self) -> Option<u64>
+    pub fn fault_of_end(&self) -> Option<Reason>
         ensures { result ≡ reading.fault_of_end self.now }
     {
         if !self.begun || !self.directives.is_empty() {
-            Some(12)
+            Some(Reason::PartMissing)
         } else {
             None
         }

@@ -16,6 +16,7 @@ use crate::name_list::NameList;
 use dpc_lists::faults::NoMemory;
 use dpc_lists::lists::Listed;
 use dpc_model::plans::{FragSpec, StreamRef};
+use script_rules::reasons::Reason;
 use std::alloc::Global;
 
 /// The last fragment gets a delay of its own.
@@ -56,15 +57,15 @@ impl Draft {
     }
 
     /// The least reason against the line of a fragment.
-    pub fn fault_of_fragment(&self, name: &[u8], streams: NameList<'_>) -> Option<u64>
+    pub fn fault_of_fragment(&self, name: &[u8], streams: NameList<'_>) -> Option<Reason>
         ensures { (replicas : ℕ) → result ≡ first_of_tests (tests_said self.now (FragmentLine name.now replicas (names_in streams.entry))) }
     {
         if self.is_name_taken(name) || streams.has_twice() {
-            Some(7)
+            Some(Reason::NameTaken)
         } else if self.reads_ahead(streams) {
-            Some(11)
+            Some(Reason::ReadsAhead)
         } else if self.frags.len() >= MOST_FRAGMENTS {
-            Some(14)
+            Some(Reason::PastLimit)
         } else {
             None
         }
@@ -126,7 +127,7 @@ impl Draft {
         Ok(())
     }
 
-    /// The line of a fragment's own delay. Nothing of 7 to 14 stands against it.
+    /// The line of a fragment's own delay. No reason stands against what it says.
     pub fn add_patience(&mut self, delay: u64)
         ensures after { self.new ≡ spec.and_then self.old (PatienceLine delay) }
         ensures faultless { first_of_tests (tests_said self.old (PatienceLine delay)) ≡ None }

@@ -10,6 +10,7 @@ ghost use Rattle.script_draft.specs.Nodes.{roles_linked, AreNamed};
 
 use crate::draft::Draft;
 use dpc_model::actors::{Role, are_replicas, sends, sends_any};
+use script_rules::reasons::Reason;
 
 impl Draft {
     /// Whether an actor reads what another one sends.
@@ -58,14 +59,14 @@ impl Draft {
     }
 
     /// The two actors whose link a line names, or the least reason against the line.
-    pub fn link_of_line(&self, a: &[u8], b: &[u8]) -> Result<(u64, u64), u64>
+    pub fn link_of_line(&self, a: &[u8], b: &[u8]) -> Result<(u64, u64), Reason>
         ensures found { IfOk result (λ link. AreNamed self.now a.now b.now link.0 link.1) }
         ensures fault { (make : ℕ → ℕ → Directive)
             → fault_in result ≡ reason.first_of_tests (reason.tests_said self.now (LinkLine make a.now b.now)) }
     {
         match self.link(a, b) {
             Some(link) => Ok(link),
-            None => Err(8),
+            None => Err(Reason::Unknown),
         }
     }
 }

@@ -22,6 +22,7 @@ use dpc_lists::faults::NoMemory;
 use dpc_lists::lists::Listed;
 use dpc_model::operators::{OpKind, OpSpec, Wire};
 use dpc_model::plans::FragSpec;
+use script_rules::reasons::Reason;
 use std::alloc::Global;
 
 /// Whether an input has fewer columns than are read, or a result has too many.
@@ -139,18 +140,23 @@ impl Draft {
     }
 
     /// The least reason against the line of an operator of this shape.
-    pub fn fault_of_operator(&self, name: &[u8], inputs: NameList<'_>, shape: Shape) -> Option<u64>
+    pub fn fault_of_operator(
+        &self,
+        name: &[u8],
+        inputs: NameList<'_>,
+        shape: Shape,
+    ) -> Option<Reason>
         ensures { (kind : OpKind) → HasShape kind shape
             → result ≡ reason.first_of_tests (reason.tests_said self.now (OperatorLine name.now (names_in inputs.entry) kind)) }
     {
         if self.is_name_taken(name) {
-            Some(7)
+            Some(Reason::NameTaken)
         } else if self.reads_unknown(inputs) {
-            Some(8)
+            Some(Reason::Unknown)
         } else if self.misses_column(inputs, shape) {
-            Some(10)
+            Some(Reason::NoSuchColumn)
         } else if self.passes_limit(shape) {
-            Some(14)
+            Some(Reason::PastLimit)
         } else {
             None
         }

@@ -18,6 +18,7 @@ use crate::limits::MOST_PHASES;
 use dpc_lists::faults::NoMemory;
 use dpc_lists::lists::Listed;
 use dpc_model::scripts::{Directive, Phase};
+use script_rules::reasons::Reason;
 use std::alloc::Global;
 use std::mem;
 
@@ -30,14 +31,18 @@ fn remove(numbers: &mut Vec<u64>, number: u64)
 
 impl Draft {
     /// The least reason against the beginning of the phases.
-    pub fn fault_of_begin(&self) -> Option<u64>
+    pub fn fault_of_begin(&self) -> Option<Reason>
         ensures { result ≡ first_of_tests (tests_said self.now BeginLine) }
     {
         let lacks_part = self.sources.is_empty()
             || self.frags.is_empty()
             || self.clients.is_empty()
             || has_empty(self.frags.as_slice());
-        if lacks_part { Some(12) } else { None }
+        if lacks_part {
+            Some(Reason::PartMissing)
+        } else {
+            None
+        }
     }
 
     /// The beginning of the phases.
@@ -48,29 +53,29 @@ impl Draft {
     }
 
     /// The source that a line sends from, or the least reason against the line.
-    pub fn source_of_send(&self, source: &[u8]) -> Result<u64, u64>
+    pub fn source_of_send(&self, source: &[u8]) -> Result<u64, Reason>
         ensures found { IfOk result (λ s. spec.source_named self.now source.now ≡ Some s) }
         ensures fault { (make : ℕ → ℕ → Directive) → (time : ℕ)
             → fault_in result ≡ first_of_tests (tests_said self.now (SendLine make source.now time)) }
     {
         match self.source_named(source) {
             Some(source) => Ok(source),
-            None => Err(8),
+            None => Err(Reason::Unknown),
         }
     }
 
     /// The node that a line crashes or restarts, or the least reason against the line.
-    pub fn node_of_line(&self, crash: bool, node: &[u8]) -> Result<u64, u64>
+    pub fn node_of_line(&self, crash: bool, node: &[u8]) -> Result<u64, Reason>
         ensures found { IfOk result (λ a. spec.actor_named self.now node.now ≡ Some a) }
         ensures fault { fault_in result ≡ first_of_tests (tests_said self.now (NodeLine crash node.now)) }
     {
         let Some(actor) = self.actor(node) else {
-            return Err(8);
+            return Err(Reason::Unknown);
         };
         if !is_node(actor.role) {
-            Err(8)
+            Err(Reason::Unknown)
         } else if self.is_down(actor.number) == crash {
-            Err(13)
+            Err(Reason::AgainstState)
         } else {
             Ok(actor.number)
         }
@@ -116,13 +121,13 @@ impl Draft {
     }
 
     /// The least reason against a tick.
-    pub fn fault_of_tick(&self, now: u64) -> Option<u64>
+    pub fn fault_of_tick(&self, now: u64) -> Option<Reason>
         ensures { result ≡ first_of_tests (tests_said self.now (TickLine now)) }
     {
         if now < self.last_clock() {
-            Some(13)
+            Some(Reason::AgainstState)
         } else if self.phases.len() >= MOST_PHASES {
-            Some(14)
+            Some(Reason::PastLimit)
         } else {
             None
         }
@@ -151,7 +156,7 @@ impl Draft {
         }
     }
 
-    /// The end of a script by settling. Nothing of 7 to 14 stands against it.
+    /// The end of a script by settling. No reason stands against what it says.
     pub fn add_settle(&mut self)
         ensures after { self.new ≡ spec.and_then self.old SettleLine }
         ensures faultless { first_of_tests (tests_said self.old SettleLine) ≡ None }

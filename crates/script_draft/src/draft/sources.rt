@@ -13,6 +13,7 @@ use dpc_lists::faults::NoMemory;
 use dpc_lists::lists::{Listed, Name};
 use dpc_model::plans::SourceSpec;
 use dpc_model::tuples::{Tuple, Vals};
+use script_rules::reasons::Reason;
 use std::alloc::Global;
 
 /// A name of these bytes.
@@ -34,12 +35,12 @@ fn last_time(log: &[Tuple]) -> u64
 
 impl Draft {
     /// The least reason against a line of the header.
-    pub fn fault_of_header(&self, place: u64, number: u64) -> Option<u64>
+    pub fn fault_of_header(&self, place: u64, number: u64) -> Option<Reason>
         ensures { result ≡ first_of_tests (tests_said self.now (HeaderLine place number)) }
     {
         let width = self.width_of();
         if place == 3 && width > 0 && number / width > MOST_BUCKETS {
-            Some(14)
+            Some(Reason::PastLimit)
         } else {
             None
         }
@@ -55,13 +56,13 @@ impl Draft {
     }
 
     /// The least reason against the line of a source.
-    pub fn fault_of_source(&self, name: &[u8]) -> Option<u64>
+    pub fn fault_of_source(&self, name: &[u8]) -> Option<Reason>
         ensures { (columns : ℕ) → result ≡ first_of_tests (tests_said self.now (SourceLine name.now columns)) }
     {
         if self.is_name_taken(name) {
-            Some(7)
+            Some(Reason::NameTaken)
         } else if self.sources.len() >= MOST_SOURCES {
-            Some(14)
+            Some(Reason::PastLimit)
         } else {
             None
         }
@@ -90,7 +91,7 @@ impl Draft {
     }
 
     /// The source of a log line with so many values, or the least reason against the line.
-    pub fn source_of_log(&self, source: &[u8], time: Option<u64>, count: u64) -> Result<u64, u64>
+    pub fn source_of_log(&self, source: &[u8], time: Option<u64>, count: u64) -> Result<u64, Reason>
         ensures found { IfOk result (λ s. spec.source_named self.now source.now ≡ Some s) }
         ensures there { IfOk result (λ s. s < length self.now.sources) }
         ensures room { IfOk result (λ _. log_entries self.now < 200000) }
@@ -98,14 +99,14 @@ impl Draft {
             → fault_in result ≡ first_of_tests (tests_said self.now (LogLine source.now t vals)) }
     {
         let Some((number, spec)) = self.source_at(source) else {
-            return Err(8);
+            return Err(Reason::Unknown);
         };
         if self.is_out_of_time(spec, time) {
-            Err(9)
+            Err(Reason::OutOfTime)
         } else if count != spec.columns {
-            Err(10)
+            Err(Reason::NoSuchColumn)
         } else if self.is_full_of_entries() {
-            Err(14)
+            Err(Reason::PastLimit)
         } else {
             Ok(number)
         }

@@ -21,6 +21,7 @@ returns g c =
                 (line.edge c.args.err.now) (line.edge done.new.err) done.result
                 (λ e. let h = done.ensures.words e in (h.0, ap text.edge h.1, ap source.edge h.2))
                 (λ e. let h = done.ensures.help e in (h.0, ap line.edge h.1, ap source.edge h.2))
+                (λ e. let h = done.ensures.reasons e in (h.0, ap line.edge h.1, ap source.edge h.2))
                 (λ e. let h = done.ensures.version e in (h.0, ap line.edge h.1, ap source.edge h.2))
                 (λ seed e. let h = done.ensures.made seed e in (h.0, ap line.edge h.1, ap source.edge h.2))
                 (λ reading e. (done.ensures.read reading e, done.ensures.complete reading e))));
