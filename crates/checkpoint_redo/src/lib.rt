@@ -3,5 +3,3 @@
 
 pub mod keeper;
 pub mod laws;
-#[cfg(test)]
-mod tests;

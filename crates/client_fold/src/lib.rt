@@ -2,5 +2,3 @@
 #![tactic(auto)]
 
 pub mod client;
-#[cfg(test)]
-mod tests;

@@ -13,6 +13,4 @@ pub mod plans;
 pub mod scripts;
 pub mod sessions;
 pub mod streams;
-#[cfg(test)]
-mod tests;
 pub mod tuples;

@@ -5,5 +5,3 @@ pub mod laws;
 pub mod mill;
 pub mod operator;
 mod stage;
-#[cfg(test)]
-mod tests;

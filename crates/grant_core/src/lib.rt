@@ -3,5 +3,3 @@
 
 pub mod grants;
 mod keys;
-#[cfg(test)]
-mod tests;

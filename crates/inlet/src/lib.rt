@@ -5,5 +5,3 @@ mod draft;
 pub mod inlet;
 mod items;
 mod tentative;
-#[cfg(test)]
-mod tests;

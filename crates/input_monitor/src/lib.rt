@@ -3,6 +3,4 @@
 
 pub mod monitor;
 pub mod ranks;
-#[cfg(test)]
-mod tests;
 mod watch;

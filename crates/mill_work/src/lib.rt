@@ -3,5 +3,3 @@
 
 pub mod milling;
 pub mod order;
-#[cfg(test)]
-mod tests;

@@ -6,5 +6,3 @@ pub mod laws;
 pub mod links;
 mod peers;
 mod ports;
-#[cfg(test)]
-mod tests;

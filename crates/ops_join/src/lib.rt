@@ -6,5 +6,3 @@ pub mod join;
 mod rows;
 mod side;
 mod sides;
-#[cfg(test)]
-mod tests;

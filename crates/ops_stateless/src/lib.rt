@@ -58,6 +58,3 @@ pub fn eval(expr: &Expr, t: &Tuple) -> i64
         },
     }
 }
-
-#[cfg(test)]
-mod tests;

@@ -3,6 +3,4 @@
 
 pub mod aggregate;
 pub mod cells;
-#[cfg(test)]
-mod tests;
 mod totals;

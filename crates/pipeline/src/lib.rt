@@ -9,5 +9,3 @@ mod milling;
 pub mod pipeline;
 mod running;
 pub mod snapshots;
-#[cfg(test)]
-mod tests;

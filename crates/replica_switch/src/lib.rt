@@ -2,5 +2,3 @@
 #![tactic(auto)]
 
 pub mod choice;
-#[cfg(test)]
-mod tests;

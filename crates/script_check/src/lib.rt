@@ -13,8 +13,6 @@ mod operator_ranges;
 mod operators;
 mod ranges;
 mod sources;
-#[cfg(test)]
-mod tests;
 
 pub use first_fault::check;
 pub use ranges::is_in_range;

@@ -8,5 +8,3 @@ pub mod limits;
 pub mod name_list;
 pub mod named;
 pub mod shape;
-#[cfg(test)]
-mod tests;

@@ -10,6 +10,4 @@ mod scans;
 mod seen;
 pub mod spelling;
 pub mod symbols;
-#[cfg(test)]
-mod tests;
 pub mod words;

@@ -5,5 +5,3 @@ mod giving;
 pub mod laws;
 mod log;
 pub mod source;
-#[cfg(test)]
-mod tests;

@@ -6,5 +6,3 @@ pub mod fresh;
 pub mod items;
 pub mod laws;
 pub mod output;
-#[cfg(test)]
-mod tests;

@@ -7,5 +7,3 @@ pub mod laws;
 mod ports;
 mod spans;
 pub mod sunion;
-#[cfg(test)]
-mod tests;

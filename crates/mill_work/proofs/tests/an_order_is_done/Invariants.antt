@@ -1,4 +1,0 @@
-use Rattle.mill_work.proofs.tests.an_order_is_done.Given as goal
-
-abbrev pub ghosts-two_buckets : goal.ghosts-two_buckets
-ghosts-two_buckets g a = record { name = a.blank.name; parts = a.blank.parts }

@@ -1,4 +1,0 @@
-use Rattle.pipeline.proofs.tests.closed.Goals as goal
-
-pub process_upto-requires : goal.process_upto-requires
-process_upto-requires c = c.in_ok-pipeline.ensures

@@ -1,5 +1,0 @@
-use Rattle.std.proofs.Common.{◌∙◌, sym}
-use Rattle.script_draft.proofs.tests.add_fragment.Goals as goal
-
-pub add_fragment-requires-clause-faultless : goal.add_fragment-requires-clause-faultless
-add_fragment-requires-clause-faultless c = sym (c.fault_of_fragment.ensures 2) ∙ c.in-None.is
