@@ -127,14 +127,4 @@ impl Draft {
             None => None,
         }
     }
-
-    /// Whether a name is one of a node.
-    pub fn names_node(&self, name: &[u8]) -> bool
-        ensures { result ≡ reason.names_node self.now name.now }
-    {
-        match self.actor(name) {
-            Some(actor) => is_node(actor.role),
-            None => false,
-        }
-    }
 }

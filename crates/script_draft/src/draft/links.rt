@@ -51,13 +51,6 @@ impl Draft {
         }
     }
 
-    /// Whether two names are those of actors that a link joins.
-    pub fn names_link(&self, a: &[u8], b: &[u8]) -> bool
-        ensures { result ≡ reason.names_link self.now a.now b.now }
-    {
-        self.link(a, b).is_some()
-    }
-
     /// The two actors whose link a line names, or the least reason against the line.
     pub fn link_of_line(&self, a: &[u8], b: &[u8]) -> Result<(u64, u64), Reason>
         ensures found { IfOk result (λ link. AreNamed self.now a.now b.now link.0 link.1) }
