@@ -48,7 +48,7 @@ const REASONS: &[u8] = b"\
 5  a number out of its range, or an end that is no multiple of the width
 6  a line in the wrong part
 7  a name that is taken, or a stream twice in one fragment
-8  an unknown source, operator input, actor or node, or two actors without a tally
+8  an unknown source, operator input, actor or node, or two actors without a link
 9  a log time below the one before, or not below the end
 10  a column that is not there, a wrong number of values, unequal columns in a union, or more than 8 columns in a result
 11  a fragment or client that reads what was not declared before it
