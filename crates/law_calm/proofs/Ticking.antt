@@ -22,7 +22,6 @@ use Rattle.node_model.specs.NodeSteps.{idle_step, peers_of, peer_watches, replic
 use Rattle.law_safety.proofs.Numbering.{actors-pass}
 use Rattle.dpc_lists.proofs.Truths.{both}
 use Rattle.dpc_lists.proofs.Each.{Each, each-append}
-use Rattle.node_model.proofs.Mailed.{mill-ports}
 use Rattle.law_granting.proofs.Each.{each-sorted, each-to, each-batches, each-subscription, each-beats}
 use Rattle.law_granting.proofs.Moves.{get-mapped, reconciling-ports, processing-ports}
 use Rattle.law_readers.proofs.Sessions.{ticked-port}

@@ -5,7 +5,6 @@ use Rattle.dpc_model.specs.declared.messages.Event.{Event}
 use Rattle.dpc_model.specs.declared.plans.Plan.{Plan}
 use Rattle.world_model.specs.Worlds.{World, happens, run, new_world}
 use Rattle.world_model.proofs.Running.{run-push}
-use Rattle.law_safety.proofs.Growing.{run-plan}
 
 start : (plan : Plan) (P : World → Type 0) → P (new_world plan) → P (run plan [])
 unfolding run

@@ -37,7 +37,6 @@ use Rattle.law_safety.proofs.SoundPorts.{node-columns}
 use Rattle.law_safety.proofs.Frames.{IsGood}
 use Rattle.law_safety.proofs.Emptied.{shape-of, shape-test, later-good, finished-over}
 use Rattle.dpc_lists.proofs.Elements.{length-changed}
-use Rattle.dpc_lists.proofs.Places.{place-within}
 use Rattle.law_safety.proofs.Numbering.{all-nth}
 use Rattle.law_safety.proofs.Dues.{due-range}
 use Rattle.law_safety.proofs.OutFits.{out_stable-fits, out_tentative-fits, drop-fits, cursor-within, view-within}

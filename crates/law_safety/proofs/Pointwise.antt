@@ -1,5 +1,5 @@
 -- One port of a node is changed.
-use Rattle.std.proofs.Common.{◌≡◌, ℕ, zero, suc, ◌+◌, ◌*◌, ◌≤◌, true, ◌==◌, List, [], ◌∷◌, map, length, refl, sym, ap, ◌∙◌, arith, Some, None, slice_get}
+use Rattle.std.proofs.Common.{◌≡◌, ℕ, zero, suc, ◌+◌, ◌*◌, ◌≤◌, true, ◌==◌, List, [], ◌∷◌, map, refl, sym, ap, ◌∙◌, arith, Some, None, slice_get}
 use Rattle.dpc_lists.specs.Lists.{changed, place_of}
 use Rattle.dpc_model.specs.Actors.{senders_of}
 use Rattle.dpc_model.specs.Ports.{Port, held_at, sender_from, sender_at}

@@ -9,7 +9,6 @@ use Rattle.dpc_model.specs.declared.operators.OpSpec.{OpSpec}
 use Rattle.dpc_model.specs.declared.plans.SourceSpec.{SourceSpec}
 use Rattle.dpc_model.specs.declared.plans.FragSpec.{FragSpec}
 use Rattle.dpc_model.specs.declared.plans.ClientSpec.{ClientSpec}
-use Rattle.dpc_lists.proofs.Elements.{nil-of}
 use Rattle.script_rules.specs.Statements.{Statement, HeaderLine, SourceLine, LogLine, FragmentLine, OperatorLine, ClientLine, BeginLine}
 use Rattle.script_rules.specs.Drafts.{Draft, plan_of, names, source_names, frag_names, op_names, place_of_name, source_named, and_then, with_log}
 use Rattle.script_rules.specs.Reasons.{is_among, has_twice}

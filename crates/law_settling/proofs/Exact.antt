@@ -6,7 +6,6 @@ use Rattle.dpc_model.specs.Ports.{Port}
 use Rattle.dpc_model.specs.declared.messages.Message.TheVariants as message
 use Rattle.node_model.specs.Mails.{Mail, Packet, Plain, SnapFor, in_actor_order}
 use Rattle.dpc_lists.proofs.Truths.{eq-of, eq-test}
-use Rattle.dpc_lists.proofs.Elements.{get-changed}
 
 -- ---- lists
 

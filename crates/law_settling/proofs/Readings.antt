@@ -9,7 +9,6 @@ use Rattle.dpc_model.specs.declared.messages.Sess.{Sess}
 use Rattle.dpc_model.specs.declared.messages.Message.TheVariants as message
 use Rattle.node_model.specs.Mails.{Packet, Plain, SnapFor}
 use Rattle.dpc_lists.proofs.Truths.{not-lt, or-true}
-use Rattle.dpc_model.proofs.Alike.{newer-trans}
 use Rattle.law_safety.proofs.Batches.{take_batch-bound}
 use Rattle.law_settling.proofs.Exact.{inlet_after}
 use Rattle.law_settling.proofs.Standing.{asked_inlet}

@@ -10,7 +10,7 @@ use Rattle.std.specs.List.{filter, AllByRecursion}
 use Rattle.std.specs.List.Sorted.{IsStrictlySortedBy}
 use Rattle.std.specs.declared.cmp.Ordering.{Ordering}
 use Rattle.std.specs.declared.cmp.Ordering.TheVariants.{Less, Equal, Greater}
-use Rattle.dpc_lists.proofs.Truths.{not-of, and-true}
+use Rattle.dpc_lists.proofs.Truths.{and-true}
 use Rattle.ops_join.specs.Sides.{index_cmp}
 use Rattle.ops_join.proofs.Entries.{is_eq-then}
 use Rattle.ops_join.proofs.Sharing.{Entry, has_key, is_behind, numbers_at, int_lists_total, int_eq-cmp_back}

@@ -9,7 +9,7 @@ use Rattle.std.specs.Map.{keys_of}
 use Rattle.dpc_model.specs.Operators.{window_count}
 use Rattle.dpc_model.specs.declared.tuples.Tuple.{Tuple}
 use Rattle.dpc_model.specs.declared.operators.Agg.{Agg}
-use Rattle.dpc_model.proofs.WindowCausality.{window_before, window_count-le}
+use Rattle.dpc_model.proofs.WindowCausality.{window_before}
 use Rattle.ops_window.specs.Windows.{Cell, group_of, begun_count}
 use Rattle.ops_window.specs.Feeding.{cell_cmp, totals_at, take_tuple, take_tuples}
 use Rattle.ops_window.proofs.WindowCells.{totals_over, begins_one, seen, cells_of, cells_of-at}

@@ -11,7 +11,6 @@ use Rattle.dpc_model.specs.Inlets.{InletState}
 use Rattle.dpc_model.specs.Parts.{Inputs, done_in}
 use Rattle.dpc_model.specs.PartStands.{InletValue, StandsForInlet}
 use Rattle.dpc_model.specs.declared.tuples.Tuple.{Tuple}
-use Rattle.dpc_model.proofs.Cuts.{cut-below}
 use Rattle.sunion.specs.Values.{SUnionValue}
 use Rattle.sunion.specs.Unions.{StandsForInputs, AreInOrder, no_inlet, no_value}
 use Rattle.sunion.proofs.Standing.{stands-at}
