@@ -24,7 +24,7 @@ number_of PartMissing = 12
 number_of AgainstState = 13
 number_of PastLimit = 14
 
--- a line's text
+-- what a reason says
 abbrev pub words_for : Reason → List ℕ
 words_for ForeignByte = codes "a byte that is neither printable ASCII nor a line feed"
 words_for ForeignWord = codes "a first word that begins no line, or a word that can't stand at its place"

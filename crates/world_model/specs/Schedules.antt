@@ -15,7 +15,7 @@ use Rattle.world_model.specs.Worlds.{World, Envelope, slot_of, node_at, new_worl
 
 -- ---- phases
 
--- Six times the three ticks without a beat that tell that a replica is absent, and 20. Two things are counted by it: the quiet phases
+-- 6 G + 20, where G = 3 is the number of ticks without a beat that tell that a replica is absent. Two things are counted by it: the quiet phases
 -- past which no node may recover any more (`IsSteady`), and those that a fragment takes, from its inputs on, until its readers have its
 -- stream, which are at most so many for each of its replicas and once more (`enough` of `law_settling_whole`: far fewer, 22 would do)
 abbrev pub settling_phases : ℕ
