@@ -99,7 +99,8 @@ pub fn plain<S: Source, O: Sink, E: Sink>(
     ensures read { (what : reading.Reading) → command_of (map string_bytes words.now) ≡ Some (Command.Read what)
         → ReadEnds what (S.edge input.old) (S.edge input.new) (O.edge out.old) (O.edge out.new) (E.edge err.old) (E.edge err.new) result }
     ensures complete { (what : reading.Reading) → command_of (map string_bytes words.now) ≡ Some (Command.Read what)
-        → ReadIsWhole what (S.edge input.old) (S.edge input.new) (O.edge out.old) (O.edge out.new) (E.edge err.old) (E.edge err.new) result }
+        → ReadIsWhole what (S.edge input.old) (S.edge input.new) (O.edge out.old) (O.edge out.new) (E.edge err.old)
+        (E.edge err.new) result }
 {
     match command_in(words) {
         None => told(err, UNKNOWN_WORDS, Status::Words),
@@ -154,8 +155,10 @@ fn read<S: Source, O: Sink, E: Sink>(
     out: &mut O,
     err: &mut E,
 ) -> Status
-    ensures ends { ReadEnds reading (S.edge input.old) (S.edge input.new) (O.edge out.old) (O.edge out.new) (E.edge err.old) (E.edge err.new) result }
-    ensures complete { ReadIsWhole reading (S.edge input.old) (S.edge input.new) (O.edge out.old) (O.edge out.new) (E.edge err.old) (E.edge err.new) result }
+    ensures ends { ReadEnds reading (S.edge input.old) (S.edge input.new) (O.edge out.old) (O.edge out.new)
+        (E.edge err.old) (E.edge err.new) result }
+    ensures complete { ReadIsWhole reading (S.edge input.old) (S.edge input.new) (O.edge out.old) (O.edge out.new)
+        (E.edge err.old) (E.edge err.new) result }
 {
     let text = match read_whole(alloc, input) {
         Ok(text) => text,

@@ -35,7 +35,8 @@ pub fn over<R: Env + AllocGlobal, S: Source, O: Sink, E: Sink>(
     out: &mut O,
     err: &mut E,
 ) -> ExitCode
-    ensures { ProgramEnds (S.edge input.old) (S.edge input.new) (O.edge out.old) (O.edge out.new) (E.edge err.old) (E.edge err.new) (exit_status result) }
+    ensures { ProgramEnds (S.edge input.old) (S.edge input.new) (O.edge out.old) (O.edge out.new) (E.edge err.old)
+        (E.edge err.new) (exit_status result) }
 {
     let status = match words(rt) {
         Ok(words) => plain(rt.alloc(), words.as_slice(), input, out, err),

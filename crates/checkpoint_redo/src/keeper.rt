@@ -72,7 +72,8 @@ impl<M: Engine + Drop> Keeper<M> {
         requires range { k + 1 < 2 ^ 64 }
         requires accepts { Accepts (M.width self.old.keeper.state) k inputs.now }
         ensures answer { IfOk result (λ out. (before : List Tagged) → M.after self.old.keeper.state before k
-            → out ≡ added_output (engine_value (M.operators self.old.keeper.state)) (unwrap_or (M.width self.old.keeper.state) 0) before inputs.now k) }
+            → out ≡ added_output (engine_value (M.operators self.old.keeper.state))
+            (unwrap_or (M.width self.old.keeper.state) 0) before inputs.now k) }
         ensures after { OnOk result ((before : List Tagged) → M.after self.old.keeper.state before k
             → M.after self.new.keeper.state (before ++ inputs.now) (k + 1)) }
         ensures next { OnOk result (M.next self.new.keeper.state ≡ k + 1) }
@@ -104,7 +105,8 @@ impl<M: Engine + Drop> Keeper<M> {
         requires range { k + length buckets.now < 2 ^ 64 }
         requires accepts { AcceptsAll (M.width self.old.keeper.state) k buckets.now }
         ensures answer { IfOk result (λ out. (before : List Tagged) → M.after self.old.keeper.state before k
-            → out ≡ added_by (engine_value (M.operators self.old.keeper.state)) (unwrap_or (M.width self.old.keeper.state) 0) before buckets.now k) }
+            → out ≡ added_by (engine_value (M.operators self.old.keeper.state))
+            (unwrap_or (M.width self.old.keeper.state) 0) before buckets.now k) }
         ensures after { OnOk result ((before : List Tagged) → M.after self.old.keeper.state before k
             → M.after self.new.keeper.state (before ++ all_of buckets.now) (k + length buckets.now)) }
         ensures next { OnOk result (M.next self.new.keeper.state ≡ k + length buckets.now) }

@@ -129,7 +129,8 @@ fn client_values(
 /// order of bytes and a line feed at the end. The only error is want of memory.
 pub fn report_json(alloc: Global, plan: &Plan, clients: &[Client]) -> Result<Vec<u8>, NoMemory>
     requires { HasPlainNames plan.now }
-    ensures { IfOk result (λ text. (w : World) → w.plan ≡ plan.now → StandForClients plan.now 0 clients.now w.clients → text.items ≡ report_json w) }
+    ensures { IfOk result (λ text. (w : World) → w.plan ≡ plan.now → StandForClients plan.now 0 clients.now w.clients
+        → text.items ≡ report_json w) }
 {
     let list = client_values(alloc, plan.clients.as_slice(), clients)?;
     let value = json!(in alloc; {"clients": list})?;

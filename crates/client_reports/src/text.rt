@@ -73,7 +73,8 @@ fn put_summaries(
 /// For each client its name, a line for each item that it took, and its summary. The only error is want
 /// of memory.
 pub fn report_text(alloc: Global, plan: &Plan, clients: &[Client]) -> Result<Vec<u8>, NoMemory>
-    ensures { IfOk result (λ text. (w : World) → w.plan ≡ plan.now → StandForClients plan.now 0 clients.now w.clients → text.items ≡ report_text w) }
+    ensures { IfOk result (λ text. (w : World) → w.plan ≡ plan.now → StandForClients plan.now 0 clients.now w.clients
+        → text.items ≡ report_text w) }
 {
     let mut text = Vec::new(alloc);
     put_clients(&mut text, plan.clients.as_slice(), clients)?;
@@ -82,7 +83,8 @@ pub fn report_text(alloc: Global, plan: &Plan, clients: &[Client]) -> Result<Vec
 
 /// The summary line of each client. The only error is want of memory.
 pub fn report_short(alloc: Global, plan: &Plan, clients: &[Client]) -> Result<Vec<u8>, NoMemory>
-    ensures { IfOk result (λ text. (w : World) → w.plan ≡ plan.now → StandForClients plan.now 0 clients.now w.clients → text.items ≡ report_short w) }
+    ensures { IfOk result (λ text. (w : World) → w.plan ≡ plan.now → StandForClients plan.now 0 clients.now w.clients
+        → text.items ≡ report_short w) }
 {
     let mut text = Vec::new(alloc);
     put_summaries(&mut text, plan.clients.as_slice(), clients)?;

@@ -117,7 +117,8 @@ impl FragMill {
         requires known { frag < length plan.now.frags }
         requires sound { AreSoundFrags plan.now.frags }
         ensures made { IfOk result (λ m. (f : FragSpec) → slice_get plan.now.frags frag ≡ Some f → m ≡ new_mill plan.now.width f.ops) }
-        ensures operators { IfOk result (λ m. (f : FragSpec) → slice_get plan.now.frags frag ≡ Some f → specs_of m.stages ≡ nameless f.ops) }
+        ensures operators { IfOk result (λ m. (f : FragSpec) → slice_get plan.now.frags frag ≡ Some f
+            → specs_of m.stages ≡ nameless f.ops) }
         ensures width { IfOk result (λ m. m.width ≡ plan.now.width) }
         ensures fresh { IfOk result (λ m. m.spent ≡ false) }
         ensures after { IfOk result (λ m. MillAfter m [] 0) }

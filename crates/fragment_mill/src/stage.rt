@@ -113,7 +113,8 @@ impl Stage {
         requires range { k + 1 < 2 ^ 64 }
         requires accepts { Accepts (width_of self.old.operator) k (inputs_of inputs.now outputs.old.items self.old.reads) }
         ensures added { OnOk result ((before : List Tagged) → OperatorAfter self.old.operator before k
-            → outputs.new.items ≡ push outputs.old.items (added_of self.old.operator before (inputs_of inputs.now outputs.old.items self.old.reads) k)) }
+            → outputs.new.items ≡ push outputs.old.items
+            (added_of self.old.operator before (inputs_of inputs.now outputs.old.items self.old.reads) k)) }
         ensures after { OnOk result ((before : List Tagged) → OperatorAfter self.old.operator before k
             → OperatorAfter self.new.operator (before ++ inputs_of inputs.now outputs.old.items self.old.reads) (k + 1)) }
         ensures idle { OnOk result (spent_of self.new.operator ≡ false) }

@@ -145,7 +145,8 @@ impl BatchDraft {
         items: &'a [Item],
     ) -> Result<Option<Vec<&'a Item>>, NoMemory>
         requires { self.old.first + length self.old.stable.items + length items.now < 2 ^ 64 }
-        ensures { IfOk result (λ taken. IsFold items.now self.old self.new (option_map (map (λ (item : Bor Item). item.now)) (option_map (λ taken. taken.items) taken))) }
+        ensures { IfOk result (λ taken. IsFold items.now self.old self.new
+            (option_map (map (λ (item : Bor Item). item.now)) (option_map (λ taken. taken.items) taken))) }
     {
         let mut taken = Vec::with_capacity(alloc, items.len())?;
         for item in items {

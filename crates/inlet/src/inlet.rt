@@ -205,7 +205,8 @@ impl Inlet {
         items: &[Item],
     ) -> Result<Absorbed, NoMemory>
         requires { HasRoom self.old (length items.now) }
-        ensures ok { IfOk result (λ answer. (told : Taken) × (answer ≡ times_of told) × IsTaken sess index items.now self.old self.new told) }
+        ensures ok { IfOk result (λ answer. (told : Taken) × (answer ≡ times_of told)
+            × IsTaken sess index items.now self.old self.new told) }
         ensures err { OnErr result (self.new ≡ self.old) }
     {
         match self.read(alloc, sess, index, items)? {

@@ -15,10 +15,12 @@ ghost use Rattle.law_calm.specs.Crashes.{crashes_none, has_no_crash};
 
 /// In every run of deliveries, losses, cuts and ticks without a crash no node recovers, at any point.
 pub fn without_crashes_none_recovers()
-    ensures { (plan : Plan) (events : List Event) → IsCheckedPlan plan → list_all crashes_none events ≡ true → NoneRecovers (run plan events).nodes }
+    ensures { (plan : Plan) (events : List Event) → IsCheckedPlan plan → list_all crashes_none events ≡ true
+        → NoneRecovers (run plan events).nodes }
 {}
 
 /// So it is in every live run of a script that crashes nobody.
 pub fn a_script_without_crashes_is_calm()
-    ensures { (script : Script) (events : List Event) → IsCheckedPlan script.plan → has_no_crash script ≡ true → IsTrue (is_live script events) → IsCalm script events }
+    ensures { (script : Script) (events : List Event) → IsCheckedPlan script.plan → has_no_crash script ≡ true
+        → IsTrue (is_live script events) → IsCalm script events }
 {}

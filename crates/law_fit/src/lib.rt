@@ -19,12 +19,15 @@ ghost use Rattle.law_fit.specs.Fits.{NodesAreFit, PacketsAreFit, HasFewReplicas}
 
 /// A node that is safe and orderly is fit, where the run ends below 2^63.
 pub fn a_good_node_is_fit()
-    ensures { (home : Home) (most : ℕ) (p : PlainNode) → IsChecked home.plan → home.plan.end < 2 ^ 63 → IsSafeNode home p → IsOrderlyNode home most p → IsFit home p }
+    ensures { (home : Home) (most : ℕ) (p : PlainNode) → IsChecked home.plan → home.plan.end < 2 ^ 63
+        → IsSafeNode home p → IsOrderlyNode home most p → IsFit home p }
 {}
 
 /// An envelope that is true and goes a right way, with tuples that fit its stream, carries a fit packet to such a node.
 pub fn a_packet_is_fit()
-    ensures { (home : Home) (most : ℕ) (e : Envelope) (p : PlainNode) → IsCheckedPlan home.plan → role_of home.plan e.to ≡ IsNode home.frag home.replica → is_fitting home.plan e ≡ true → IsTrueEnvelope home.plan e → IsSafeNode home p → IsOrderlyNode home most p → IsFitPacket home e.sender p e.packet }
+    ensures { (home : Home) (most : ℕ) (e : Envelope) (p : PlainNode) → IsCheckedPlan home.plan
+        → role_of home.plan e.to ≡ IsNode home.frag home.replica → is_fitting home.plan e ≡ true
+        → IsTrueEnvelope home.plan e → IsSafeNode home p → IsOrderlyNode home most p → IsFitPacket home e.sender p e.packet }
 {}
 
 /// In a world that is safe and orderly, as every event keeps it, each node that is up is fit, and so is each packet for the node that it was sent to.
@@ -41,6 +44,8 @@ pub fn every_run_is_fit()
 
 /// Each replica of a checked plan, of which no fragment has too many, can be made: by its number, or by its actor.
 pub fn a_checked_plan_gives_places()
-    ensures by_number { (plan : Plan) (f r : ℕ) → IsCheckedPlan plan → HasFewReplicas plan → f < length plan.frags → r < replicas_at plan f → IsReplica (home_of plan (f, r)) }
-    ensures by_actor { (plan : Plan) (a f r : ℕ) → IsCheckedPlan plan → HasFewReplicas plan → role_of plan a ≡ IsNode f r → IsReplica (home_of plan (f, r)) }
+    ensures by_number { (plan : Plan) (f r : ℕ) → IsCheckedPlan plan → HasFewReplicas plan → f < length plan.frags
+        → r < replicas_at plan f → IsReplica (home_of plan (f, r)) }
+    ensures by_actor { (plan : Plan) (a f r : ℕ) → IsCheckedPlan plan → HasFewReplicas plan
+        → role_of plan a ≡ IsNode f r → IsReplica (home_of plan (f, r)) }
 {}

@@ -10,5 +10,6 @@ ghost use Rattle.law_lockstep.specs.Calm.{IsCalm};
 /// So where its quiet phases open well and past the first 38 of them no node recovers, no reader misses three beats in a row of one of
 /// several replicas either: it is steady.
 pub fn a_calm_lockstep_journal_is_steady()
-    ensures { (script : Script) → CanSettle script → OpensWell script (lockstep_journal script) → IsCalm script (lockstep_journal script) → IsSteady script (lockstep_journal script) }
+    ensures { (script : Script) → CanSettle script → OpensWell script (lockstep_journal script)
+        → IsCalm script (lockstep_journal script) → IsSteady script (lockstep_journal script) }
 {}

@@ -23,11 +23,13 @@ pub fn checked_scripts_settle()
 /// (what its directives cut, crash and hold back later ones heal, restart and release) and that past the first 38 quiet phases no node
 /// recovers: then the program's answer is not 4.
 pub fn a_script_that_heals_settles()
-    ensures { (script : Script) → IsChecked script → IsTrue script.settle → heals script ≡ true → IsCalm script (lockstep_journal script) → IsTrue (all_settled (run script.plan (lockstep_journal script))) }
+    ensures { (script : Script) → IsChecked script → IsTrue script.settle → heals script ≡ true
+        → IsCalm script (lockstep_journal script) → IsTrue (all_settled (run script.plan (lockstep_journal script))) }
 {}
 
 /// Where no node is crashed at all, none recovers: so a script that cuts, loses and repeats, but crashes nobody, and mends what it breaks
 /// settles, whatever came between, and the program's answer is never 4.
 pub fn a_script_that_crashes_nobody_settles()
-    ensures { (script : Script) → IsChecked script → IsTrue script.settle → heals script ≡ true → has_no_crash script ≡ true → IsTrue (all_settled (run script.plan (lockstep_journal script))) }
+    ensures { (script : Script) → IsChecked script → IsTrue script.settle → heals script ≡ true
+        → has_no_crash script ≡ true → IsTrue (all_settled (run script.plan (lockstep_journal script))) }
 {}

@@ -19,7 +19,8 @@ pub fn upgraded_events_are_the_same()
 
 /// A plan's run and that of its upgrade differ in the version alone: the same sources, nodes, clients and cuts, and the same envelopes.
 pub fn upgraded_runs_are_the_same()
-    ensures whole { (plan : Plan) (events : List Event) → run (upgraded_plan plan) events ≡ record (run plan events) { plan = upgraded_plan (run plan events).plan } }
+    ensures whole { (plan : Plan) (events : List Event)
+        → run (upgraded_plan plan) events ≡ record (run plan events) { plan = upgraded_plan (run plan events).plan } }
     ensures plan { (plan : Plan) (events : List Event) → (run (upgraded_plan plan) events).plan ≡ upgraded_plan plan }
     ensures sources { (plan : Plan) (events : List Event) → (run (upgraded_plan plan) events).sources ≡ (run plan events).sources }
     ensures nodes { (plan : Plan) (events : List Event) → (run (upgraded_plan plan) events).nodes ≡ (run plan events).nodes }

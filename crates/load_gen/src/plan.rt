@@ -30,7 +30,8 @@ fn single(alloc: Global, value: i64) -> Result<Vals, NoMemory>
 /// Entry i of a log: its time, and its value.
 fn entry_of(alloc: Global, generator: &mut Generator, i: u64) -> Result<Tuple, NoMemory>
     requires { i < 10000 }
-    ensures state { OnOk result ((seed done : ℕ) → generator.old.state ≡ state_after seed done → generator.new.state ≡ state_after seed (done + 2)) }
+    ensures state { OnOk result ((seed done : ℕ) → generator.old.state ≡ state_after seed done
+        → generator.new.state ≡ state_after seed (done + 2)) }
     ensures entry { IfOk result (λ t. (seed first : ℕ) → generator.old.state ≡ state_after seed (first + 2 * i) → t ≡ entry seed first i) }
 {
     let stime = 10 * i + u64::from(generator.draw() % 10);
@@ -41,7 +42,8 @@ fn entry_of(alloc: Global, generator: &mut Generator, i: u64) -> Result<Tuple, N
 
 /// A log.
 fn log(alloc: Global, generator: &mut Generator) -> Result<Tuples, NoMemory>
-    ensures state { OnOk result ((seed first : ℕ) → generator.old.state ≡ state_after seed first → generator.new.state ≡ state_after seed (first + 2 * entries)) }
+    ensures state { OnOk result ((seed first : ℕ) → generator.old.state ≡ state_after seed first
+        → generator.new.state ≡ state_after seed (first + 2 * entries)) }
     ensures log { IfOk result (λ log. (seed first : ℕ) → generator.old.state ≡ state_after seed first → log ≡ log_of seed first) }
 {
     let mut tuples = Vec::with_capacity(alloc, ENTRIES as usize)?;
@@ -60,8 +62,10 @@ fn name(alloc: Global, bytes: &[u8]) -> Result<Name, NoMemory>
 
 /// A source of one column.
 fn source(alloc: Global, bytes: &[u8], generator: &mut Generator) -> Result<SourceSpec, NoMemory>
-    ensures state { OnOk result ((seed first : ℕ) → generator.old.state ≡ state_after seed first → generator.new.state ≡ state_after seed (first + 2 * entries)) }
-    ensures source { IfOk result (λ s. (seed first : ℕ) → generator.old.state ≡ state_after seed first → s ≡ source_of seed bytes.now first) }
+    ensures state { OnOk result ((seed first : ℕ) → generator.old.state ≡ state_after seed first
+        → generator.new.state ≡ state_after seed (first + 2 * entries)) }
+    ensures source { IfOk result (λ s. (seed first : ℕ) → generator.old.state ≡ state_after seed first
+        → s ≡ source_of seed bytes.now first) }
 {
     let log = log(alloc, generator)?;
     let name = name(alloc, bytes)?;
@@ -182,7 +186,8 @@ fn clients(alloc: Global) -> Result<Listed<ClientSpec>, NoMemory>
 
 /// The plan, whose logs take the first draws.
 pub fn plan(alloc: Global, generator: &mut Generator) -> Result<Plan, NoMemory>
-    ensures state { OnOk result ((seed : ℕ) → generator.old.state ≡ state_after seed 0 → generator.new.state ≡ state_after seed (4 * entries)) }
+    ensures state { OnOk result ((seed : ℕ) → generator.old.state ≡ state_after seed 0
+        → generator.new.state ≡ state_after seed (4 * entries)) }
     ensures plan { IfOk result (λ p. (seed : ℕ) → generator.old.state ≡ state_after seed 0 → p ≡ plan_of seed) }
 {
     let mut sources = Vec::with_capacity(alloc, 2)?;

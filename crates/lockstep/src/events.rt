@@ -66,7 +66,8 @@ fn push_mills(events: &mut Vec<Event>, actor: u32, ready: u64) -> Result<(), All
 /// The ready buckets of all actors.
 fn push_all_mills(events: &mut Vec<Event>, world: &World, actors: u32) -> Result<(), AllocError>
     requires { world.now.spent ≡ false }
-    ensures { OnOk result (events.new.items ≡ events.old.items ++ flat_map (λ a. mill_events a (ready_at (world_of world.now) a)) (range_with_len 0 actors)) }
+    ensures { OnOk result (events.new.items ≡ events.old.items
+        ++ flat_map (λ a. mill_events a (ready_at (world_of world.now) a)) (range_with_len 0 actors)) }
 {
     for actor in 0..actors {
         push_mills(events, actor, world.ready(u64::from(actor)))?;
@@ -100,7 +101,8 @@ fn push_ticks(
     now: u64,
 ) -> Result<(), AllocError>
     requires { world.now.spent ≡ false }
-    ensures { OnOk result (events.new.items ≡ events.old.items ++ map (λ a. Tick a now) (filter (is_up (world_of world.now)) (range_with_len 0 actors))) }
+    ensures { OnOk result (events.new.items ≡ events.old.items
+        ++ map (λ a. Tick a now) (filter (is_up (world_of world.now)) (range_with_len 0 actors))) }
 {
     for actor in 0..actors {
         if world.is_up(u64::from(actor)) {
@@ -120,7 +122,8 @@ pub fn phase_events(
     now: u64,
 ) -> Result<Vec<Event>, NoMemory>
     requires { world.now.spent ≡ false }
-    ensures { IfOk result (λ events. events.items ≡ phase_events (world_of world.now) directives.now (range_with_len first (sent - first)) now) }
+    ensures { IfOk result (λ events. events.items ≡ phase_events (world_of world.now) directives.now
+        (range_with_len first (sent - first)) now) }
 {
     let actors = actor_count(world.plan())?;
     let fates = fates(alloc, directives)?;

@@ -88,7 +88,8 @@ impl RunSoFar {
         requires { self.old.world.spent ≡ false }
         ensures ok { OnOk result (Follows (λ x. (tell_phases self.old.phase self.old.first phases.now x).1) self.old.world self.new.world) }
         ensures phase { OnOk result (self.new.phase ≡ self.old.phase + length phases.now) }
-        ensures first { OnOk result ((x : Told) → IsAt self.old.world x → (tell_phases self.old.phase self.old.first phases.now x).0 ≡ self.new.first) }
+        ensures first { OnOk result ((x : Told) → IsAt self.old.world x
+            → (tell_phases self.old.phase self.old.first phases.now x).0 ≡ self.new.first) }
         ensures clock { OnOk result (self.new.now ≡ fold (λ _ now. now) self.old.now (map (λ p. p.now) phases.now)) }
         ensures long { IfErr result (Exceeds (λ x. (tell_phases self.old.phase self.old.first phases.now x).1) self.old.world) }
     {
@@ -118,7 +119,8 @@ impl RunSoFar {
     /// settled.
     pub fn settle(self, alloc: Global) -> Result<World, RunFault>
         requires { self.world.spent ≡ false }
-        ensures ok { IfOk result (λ w. Follows (tell_quiet (quiet_limit self.world.plan) self.phase self.first (self.now + 1)) self.world w) }
+        ensures ok { IfOk result (λ w. Follows (tell_quiet (quiet_limit self.world.plan) self.phase self.first
+            (self.now + 1)) self.world w) }
         ensures long { IfErr result (Exceeds (tell_quiet (quiet_limit self.world.plan) self.phase self.first (self.now + 1)) self.world) }
     {
         let most = quiet_limit(self.world.plan());

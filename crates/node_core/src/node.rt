@@ -65,7 +65,8 @@ impl Node {
     /// Replica `replica` of fragment `frag` at the opening.
     pub fn new(alloc: Global, plan: &Plan, frag: usize, replica: usize) -> Result<Node, NoMemory>
         requires { IsReplica (record { plan = plan.now; frag = frag; replica = replica }) }
-        ensures stands { IfOk result (λ n. StandsForNode (record { plan = plan.now; frag = frag; replica = replica }) n (new_node (record { plan = plan.now; frag = frag; replica = replica }))) }
+        ensures stands { IfOk result (λ n. StandsForNode (record { plan = plan.now; frag = frag; replica = replica }) n
+            (new_node (record { plan = plan.now; frag = frag; replica = replica }))) }
         ensures fresh { IfOk result (λ n. n.spent ≡ false) }
     {
         let readers = readers_of(alloc, plan, StreamRef::Frag(frag as u64))?;
@@ -91,7 +92,8 @@ impl Node {
         inc: u64,
     ) -> Result<Node, NoMemory>
         requires { IsReplica (record { plan = plan.now; frag = frag; replica = replica }) }
-        ensures stands { IfOk result (λ n. StandsForNode (record { plan = plan.now; frag = frag; replica = replica }) n (restarted_node (record { plan = plan.now; frag = frag; replica = replica }) inc)) }
+        ensures stands { IfOk result (λ n. StandsForNode (record { plan = plan.now; frag = frag; replica = replica }) n
+            (restarted_node (record { plan = plan.now; frag = frag; replica = replica }) inc)) }
         ensures fresh { IfOk result (λ n. n.spent ≡ false) }
     {
         let readers = readers_of(alloc, plan, StreamRef::Frag(frag as u64))?;
@@ -114,8 +116,10 @@ impl Node {
         sender: u64,
         packet: &Packet,
     ) -> Result<Vec<Mail>, StepFault>
-        requires { self.old.spent ≡ false → (home : Home) × (p : PlainNode) × (q : PlainPacket) × CanTake sender self.old packet.now home p q }
-        ensures taken { IfOk result (λ mails. (home : Home) → (p : PlainNode) → (q : PlainPacket) → CanTake sender self.old packet.now home p q → IsTaken sender self.new mails.items home p q) }
+        requires { self.old.spent ≡ false → (home : Home) × (p : PlainNode) × (q : PlainPacket)
+            × CanTake sender self.old packet.now home p q }
+        ensures taken { IfOk result (λ mails. (home : Home) → (p : PlainNode) → (q : PlainPacket)
+            → CanTake sender self.old packet.now home p q → IsTaken sender self.new mails.items home p q) }
         ensures spent { result ≡ Err fault.Spent ↔ self.old.spent ≡ true }
         ensures stays { IsTrue self.new.spent ↔ IsTrue (is_err result) }
     {

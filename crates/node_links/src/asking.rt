@@ -14,7 +14,8 @@ impl Links {
     pub fn on_ask(&mut self, r: usize, inc: u64, ask: u64, state: NodeState) -> bool
         requires { r < length self.old.replicas }
         ensures granted { result ≡ grants self.old.known.grants state r (inc, ask) }
-        ensures after { self.new ≡ (if result then record self.old { known = record self.old.known { grants = with_promise self.old.known.grants r (inc, ask) } } else self.old) }
+        ensures after { self.new ≡ (if result then record self.old
+            { known = record self.old.known { grants = with_promise self.old.known.grants r (inc, ask) } } else self.old) }
     {
         self.grants.on_ask(r, inc, ask, state)
     }

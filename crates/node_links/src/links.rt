@@ -70,7 +70,8 @@ impl Model for Links {
       };
     } };
 
-    ghost invariant = { λ l. (length l.watches ≡ length l.replicas.items) × (length l.grants.heard ≡ length l.replicas.items) × (l.me < length l.replicas.items)
+    ghost invariant = { λ l. (length l.watches ≡ length l.replicas.items)
+        × (length l.grants.heard ≡ length l.replicas.items) × (l.me < length l.replicas.items)
         × (l.peers.items ≡ filter (λ a. not (a == nth 0 l.replicas.items l.me)) l.replicas.items) };
 }
 
@@ -94,9 +95,11 @@ impl Links {
         inc: u64,
     ) -> Result<Links, NoMemory>
         requires inside { replica < length (replicas_of plan.now frag) }
-        requires same { (spec_of (record { plan = plan.now; frag = frag; replica = replica })).replicas ≡ length (replicas_of plan.now frag) }
+        requires same { (spec_of (record { plan = plan.now; frag = frag; replica = replica })).replicas ≡ length
+            (replicas_of plan.now frag) }
         requires most { length (replicas_of plan.now frag) ≤ MOST_REPLICAS }
-        requires senders { All (λ (s : StreamRef). (0 < length (senders_of plan.now s)) × (length (senders_of plan.now s) ≤ MOST_REPLICAS)) (streams_of (record { plan = plan.now; frag = frag; replica = replica })) }
+        requires senders { All (λ (s : StreamRef). (0 < length (senders_of plan.now s))
+            × (length (senders_of plan.now s) ≤ MOST_REPLICAS)) (streams_of (record { plan = plan.now; frag = frag; replica = replica })) }
         ensures { IfOk result (λ l. l ≡ new_links (record { plan = plan.now; frag = frag; replica = replica }) inc) }
     {
         let ports = new_ports(alloc, plan, streams_of(plan, frag))?;
@@ -174,7 +177,10 @@ impl Links {
 
     /// An actor tells of itself. The answer is the port that reads it now: its inlet is to hear the tally.
     pub fn on_beat(&mut self, sender: u64, beat: Beat) -> Option<usize>
-        ensures after { self.new ≡ record self.old { known = after_own_beat beat (place_of (λ a. sender == a) self.old.replicas) (after_upstream_beat beat (sender_among 0 self.old.senders sender) self.old.known) } }
+        ensures after { self.new ≡ record self.old {
+          known = after_own_beat beat (place_of (λ a. sender == a) self.old.replicas)
+              (after_upstream_beat beat (sender_among 0 self.old.senders sender) self.old.known);
+        } }
         ensures heard { result ≡ chosen_by (sender_among 0 self.old.senders sender) self.old.known }
     {
         let heard = self.note_upstream_beat(sender, beat);
@@ -184,7 +190,8 @@ impl Links {
 
     /// What a beat says of a port's replica. The answer is the port, where it reads that one.
     fn note_upstream_beat(&mut self, sender: u64, beat: Beat) -> Option<usize>
-        ensures after { self.new ≡ record self.old { known = after_upstream_beat beat (sender_among 0 self.old.senders sender) self.old.known } }
+        ensures after { self.new ≡ record self.old
+            { known = after_upstream_beat beat (sender_among 0 self.old.senders sender) self.old.known } }
         ensures heard { result ≡ chosen_by (sender_among 0 self.old.senders sender) self.old.known }
     {
         let (port, r) = self.sender(sender)?;
@@ -195,7 +202,10 @@ impl Links {
 
     /// What a beat says of a replica of the own fragment.
     fn note_own_beat(&mut self, sender: u64, beat: Beat)
-        ensures { self.new ≡ record self.old { known = after_own_beat beat (place_of (λ a. sender == a) self.old.replicas) self.old.known } }
+        ensures { self.new ≡ record self.old {
+          known = after_own_beat beat
+              (place_of (λ a. sender == a) self.old.replicas) self.old.known;
+        } }
     {
         if let Some(r) = self.replica(sender) {
             self.watches

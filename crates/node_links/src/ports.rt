@@ -17,7 +17,8 @@ pub(crate) fn new_ports(
     plan: &Plan,
     streams: &[StreamRef],
 ) -> Result<Vec<Upstream>, NoMemory>
-    requires { All (λ (s : StreamRef). (0 < length (senders_of plan.now s)) × (length (senders_of plan.now s) ≤ MOST_REPLICAS)) streams.now }
+    requires { All (λ (s : StreamRef). (0 < length (senders_of plan.now s))
+        × (length (senders_of plan.now s) ≤ MOST_REPLICAS)) streams.now }
     ensures { IfOk result (λ ports. ports.items ≡ map (λ (s : StreamRef). new_upstream (senders_of plan.now s)) streams.now) }
 {
     let mut ports = Vec::with_capacity(alloc, streams.len())?;

@@ -32,7 +32,15 @@ impl Model for Join {
 
     ghost Value = { JoinState };
 
-    ghost view = { λ j. record { within = j.within; keys = j.sides.keys; width = j.width; left = j.sides.left; right = j.sides.right; next = j.next; spent = j.spent } };
+    ghost view = { λ j. record {
+      within = j.within;
+      keys = j.sides.keys;
+      width = j.width;
+      left = j.sides.left;
+      right = j.sides.right;
+      next = j.next;
+      spent = j.spent;
+    } };
 
     ghost invariant = { λ j. IsKept (j.next * j.width) j.sides.left × IsKept (j.next * j.width) j.sides.right };
 }

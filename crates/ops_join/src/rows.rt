@@ -71,7 +71,8 @@ impl Sides {
         places: &mut BTreeSet<usize>,
     ) -> Result<(), NoMemory>
         ensures { OnOk result ((p : ℕ) → contains nat_cmp places.new p
-            ≡ (contains nat_cmp places.old p || has_place p (places_from (is_partner Left within self.now.keys right.now) 0 self.now.left))) }
+            ≡ (contains nat_cmp places.old p || has_place p
+            (places_from (is_partner Left within self.now.keys right.now) 0 self.now.left))) }
     {
         let partners = self.partners(alloc, within, End::Left, right, 0)?;
         for place in partners.as_slice() {
@@ -122,7 +123,8 @@ impl Sides {
         rows: &mut Vec<Tuple>,
     ) -> Result<(), NoMemory>
         requires { from ≤ length self.now.left }
-        ensures { OnOk result (rows.new.items ≡ rows.old.items ++ flat_map (pairs_with within self.now.keys self.now.right) (drop from self.now.left)) }
+        ensures { OnOk result (rows.new.items ≡ rows.old.items
+            ++ flat_map (pairs_with within self.now.keys self.now.right) (drop from self.now.left)) }
     {
         let left = self.left();
         for i in from..left.len() {

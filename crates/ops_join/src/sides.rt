@@ -123,7 +123,10 @@ impl Sides {
     pub fn forget(&mut self, within: u64, begin: u64)
         requires left { InOrder self.old.left }
         requires right { InOrder self.old.right }
-        ensures { self.new ≡ record self.old { left = kept_from within begin self.old.left; right = kept_from within begin self.old.right } }
+        ensures { self.new ≡ record self.old {
+          left = kept_from within begin self.old.left;
+          right = kept_from within begin self.old.right;
+        } }
     {
         self.left.forget(within, begin);
         self.right.forget(within, begin);

@@ -34,7 +34,16 @@ impl Model for Aggregate {
 
     ghost Value = { AggregateState };
 
-    ghost view = { λ a. record { size = a.shape.size; step = a.shape.step; group = a.shape.group; aggs = a.shape.aggs; width = a.width; cells = a.cells.entries; next = a.next; spent = a.spent } };
+    ghost view = { λ a. record {
+      size = a.shape.size;
+      step = a.shape.step;
+      group = a.shape.group;
+      aggs = a.shape.aggs;
+      width = a.width;
+      cells = a.cells.entries;
+      next = a.next;
+      spent = a.spent;
+    } };
 }
 
 impl Aggregate {

@@ -230,7 +230,8 @@ impl Shape {
         requires size { 0 < self.now.size }
         requires step { 0 < self.now.step }
         requires times { All (λ (x : Tagged). x.tuple.stime + 1 < 2 ^ 64) inputs.now }
-        ensures rows { IfOk result (λ rows. rows ≡ map (row_of self.now) (ended_cells self.now.size end (fed_cells self.now cells.old.entries inputs.now))) }
+        ensures rows { IfOk result (λ rows. rows ≡ map (row_of self.now)
+            (ended_cells self.now.size end (fed_cells self.now cells.old.entries inputs.now))) }
         ensures cells { OnOk result (cells.new.entries ≡ kept_cells self.now.size end (fed_cells self.now cells.old.entries inputs.now)) }
     {
         self.take_inputs(alloc, cells, inputs)?;

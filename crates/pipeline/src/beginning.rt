@@ -32,7 +32,8 @@ pub(crate) fn first_mill(
     requires sound { AreSoundFrags plan.now.frags }
     ensures held { IfOk result (λ k. k.keeper.held ≡ None) }
     ensures after { IfOk result (λ k. MillAfter k.keeper.state [] 0) }
-    ensures made { IfOk result (λ k. (f : FragSpec) → slice_get plan.now.frags frag ≡ Some f → IsMillOf f.ops plan.now.width k.keeper.state) }
+    ensures made { IfOk result (λ k. (f : FragSpec) → slice_get plan.now.frags frag ≡ Some f
+        → IsMillOf f.ops plan.now.width k.keeper.state) }
 {
     let mill = FragMill::new(alloc, plan, frag as u64)?;
     Ok(Keeper::new(mill))
@@ -41,7 +42,8 @@ pub(crate) fn first_mill(
 /// The output of a sender before the first tuple. Where it serves from the opening, each reader's session
 /// is open.
 pub(crate) fn first_output(alloc: Global, readers: usize, serves: bool) -> Result<SOutput, NoMemory>
-    ensures { IfOk result (λ o. o ≡ record (new_output readers 0 [] 0) { subs = replicate readers (if serves then opening_session else no_session) }) }
+    ensures { IfOk result (λ o. o ≡ record (new_output readers 0 [] 0)
+        { subs = replicate readers (if serves then opening_session else no_session) }) }
 {
     let mut output = SOutput::new(alloc, readers)?;
     if !serves {

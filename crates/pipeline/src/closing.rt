@@ -39,7 +39,8 @@ fn close_some(
     requires some { 0 < count }
     requires stands { (ops : List OpSpec) × (x : Inputs) × StandsForWork ops inputs.old keeper.old x × CanClose inputs.old.width x count }
     ensures setting { IfOk result (λ added. HasSameSetting inputs.old inputs.new) }
-    ensures closed { IfOk result (λ added. (ops : List OpSpec) → (x : Inputs) → StandsForWork ops inputs.old keeper.old x → CanClose inputs.old.width x count
+    ensures closed { IfOk result (λ added. (ops : List OpSpec) → (x : Inputs)
+        → StandsForWork ops inputs.old keeper.old x → CanClose inputs.old.width x count
         → HasClosed ops inputs.new keeper.new inputs.old.width x count added.items) }
 {
     hold(alloc, keeper)?;
@@ -61,7 +62,8 @@ pub(crate) fn close(
 ) -> Result<Vec<Tuple>, NoMemory>
     requires { (ops : List OpSpec) × (x : Inputs) × StandsForWork ops inputs.old keeper.old x × CanClose inputs.old.width x count }
     ensures setting { IfOk result (λ added. HasSameSetting inputs.old inputs.new) }
-    ensures closed { IfOk result (λ added. (ops : List OpSpec) → (x : Inputs) → StandsForWork ops inputs.old keeper.old x → CanClose inputs.old.width x count
+    ensures closed { IfOk result (λ added. (ops : List OpSpec) → (x : Inputs)
+        → StandsForWork ops inputs.old keeper.old x → CanClose inputs.old.width x count
         → HasClosed ops inputs.new keeper.new inputs.old.width x count added.items) }
 {
     if count == 0 {

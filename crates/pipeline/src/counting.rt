@@ -17,7 +17,8 @@ fn cursor_time(inputs: &SUnion) -> u128
 
 /// By port how many stable tuples lie below the cursor's bucket.
 pub(crate) fn done_counts(alloc: Global, inputs: &SUnion) -> Result<Vec<u64>, NoMemory>
-    ensures { IfOk result (λ counts. (x : Inputs) → StandsForInputs inputs.now x → AreInOrder x → counts.items ≡ map length (done_in inputs.now.width x)) }
+    ensures { IfOk result (λ counts. (x : Inputs) → StandsForInputs inputs.now x → AreInOrder x
+        → counts.items ≡ map length (done_in inputs.now.width x)) }
 {
     let time = cursor_time(inputs);
     let mut counts = Vec::with_capacity(alloc, inputs.ports())?;

@@ -25,8 +25,10 @@ fn run_ready(
 ) -> Result<Vec<Tuple>, NoMemory>
     requires { (ops : List OpSpec) × (x : Inputs) × StandsForWork ops inputs.now keeper.old x × AreReady inputs.now.width x count }
     ensures held { IfOk result (λ added. keeper.new.keeper.held ≡ keeper.old.keeper.held) }
-    ensures ran { IfOk result (λ added. (ops : List OpSpec) → (x : Inputs) → StandsForWork ops inputs.now keeper.old x → AreReady inputs.now.width x count
-        → HasRun ops inputs.now.width keeper.new.keeper.state (processed inputs.now.width x) (buckets_from inputs.now.width x x.cursor count) x.cursor added.items) }
+    ensures ran { IfOk result (λ added. (ops : List OpSpec) → (x : Inputs) → StandsForWork ops inputs.now keeper.old x
+        → AreReady inputs.now.width x count
+        → HasRun ops inputs.now.width keeper.new.keeper.state (processed inputs.now.width x)
+        (buckets_from inputs.now.width x x.cursor count) x.cursor added.items) }
 {
     let first = inputs.cursor();
     let mut added = Vec::new(alloc);
@@ -66,7 +68,8 @@ pub(crate) fn advance(
 ) -> Result<Vec<Tuple>, NoMemory>
     requires { (ops : List OpSpec) × (x : Inputs) × StandsForWork ops inputs.old keeper.old x × CanAdvance inputs.old.width x count }
     ensures setting { IfOk result (λ added. HasSameSetting inputs.old inputs.new) }
-    ensures advanced { IfOk result (λ added. (ops : List OpSpec) → (x : Inputs) → StandsForWork ops inputs.old keeper.old x → CanAdvance inputs.old.width x count
+    ensures advanced { IfOk result (λ added. (ops : List OpSpec) → (x : Inputs)
+        → StandsForWork ops inputs.old keeper.old x → CanAdvance inputs.old.width x count
         → HasAdvanced ops inputs.new keeper.new inputs.old.width x count added.items) }
 {
     if count == 0 {

@@ -109,7 +109,8 @@ fn group_reads_below(columns: u64, group: Option<u64>) -> bool
 
 /// Whether an aggregate reads the first so many columns alone.
 pub fn aggregate_reads_below(columns: u64, group: Option<u64>, aggs: &[Agg]) -> bool
-    ensures { result ≡ (nat_lt (unwrap_or (option_map (λ c. c + 1) group) 0) (columns + 1) && list_all (reason.agg_reads_below columns) aggs.now) }
+    ensures { result ≡ (nat_lt (unwrap_or (option_map (λ c. c + 1) group) 0) (columns + 1) && list_all
+        (reason.agg_reads_below columns) aggs.now) }
 {
     group_reads_below(columns, group) && all_read_below(columns, aggs)
 }

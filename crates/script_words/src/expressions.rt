@@ -75,7 +75,8 @@ fn apply(alloc: Global, stack: &mut Vec<Expr>, symbol: Symbol) -> Result<(), NoM
 
 /// The last expression and the one before it. Where there are fewer than two, none is left.
 fn pop_two(stack: &mut Vec<Expr>) -> Option<(Expr, Expr)>
-    ensures { MatchOption result ((stack.new.items ≡ []) × (length stack.old.items < 2)) (λ x. stack.old.items ≡ stack.new.items ++ x.1 ∷ x.0 ∷ []) }
+    ensures { MatchOption result ((stack.new.items ≡ [])
+        × (length stack.old.items < 2)) (λ x. stack.old.items ≡ stack.new.items ++ x.1 ∷ x.0 ∷ []) }
 {
     let d = stack.pop()?;
     let e = stack.pop()?;

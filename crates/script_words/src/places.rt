@@ -119,8 +119,10 @@ const UNION: [Place; 9] = [
 /// The least reason against the words behind a keyword.
 pub fn fault_of_words(limits: &Limits, keyword: Keyword, words: Words<'_>) -> Option<Reason>
     ensures { (d : Draft) → HasLimits d limits.now → result ≡ first_of_tests
-        ((has_foreign_word d keyword (words_left words.entry), Reason.ForeignWord) ∷ (has_wrong_length d keyword (words_left words.entry), Reason.WrongCount)
-        ∷ (lacks_number d keyword (words_left words.entry), Reason.NoNumber) ∷ (is_past_range d keyword (words_left words.entry), Reason.OutOfRange) ∷ []) }
+        ((has_foreign_word d keyword (words_left words.entry), Reason.ForeignWord) ∷
+        (has_wrong_length d keyword (words_left words.entry), Reason.WrongCount)
+        ∷ (lacks_number d keyword (words_left words.entry), Reason.NoNumber) ∷
+        (is_past_range d keyword (words_left words.entry), Reason.OutOfRange) ∷ []) }
 {
     fault_by(limits, keyword, words)
 }

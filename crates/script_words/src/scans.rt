@@ -42,7 +42,8 @@ impl Open {
     fn add(&mut self, count: u64, repeated: Repeated)
         requires alike { (self.old.count ≡ 0) ⊎ ((count ≡ 0) ⊎ (repeated ≡ self.old.repeated)) }
         requires room { self.old.count + count < 2 ^ 128 }
-        ensures opened { (places : List place.Place) → open_places places self.new ≡ replicate count (repeated_place repeated) ++ open_places places self.old }
+        ensures opened { (places : List place.Place)
+            → open_places places self.new ≡ replicate count (repeated_place repeated) ++ open_places places self.old }
         ensures count { self.new.count ≡ self.old.count + count }
     {
         if count > 0 {
@@ -80,7 +81,12 @@ struct Flaws {
 impl Flaws {
     /// With what a further word is.
     fn and(self, seen: &Seen) -> Flaws
-        ensures { result ≡ record { foreign = self.foreign || seen.now.foreign; no_number = self.no_number || seen.now.no_number; bad = self.bad || seen.now.bad } }
+        ensures { result ≡ record {
+          foreign = self.foreign || seen.now.foreign;
+          no_number = self.no_number
+              || seen.now.no_number;
+          bad = self.bad || seen.now.bad;
+        } }
     {
         Flaws {
             foreign: self.foreign || seen.foreign,
@@ -91,7 +97,8 @@ impl Flaws {
 
     /// The least reason, with whether there are too few or too many words.
     fn fault(self, wrong_length: bool) -> Option<Reason>
-        ensures { result ≡ first_of_tests ((self.foreign, Reason.ForeignWord) ∷ (wrong_length, Reason.WrongCount) ∷ (self.no_number, Reason.NoNumber) ∷ (self.bad, Reason.OutOfRange) ∷ []) }
+        ensures { result ≡ first_of_tests ((self.foreign, Reason.ForeignWord) ∷ (wrong_length, Reason.WrongCount) ∷
+            (self.no_number, Reason.NoNumber) ∷ (self.bad, Reason.OutOfRange) ∷ []) }
     {
         if self.foreign {
             Some(Reason::ForeignWord)

@@ -98,7 +98,8 @@ pub(crate) fn beats(
     sessions: &[Sub],
 ) -> Result<Vec<Out>, AllocError>
     requires { length sessions.now ≡ length readers.now }
-    ensures { IfOk result (λ outs. mails outs.items ≡ map (λ (y : ℕ × Sub). mail y.0 (source_beat (tally_of y.1))) (zip readers.now sessions.now)) }
+    ensures { IfOk result (λ outs. mails outs.items ≡ map (λ (y : ℕ
+        × Sub). mail y.0 (source_beat (tally_of y.1))) (zip readers.now sessions.now)) }
 {
     let mut outs = Vec::with_capacity(alloc, readers.len())?;
     for (reader, to) in readers.iter().enumerate() {

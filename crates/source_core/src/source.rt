@@ -111,8 +111,10 @@ impl SourceNode {
         message: &Message,
     ) -> Result<Vec<Out>, NoMemory>
         requires { IsSourceOf plan.now self.old }
-        ensures sends { IfOk result (λ outs. mails outs.items ≡ (source_message plan.now self.old.number sender message.now self.old.state).sends) }
-        ensures after { OnOk result (self.new ≡ after_step self.old (source_message plan.now self.old.number sender message.now self.old.state)) }
+        ensures sends { IfOk result (λ outs. mails outs.items ≡
+            (source_message plan.now self.old.number sender message.now self.old.state).sends) }
+        ensures after { OnOk result (self.new ≡ after_step self.old
+            (source_message plan.now self.old.number sender message.now self.old.state)) }
         ensures err { OnErr result (self.new ≡ self.old) }
     {
         let Message::Subscribe(asked) = message else {
@@ -127,8 +129,10 @@ impl SourceNode {
 
     /// The clock goes on, and each reader is told its session.
     pub fn tick(&mut self, alloc: Global, now: u64) -> Result<Vec<Out>, NoMemory>
-        ensures sends { IfOk result (λ outs. (plan : Plan) → IsSourceOf plan self.old → mails outs.items ≡ (source_tick_step plan self.old.number now self.old.state).sends) }
-        ensures after { OnOk result ((plan : Plan) → IsSourceOf plan self.old → self.new ≡ after_step self.old (source_tick_step plan self.old.number now self.old.state)) }
+        ensures sends { IfOk result (λ outs. (plan : Plan) → IsSourceOf plan self.old
+            → mails outs.items ≡ (source_tick_step plan self.old.number now self.old.state).sends) }
+        ensures after { OnOk result ((plan : Plan) → IsSourceOf plan self.old
+            → self.new ≡ after_step self.old (source_tick_step plan self.old.number now self.old.state)) }
         ensures err { OnErr result (self.new ≡ self.old) }
     {
         let outs = beats(alloc, self.readers.as_slice(), self.sessions.as_slice())?;

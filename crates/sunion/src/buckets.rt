@@ -40,7 +40,8 @@ fn push_ordered(
     from: u64,
     upto: u64,
 ) -> Result<(), NoMemory>
-    ensures { OnOk result (InOrder tuples.now.items → tagged.new.items ≡ tagged.old.items ++ map (tag port) (between from upto tuples.now.items)) }
+    ensures { OnOk result (InOrder tuples.now.items → tagged.new.items ≡ tagged.old.items
+        ++ map (tag port) (between from upto tuples.now.items)) }
 {
     let mut place = first_from(tuples, from);
     tagged.reserve(first_from(tuples, upto).saturating_sub(place))?;

@@ -207,7 +207,8 @@ impl SUnion {
     /// Closes the next bucket as it stands, and gives it. Want of memory changes nothing.
     pub fn close(&mut self, alloc: Global) -> Result<Vec<Tagged>, NoMemory>
         requires range { (self.old.union.cursor + self.old.union.closed + 1) * self.old.width < 2 ^ 64 }
-        ensures bucket { IfOk result (λ xs. (x : Inputs) → StandsForInputs self.old x → AreInOrder x → xs.items ≡ bucket_in self.old.width x (frontier_of x)) }
+        ensures bucket { IfOk result (λ xs. (x : Inputs) → StandsForInputs self.old x → AreInOrder x
+            → xs.items ≡ bucket_in self.old.width x (frontier_of x)) }
         ensures after { OnOk result (self.new ≡ with_closed (self.old.union.closed + 1) self.old) }
         ensures err { OnErr result (self.new ≡ self.old) }
     {
@@ -223,7 +224,8 @@ impl SUnion {
         requires none_closed { 0 < count → self.old.union.closed ≡ 0 }
         ensures fixed { (self.new.width ≡ self.old.width) × (self.new.buckets ≡ self.old.buckets) × (self.new.delay ≡ self.old.delay) }
         ensures after { (x : Inputs) → StandsForInputs self.old x → StandsForInputs self.new (after_advancing count x) }
-        ensures forgets { (x : Inputs) → StandsForInputs self.old x → AreInOrder x → ForgetsBelow ((self.old.union.cursor + count) * self.old.width) self.new.union.inlets }
+        ensures forgets { (x : Inputs) → StandsForInputs self.old x → AreInOrder x
+            → ForgetsBelow ((self.old.union.cursor + count) * self.old.width) self.new.union.inlets }
     {
         self.cursor += count;
         drop_places(&mut self.clocks, count);

@@ -119,7 +119,9 @@ fn output(alloc: Global) -> Result<SOutput, NoMemory>
 }
 
 fn pipeline(alloc: Global) -> Result<Pipeline, Fail>
-    ensures { IfOk result (λ p. (p.union.width ≡ 10) × ((ops : List OpSpec) × (x : Inputs) × (o : Outputs) × CanMill ops p x o 1 × (x.cursor ≡ 0) × (complete_upto_in 10 x ≡ 1))) }
+    ensures { IfOk result (λ p. (p.union.width ≡ 10)
+        × ((ops : List OpSpec) × (x : Inputs) × (o : Outputs) × CanMill ops p x o 1 × (x.cursor ≡ 0)
+        × (complete_upto_in 10 x ≡ 1))) }
 {
     let inputs = inputs(alloc)?;
     let keeper = keeper(alloc)?;

@@ -52,7 +52,8 @@ fn happen(alloc: Global, plan: &Plan, parts: &mut WorldParts, e: Event) -> Resul
     requires plan { CanRun plan.now }
     requires some { IsSomeWorld plan.now parts.old }
     ensures ok { OnOk result (Happened plan.now parts.old parts.new e) }
-    ensures long { (envelopes items : ℕ) → result ≡ Err (part_fault.TooLong envelopes items) → WouldPass plan.now parts.old e envelopes items }
+    ensures long { (envelopes items : ℕ) → result ≡ Err (part_fault.TooLong envelopes items)
+        → WouldPass plan.now parts.old e envelopes items }
 {
     match e {
         Event::Phase(number) => parts.open_phase(plan, number),
@@ -89,7 +90,8 @@ impl World {
     pub fn apply(&mut self, alloc: Global, e: Event) -> Result<(), ApplyFault>
         ensures ok { OnOk result (self.new ≡ record self.old { events = self.old.events ++ e ∷ [] }) }
         ensures within { OnOk result (passes_limit (world_of self.old) e ≡ false) }
-        ensures long { (envelopes items : ℕ) → result ≡ Err (fault.TooLong envelopes items) → WouldReach (world_of self.old) e envelopes items }
+        ensures long { (envelopes items : ℕ) → result ≡ Err (fault.TooLong envelopes items)
+            → WouldReach (world_of self.old) e envelopes items }
         ensures err { OnErr result (self.new ≡ record self.old { spent = true }) }
         ensures spent { result ≡ Err fault.Spent ↔ self.old.spent ≡ true }
     {

@@ -110,7 +110,8 @@ fn push_replicas(
 ) -> Result<(), NoMemory>
     requires plan { CanRun plan.now }
     requires frag { frag < length plan.now.frags }
-    ensures { OnOk result ((before : List (ℕ × ℕ)) → AreNewSlots plan.now before nodes.old.items → AreNewSlots plan.now (before ++ replicas_below frag (nth no_fragment plan.now.frags frag).replicas) nodes.new.items) }
+    ensures { OnOk result ((before : List (ℕ × ℕ)) → AreNewSlots plan.now before nodes.old.items
+        → AreNewSlots plan.now (before ++ replicas_below frag (nth no_fragment plan.now.frags frag).replicas) nodes.new.items) }
 {
     for replica in 0..plan.frags.as_slice()[frag].replicas as usize {
         nodes.push(new_slot(alloc, plan, frag, replica)?)?;

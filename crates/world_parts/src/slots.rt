@@ -90,7 +90,8 @@ impl Slot {
         inc: u64,
     ) -> Result<(), NoMemory>
         requires { IsReplica (home_of plan.now (frag, replica)) }
-        ensures { IfOk result (λ _. (x : PlainSlot) → StandsForSlot (home_of plan.now (frag, replica)) self.old x → StandsForSlot (home_of plan.now (frag, replica)) self.new (restart_slot (home_of plan.now (frag, replica)) inc x)) }
+        ensures { IfOk result (λ _. (x : PlainSlot) → StandsForSlot (home_of plan.now (frag, replica)) self.old x
+            → StandsForSlot (home_of plan.now (frag, replica)) self.new (restart_slot (home_of plan.now (frag, replica)) inc x)) }
     {
         if self.node.is_none() && self.last_inc < inc {
             let node = Node::restarted(alloc, plan, frag as usize, replica as usize, inc)?;
@@ -103,7 +104,8 @@ impl Slot {
     /// The node processes so many ready buckets, where it is up and may.
     pub(crate) fn mill(&mut self, alloc: Global, count: u64) -> Result<Vec<Mail>, StepFault>
         requires { (home : Home) × (x : PlainSlot) × CanStep home self.old x }
-        ensures { IfOk result (λ mails. (home : Home) → (x : PlainSlot) → CanStep home self.old x → IsStepped home self.new mails.items (slot_mills home count x)) }
+        ensures { IfOk result (λ mails. (home : Home) → (x : PlainSlot) → CanStep home self.old x
+            → IsStepped home self.new mails.items (slot_mills home count x)) }
     {
         let Some(node) = self.node.as_mut() else {
             return Ok(Vec::new(alloc));
@@ -123,7 +125,8 @@ impl Slot {
         packet: &Packet,
     ) -> Result<Vec<Mail>, StepFault>
         requires { (home : Home) × (x : PlainSlot) × (q : PlainPacket) × CanCome sender home self.old x packet.now q }
-        ensures { IfOk result (λ mails. (home : Home) → (x : PlainSlot) → (q : PlainPacket) → CanCome sender home self.old x packet.now q → IsStepped home self.new mails.items (slot_takes home sender q x)) }
+        ensures { IfOk result (λ mails. (home : Home) → (x : PlainSlot) → (q : PlainPacket)
+            → CanCome sender home self.old x packet.now q → IsStepped home self.new mails.items (slot_takes home sender q x)) }
     {
         let Some(node) = self.node.as_mut() else {
             return Ok(Vec::new(alloc));
@@ -135,7 +138,8 @@ impl Slot {
     /// The node ticks, where it is up and its clock does not fall.
     pub(crate) fn tick(&mut self, alloc: Global, now: u64) -> Result<Vec<Mail>, StepFault>
         requires { (home : Home) × (x : PlainSlot) × CanStep home self.old x }
-        ensures { IfOk result (λ mails. (home : Home) → (x : PlainSlot) → CanStep home self.old x → IsStepped home self.new mails.items (slot_ticks home now x)) }
+        ensures { IfOk result (λ mails. (home : Home) → (x : PlainSlot) → CanStep home self.old x
+            → IsStepped home self.new mails.items (slot_ticks home now x)) }
     {
         let Some(node) = self.node.as_mut() else {
             return Ok(Vec::new(alloc));
@@ -151,7 +155,8 @@ impl Slot {
     /// exactly where it is down, or none is ready.
     pub(crate) fn order(&self, alloc: Global) -> Result<Option<Order<FragMill>>, NoMemory>
         requires { (home : Home) × (x : PlainSlot) × CanStep home self.now x }
-        ensures none { IfOk result (λ told. IsNone told → (home : Home) (x : PlainSlot) → CanStep home self.now x → ready_in home x.node ≡ 0) }
+        ensures none { IfOk result (λ told. IsNone told → (home : Home) (x : PlainSlot) → CanStep home self.now x
+            → ready_in home x.node ≡ 0) }
         ensures some { IfOk result (λ told. IfSome told (IsSlotOrder self.now)) }
     {
         let Some(node) = self.node.as_ref() else {
@@ -175,9 +180,11 @@ impl Slot {
         milled: Milled<FragMill>,
     ) -> Result<Vec<Mail>, CommitFault>
         requires { (home : Home) × (x : PlainSlot) × CanStep home self.old x }
-        ensures ok { IfOk result (λ mails. (home : Home) → (x : PlainSlot) → CanStep home self.old x → IsStepped home self.new mails.items (slot_mills home (length milled.order.buckets) x)) }
+        ensures ok { IfOk result (λ mails. (home : Home) → (x : PlainSlot) → CanStep home self.old x
+            → IsStepped home self.new mails.items (slot_mills home (length milled.order.buckets) x)) }
         ensures fits { OnOk result (IsUpAt self.old.node milled.order) }
-        ensures stale { (had needed : Point) → result ≡ Err (fault.Stale had needed) → (self.new ≡ self.old) × IsSlotStale self.old milled.order had needed }
+        ensures stale { (had needed : Point) → result ≡ Err (fault.Stale had needed) → (self.new ≡ self.old)
+            × IsSlotStale self.old milled.order had needed }
     {
         let Some(node) = self.node.as_mut() else {
             return Err(CommitFault::Stale {

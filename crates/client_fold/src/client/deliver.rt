@@ -57,7 +57,8 @@ impl Client {
         index: u64,
         items: &Shared<Item>,
     ) -> Result<(), NoMemory>
-        ensures ok { OnOk result (Follows (λ plan c x. client_message r (message_of.Batch sess index items.now) (client_marks_ended x)) self.old self.new) }
+        ensures ok { OnOk result (Follows (λ plan c x. client_message r (message_of.Batch sess index items.now)
+            (client_marks_ended x)) self.old self.new) }
         ensures err { OnErr result (self.new ≡ self.old) }
     {
         if self.upstream.chosen() != r {

@@ -30,7 +30,8 @@ impl Node {
     /// To each sender of each port: the number of tuples below the cursor's bucket.
     fn acks(&self, alloc: Global) -> Result<Vec<Mail>, NoMemory>
         requires { IsSound self.now }
-        ensures { IfOk result (λ mails. (home : Home) (p : PlainNode) → StandsForNode home self.now p → IsFit home p → AreMails home mails.items (in_actor_order (acks_from home p p.ports (streams_of home)))) }
+        ensures { IfOk result (λ mails. (home : Home) (p : PlainNode) → StandsForNode home self.now p → IsFit home p
+            → AreMails home mails.items (in_actor_order (acks_from home p p.ports (streams_of home)))) }
     {
         let inc = self.links.inc();
         let mut mails = Vec::new(alloc);
@@ -46,7 +47,8 @@ impl Node {
     fn done(&self, port: usize) -> u64
         requires port { port < length self.now.links.known.upstreams }
         requires sound { IsSound self.now }
-        ensures { (home : Home) (p : PlainNode) → StandsForNode home self.now p → IsFit home p → result ≡ done_at home p (nth no_port p.ports port) }
+        ensures { (home : Home) (p : PlainNode) → StandsForNode home self.now p → IsFit home p
+            → result ≡ done_at home p (nth no_port p.ports port) }
     {
         if self.recovering {
             return 0;
@@ -57,7 +59,8 @@ impl Node {
     /// What the node tells of itself: to the other replicas, and to each reader with its session.
     fn beats(&self, alloc: Global) -> Result<Vec<Mail>, NoMemory>
         requires { IsSound self.now }
-        ensures { IfOk result (λ mails. (home : Home) (p : PlainNode) → StandsForNode home self.now p → IsFit home p → AreMails home mails.items (in_actor_order (beats home p))) }
+        ensures { IfOk result (λ mails. (home : Home) (p : PlainNode) → StandsForNode home self.now p → IsFit home p
+            → AreMails home mails.items (in_actor_order (beats home p))) }
     {
         let mut mails = Vec::new(alloc);
         for peer in self.links.peers() {

@@ -78,7 +78,8 @@ impl Node {
         count: u64,
     ) -> Result<Vec<Mail>, NoMemory>
         requires can { CanMillNode count self.old }
-        requires made { (home : Home) → (p : PlainNode) → CanMill count home self.old p → CanPut (spec_of home).ops self.old.path (inputs_of p) (outputs_of p) count after outputs }
+        requires made { (home : Home) → (p : PlainNode) → CanMill count home self.old p
+            → CanPut (spec_of home).ops self.old.path (inputs_of p) (outputs_of p) count after outputs }
         ensures spent { self.new.spent ≡ self.old.spent }
         ensures after { IfOk result (λ mails. MillSteps count self.old self.new mails.items) }
     {
@@ -93,7 +94,8 @@ impl Node {
     fn fits(&self, alloc: Global, order: &Order<FragMill>) -> Result<bool, NoMemory>
         requires sound { IsSound self.now }
         requires some { 1 ≤ length order.now.buckets }
-        ensures { IfOk result (λ fits. (home : Home) (p : PlainNode) → StandsForNode home self.now p → IsFit home p → (IsTrue fits ↔ Fits home self.now p order.now)) }
+        ensures { IfOk result (λ fits. (home : Home) (p : PlainNode) → StandsForNode home self.now p → IsFit home p
+            → (IsTrue fits ↔ Fits home self.now p order.now)) }
     {
         if self.recovering {
             return Ok(false);
@@ -106,7 +108,8 @@ impl Node {
     fn point(&self, alloc: Global, order: &Order<FragMill>) -> Result<Point, NoMemory>
         requires sound { IsSound self.now }
         requires some { 1 ≤ length order.now.buckets }
-        ensures { IfOk result (λ had. (home : Home) (p : PlainNode) → StandsForNode home self.now p → IsFit home p → IsBeside home self.now p order.now had) }
+        ensures { IfOk result (λ had. (home : Home) (p : PlainNode) → StandsForNode home self.now p → IsFit home p
+            → IsBeside home self.now p order.now had) }
     {
         let fits = self.fits(alloc, order)?;
         Ok(Point {

@@ -28,7 +28,8 @@ impl Node {
     ) -> Result<Vec<Mail>, NoMemory>
         requires { (home : Home) × (p : PlainNode) × (q : PlainPacket) × CanTake sender self.old packet.now home p q }
         ensures spent { self.new.spent ≡ self.old.spent }
-        ensures taken { IfOk result (λ mails. (home : Home) → (p : PlainNode) → (q : PlainPacket) → CanTake sender self.old packet.now home p q → IsTaken sender self.new mails.items home p q) }
+        ensures taken { IfOk result (λ mails. (home : Home) → (p : PlainNode) → (q : PlainPacket)
+            → CanTake sender self.old packet.now home p q → IsTaken sender self.new mails.items home p q) }
     {
         self.end_marks();
         match packet {
@@ -58,7 +59,9 @@ impl Node {
     ) -> Result<Vec<Mail>, NoMemory>
         requires { (home : Home) × (p : PlainNode) × CanTakeMessage sender self.old message.now home p }
         ensures spent { self.new.spent ≡ self.old.spent }
-        ensures taken { IfOk result (λ mails. (home : Home) → (p : PlainNode) → CanTakeMessage sender self.old message.now home p → IsTakenAs self.new mails.items home (on_message home sender message.now p)) }
+        ensures taken { IfOk result (λ mails. (home : Home) → (p : PlainNode)
+            → CanTakeMessage sender self.old message.now home p
+            → IsTakenAs self.new mails.items home (on_message home sender message.now p)) }
     {
         match message {
             Message::Batch(sess, index, items) => {
@@ -88,7 +91,8 @@ impl Node {
     ) -> Result<(), NoMemory>
         requires { (home : Home) × (p : PlainNode) × CanTakeMessage sender self.old (message_of.Batch sess index items.now) home p }
         ensures spent { self.new.spent ≡ self.old.spent }
-        ensures taken { OnOk result ((home : Home) → (p : PlainNode) → CanTakeMessage sender self.old (message_of.Batch sess index items.now) home p
+        ensures taken { OnOk result ((home : Home) → (p : PlainNode)
+            → CanTakeMessage sender self.old (message_of.Batch sess index items.now) home p
             → StandsForNode home self.new (on_batch home sess index items.now (sender_at home.plan (streams_of home) sender) p)) }
     {
         let Some((port, r)) = self.links.sender(sender) else {
@@ -111,7 +115,8 @@ impl Node {
     ) -> Result<Vec<Mail>, NoMemory>
         requires { IsSound self.old }
         ensures spent { self.new.spent ≡ self.old.spent }
-        ensures after { IfOk result (λ mails. Steps (unless_recovering (λ home p. on_subscribe home asked (reader_place home sender) p)) self.old self.new mails.items) }
+        ensures after { IfOk result (λ mails. Steps
+            (unless_recovering (λ home p. on_subscribe home asked (reader_place home sender) p)) self.old self.new mails.items) }
     {
         if self.recovering {
             return Ok(Vec::new(alloc));
@@ -135,7 +140,8 @@ impl Node {
     ) -> Result<(), NoMemory>
         requires { IsSound self.old }
         ensures spent { self.new.spent ≡ self.old.spent }
-        ensures after { OnOk result (Follows (λ home p. on_truncation home sess base (sender_at home.plan (streams_of home) sender) p) self.old self.new) }
+        ensures after { OnOk result (Follows (λ home p. on_truncation home sess base
+            (sender_at home.plan (streams_of home) sender) p) self.old self.new) }
     {
         let Some((port, r)) = self.links.sender(sender) else {
             return Ok(());
@@ -153,7 +159,8 @@ impl Node {
     fn on_beat(&mut self, sender: u64, beat: Beat)
         requires { IsSound self.old }
         ensures spent { self.new.spent ≡ self.old.spent }
-        ensures after { Follows (λ home p. on_peer_beat beat (replica_number home sender) (on_upstream_beat beat (sender_at home.plan (streams_of home) sender) p)) self.old self.new }
+        ensures after { Follows (λ home p. on_peer_beat beat (replica_number home sender)
+            (on_upstream_beat beat (sender_at home.plan (streams_of home) sender) p)) self.old self.new }
     {
         if let Some(port) = self.links.on_beat(sender, beat) {
             self.path.heard(port, beat.tally);
@@ -164,7 +171,8 @@ impl Node {
     fn on_ack(&mut self, sender: u64, inc: u64, count: u64)
         requires { IsSound self.old }
         ensures spent { self.new.spent ≡ self.old.spent }
-        ensures after { Follows (λ home p. if p.recovering then p else on_ack home inc count (reader_place home sender) p) self.old self.new }
+        ensures after { Follows (λ home p. if p.recovering then p else on_ack home inc count
+            (reader_place home sender) p) self.old self.new }
     {
         if self.recovering {
             return;
@@ -184,7 +192,8 @@ impl Node {
     ) -> Result<Vec<Mail>, NoMemory>
         requires { IsSound self.old }
         ensures spent { self.new.spent ≡ self.old.spent }
-        ensures after { IfOk result (λ mails. Steps (λ home p. on_ask home inc ask (replica_number home sender) p) self.old self.new mails.items) }
+        ensures after { IfOk result (λ mails. Steps
+            (λ home p. on_ask home inc ask (replica_number home sender) p) self.old self.new mails.items) }
     {
         let Some(r) = self.links.replica(sender) else {
             return Ok(Vec::new(alloc));
@@ -218,7 +227,8 @@ impl Node {
     ) -> Result<Vec<Mail>, NoMemory>
         requires { IsSound self.old }
         ensures spent { self.new.spent ≡ self.old.spent }
-        ensures after { IfOk result (λ mails. Steps (unless_recovering (λ home p. on_snap_ask home sender inc number p)) self.old self.new mails.items) }
+        ensures after { IfOk result (λ mails. Steps
+            (unless_recovering (λ home p. on_snap_ask home sender inc number p)) self.old self.new mails.items) }
     {
         if self.recovering {
             return Ok(Vec::new(alloc));
@@ -240,7 +250,8 @@ impl Node {
     ) -> Result<(), NoMemory>
         requires { (home : Home) × (p : PlainNode) × (s : Snap) × CanAdopt self.old snapshot.now home p s }
         ensures spent { self.new.spent ≡ self.old.spent }
-        ensures after { OnOk result ((home : Home) → (p : PlainNode) → (s : Snap) → CanAdopt self.old snapshot.now home p s → StandsForNode home self.new (on_snap home inc number s p)) }
+        ensures after { OnOk result ((home : Home) → (p : PlainNode) → (s : Snap)
+            → CanAdopt self.old snapshot.now home p s → StandsForNode home self.new (on_snap home inc number s p)) }
     {
         if self.recovering && inc == self.links.inc() && number == self.links.tries() {
             self.go_on_from(alloc, snapshot)?;

@@ -44,7 +44,8 @@ impl Node {
     /// A snapshot of a node that does not recover.
     pub fn snapshot(&self, alloc: Global) -> Result<Snapshot, StepFault>
         requires { self.now.spent ≡ false → IsSound self.now }
-        ensures snapshot { IfOk result (λ s. (home : Home) (p : PlainNode) → StandsForNode home self.now p → IsFit home p → StandsForSnapshot (spec_of home).ops home.plan.width s (snapshot home p)) }
+        ensures snapshot { IfOk result (λ s. (home : Home) (p : PlainNode) → StandsForNode home self.now p
+            → IsFit home p → StandsForSnapshot (spec_of home).ops home.plan.width s (snapshot home p)) }
         ensures spent { result ≡ Err fault.Spent ↔ self.now.spent ≡ true }
     {
         if self.spent {
@@ -58,7 +59,8 @@ impl Node {
 
     /// What a reader that holds nothing tentative is sent first, where it asks for all that is kept.
     pub fn view(&self, alloc: Global) -> Result<Items, StepFault>
-        ensures view { IfOk result (λ items. (home : Home) (p : PlainNode) → StandsForNode home self.now p → items ≡ view_items (shown home p)) }
+        ensures view { IfOk result (λ items. (home : Home) (p : PlainNode) → StandsForNode home self.now p
+            → items ≡ view_items (shown home p)) }
         ensures spent { result ≡ Err fault.Spent ↔ self.now.spent ≡ true }
     {
         if self.spent {
@@ -74,7 +76,8 @@ impl Node {
     pub fn adopt(&mut self, alloc: Global, snapshot: &Snapshot) -> Result<(), StepFault>
         requires recovering { self.old.recovering ≡ true }
         requires can { self.old.spent ≡ false → (home : Home) × (p : PlainNode) × (s : Snap) × CanAdopt self.old snapshot.now home p s }
-        ensures after { OnOk result ((home : Home) → (p : PlainNode) → (s : Snap) → CanAdopt self.old snapshot.now home p s → StandsForNode home self.new (after_adoption home s p)) }
+        ensures after { OnOk result ((home : Home) → (p : PlainNode) → (s : Snap)
+            → CanAdopt self.old snapshot.now home p s → StandsForNode home self.new (after_adoption home s p)) }
         ensures spent { result ≡ Err fault.Spent ↔ self.old.spent ≡ true }
         ensures stays { IsTrue self.new.spent ↔ IsTrue (is_err result) }
     {

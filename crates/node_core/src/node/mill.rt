@@ -16,7 +16,8 @@ impl Node {
     /// Whether these are the last corrections: the node reconciles, and no more buckets are ready.
     pub(crate) fn is_last(&self, count: u64) -> bool
         requires { 1 ≤ count }
-        ensures { (home : Home) (p : PlainNode) → CanMill count home self.now p → result ≡ (is_stabilization p.state && ready home (after_stable_buckets home count p) == 0) }
+        ensures { (home : Home) (p : PlainNode) → CanMill count home self.now p
+            → result ≡ (is_stabilization p.state && ready home (after_stable_buckets home count p) == 0) }
     {
         self.state == NodeState::Stabilization && self.path.ready() == count
     }

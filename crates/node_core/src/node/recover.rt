@@ -47,7 +47,8 @@ impl Node {
         requires recovering { self.old.recovering ≡ true }
         requires can { (home : Home) × (p : PlainNode) × (s : Snap) × CanAdopt self.old snapshot.now home p s }
         ensures spent { self.new.spent ≡ self.old.spent }
-        ensures after { OnOk result ((home : Home) → (p : PlainNode) → (s : Snap) → CanAdopt self.old snapshot.now home p s → StandsForNode home self.new (after_adoption home s p)) }
+        ensures after { OnOk result ((home : Home) → (p : PlainNode) → (s : Snap)
+            → CanAdopt self.old snapshot.now home p s → StandsForNode home self.new (after_adoption home s p)) }
     {
         self.path.adopt(alloc, snapshot)?;
         self.links.forget_sessions();

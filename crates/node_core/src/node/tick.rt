@@ -103,7 +103,8 @@ impl Node {
 
     /// Whether the cursor's bucket is complete. Without a port every bucket is.
     fn cursor_is_complete(&self) -> bool
-        ensures { (home : Home) (p : PlainNode) → StandsForNode home self.now p → result ≡ is_complete home.plan.width (held_by p) p.cursor }
+        ensures { (home : Home) (p : PlainNode) → StandsForNode home self.now p
+            → result ≡ is_complete home.plan.width (held_by p) p.cursor }
     {
         if self.links.ports() == 0 {
             return true;

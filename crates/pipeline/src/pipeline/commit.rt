@@ -47,7 +47,8 @@ impl Pipeline {
     ) -> Result<Sends, NoMemory>
         requires { (ops : List OpSpec) × (x : Inputs) × (o : Outputs) × CanPut ops self.old x o count after outputs }
         ensures fixed { IfOk result (λ sends. IsSetAs self.old self.new) }
-        ensures milled { IfOk result (λ sends. (ops : List OpSpec) → (x : Inputs) → (o : Outputs) → CanPut ops self.old x o count after outputs
+        ensures milled { IfOk result (λ sends. (ops : List OpSpec) → (x : Inputs) → (o : Outputs)
+            → CanPut ops self.old x o count after outputs
             → IsMilled ops self.old self.new x o count done sends.items) }
     {
         self.keeper.replace(after);

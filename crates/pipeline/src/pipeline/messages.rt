@@ -105,7 +105,8 @@ impl Pipeline {
         requires inside { reader < length self.old.output.subs }
         ensures fixed { IsSetAs self.old self.new }
         ensures stands { (ops : List OpSpec) → (x : Inputs) → (o : Outputs) → StandsForData ops self.old x o
-            → StandsForData ops self.new x (outputs_at (length (stream_at ops self.old x).stable) (record o { acks = changed reader (after_ack inc count) o.acks })) }
+            → StandsForData ops self.new x (outputs_at (length (stream_at ops self.old x).stable)
+            (record o { acks = changed reader (after_ack inc count) o.acks })) }
     {
         self.output.ack(reader, inc, count);
     }

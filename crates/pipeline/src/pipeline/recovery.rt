@@ -127,7 +127,8 @@ impl Pipeline {
         requires ports { length snapshot.now.counts ≡ length self.old.union.union.inlets }
         requires range { snapshot.now.cursor * self.old.union.width < 2 ^ 64 }
         ensures fixed { OnOk result (IsSetAs self.old self.new) }
-        ensures adopted { OnOk result ((ops : List OpSpec) → (x : Inputs) → (o : Outputs) → (s : Snap) → CanAdopt ops self.old x o snapshot.now s
+        ensures adopted { OnOk result ((ops : List OpSpec) → (x : Inputs) → (o : Outputs) → (s : Snap)
+            → CanAdopt ops self.old x o snapshot.now s
             → StandsForData ops self.new (adopted_inputs self.old.union.width s x) (adopted_outputs s o)) }
     {
         let cursor = snapshot.cursor;

@@ -114,7 +114,8 @@ impl Draft {
         requires empty { frag.ops ≡ [] }
         requires few { frag.replicas ≤ 4 }
         requires room { length self.old.frags < 16 }
-        requires inputs { list_all (is_among_streams (length (source_columns self.old.sources)) (length self.old.frags)) frag.inputs ≡ true }
+        requires inputs { list_all (is_among_streams (length (source_columns self.old.sources))
+            (length self.old.frags)) frag.inputs ≡ true }
         requires earlier { earlier.items ≡ outputs_behind (source_columns self.old.sources) [] self.old.frags }
         requires ports { ports.items ≡ map (columns_in (source_columns self.old.sources) earlier.items) frag.inputs }
         ensures ok { OnOk result (self.new ≡ record self.old { frags = push self.old.frags frag }) }

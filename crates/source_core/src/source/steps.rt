@@ -38,7 +38,8 @@ impl SourceNode {
         boundary: Option<(u64, u64)>,
     ) -> Result<Vec<Out>, NoMemory>
         requires source { IsSourceOf plan.now self.old }
-        ensures sends { IfOk result (λ outs. mails outs.items ≡ (source_gives plan.now self.old.number time boundary self.old.state).sends) }
+        ensures sends { IfOk result (λ outs. mails outs.items ≡
+            (source_gives plan.now self.old.number time boundary self.old.state).sends) }
         ensures after { OnOk result (self.new ≡ after_step self.old (source_gives plan.now self.old.number time boundary self.old.state)) }
         ensures err { OnErr result (self.new ≡ self.old) }
     {
@@ -97,8 +98,10 @@ impl SourceNode {
     ) -> Result<Vec<Out>, NoMemory>
         requires source { IsSourceOf plan.now self.old }
         requires reader { reader < length self.old.readers }
-        ensures sends { IfOk result (λ outs. mails outs.items ≡ (source_subscribed plan.now self.old.number asked (Some reader) self.old.state).sends) }
-        ensures after { OnOk result (self.new ≡ after_step self.old (source_subscribed plan.now self.old.number asked (Some reader) self.old.state)) }
+        ensures sends { IfOk result (λ outs. mails outs.items ≡
+            (source_subscribed plan.now self.old.number asked (Some reader) self.old.state).sends) }
+        ensures after { OnOk result (self.new ≡ after_step self.old
+            (source_subscribed plan.now self.old.number asked (Some reader) self.old.state)) }
         ensures err { OnErr result (self.new ≡ self.old) }
     {
         let mut outs = Vec::with_capacity(alloc, 1)?;

@@ -65,7 +65,8 @@ impl SOutput {
     /// What a reader that holds nothing tentative is sent first, where it asks for all that is kept. Whether
     /// the sender is STABLE doesn't matter.
     pub fn view(&self, alloc: Global) -> Result<Items, NoMemory>
-        ensures { IfOk result (λ items. (gone : List Tuple) (stable_now : Bool) → length gone ≡ self.now.base → items ≡ view_items (shown_of (stream_behind gone self.now) self.now.base stable_now)) }
+        ensures { IfOk result (λ items. (gone : List Tuple) (stable_now : Bool) → length gone ≡ self.now.base
+            → items ≡ view_items (shown_of (stream_behind gone self.now) self.now.base stable_now)) }
     {
         let asked = Subscribe {
             sess: Sess { inc: 0, number: 0 },
@@ -105,7 +106,10 @@ impl SOutput {
     /// A reader's newest session is this one, and isn't open. It takes no memory.
     pub fn renumber(&mut self, reader: usize, sess: Sess)
         requires { reader < length self.old.subs }
-        ensures { self.new ≡ record self.old { subs = changed reader (λ _. record { kept = Some sess; is_open = false; batches = 0 }) self.old.subs } }
+        ensures { self.new ≡ record self.old {
+          subs = changed reader
+              (λ _. record { kept = Some sess; is_open = false; batches = 0 }) self.old.subs;
+        } }
     {
         self.sessions[reader] = Sub::shut(sess);
     }
@@ -176,7 +180,8 @@ impl SOutput {
         state: NodeState,
     ) -> Result<Vec<Item>, NoMemory>
         requires { self.now.base ≤ asked.n }
-        ensures { IfOk result (λ items. (gone : List Tuple) → length gone ≡ self.now.base → items.items ≡ first_batch (shown_of (stream_behind gone self.now) self.now.base (is_stable state)) asked) }
+        ensures { IfOk result (λ items. (gone : List Tuple) → length gone ≡ self.now.base
+            → items.items ≡ first_batch (shown_of (stream_behind gone self.now) self.now.base (is_stable state)) asked) }
     {
         let stable = self.buffer.count().saturating_sub(asked.n) as usize;
         let most = stable

@@ -64,11 +64,17 @@ impl World {
     /// and still stands where the order was taken. Where that is stale nothing changes; each other fault
     /// leaves the world spent, and its events those that were.
     pub fn commit(&mut self, alloc: Global, milled: Milled<FragMill>) -> Result<(), CommitFault>
-        ensures ok { OnOk result (self.new ≡ record self.old { events = self.old.events ++ event.Mill milled.order.node (length milled.order.buckets) ∷ [] }) }
-        ensures within { OnOk result (passes_limit (world_of self.old) (event.Mill milled.order.node (length milled.order.buckets)) ≡ false) }
+        ensures ok { OnOk result (self.new ≡ record self.old {
+          events = self.old.events
+              ++ event.Mill milled.order.node (length milled.order.buckets) ∷ [];
+        }) }
+        ensures within { OnOk result (passes_limit (world_of self.old)
+            (event.Mill milled.order.node (length milled.order.buckets)) ≡ false) }
         ensures fits { OnOk result (Fits self.old milled.order) }
-        ensures long { (envelopes items : ℕ) → result ≡ Err (fault.TooLong envelopes items) → WouldReach (world_of self.old) (event.Mill milled.order.node (length milled.order.buckets)) envelopes items }
-        ensures stale { (had needed : Point) → result ≡ Err (fault.Stale had needed) → (self.new ≡ self.old) × IsStaleAt self.old milled.order had needed }
+        ensures long { (envelopes items : ℕ) → result ≡ Err (fault.TooLong envelopes items)
+            → WouldReach (world_of self.old) (event.Mill milled.order.node (length milled.order.buckets)) envelopes items }
+        ensures stale { (had needed : Point) → result ≡ Err (fault.Stale had needed) → (self.new ≡ self.old)
+            × IsStaleAt self.old milled.order had needed }
         ensures lost { IfErr result (λ why. is_loss why ≡ true → self.new ≡ record self.old { spent = true }) }
         ensures spent { result ≡ Err fault.Spent ↔ self.old.spent ≡ true }
     {

@@ -27,7 +27,8 @@ impl WorldParts {
         requires some { IsSomeWorld plan.now self.old }
         requires comes { IsComing plan.now self.old k (IsClient client) }
         ensures ok { OnOk result (Happened plan.now self.old self.new (event.Deliver k)) }
-        ensures long { (envelopes items : ℕ) → result ≡ Err (fault.TooLong envelopes items) → WouldPass plan.now self.old (event.Deliver k) envelopes items }
+        ensures long { (envelopes items : ℕ) → result ≡ Err (fault.TooLong envelopes items)
+            → WouldPass plan.now self.old (event.Deliver k) envelopes items }
     {
         let envelope = &self.envelopes[k];
         let Packet::Plain(message) = &envelope.packet else {
@@ -50,7 +51,8 @@ impl WorldParts {
         requires some { IsSomeWorld plan.now self.old }
         requires role { role_of plan.now actor ≡ IsClient client }
         ensures ok { OnOk result (Happened plan.now self.old self.new (event.Tick actor now)) }
-        ensures long { (envelopes items : ℕ) → result ≡ Err (fault.TooLong envelopes items) → WouldPass plan.now self.old (event.Tick actor now) envelopes items }
+        ensures long { (envelopes items : ℕ) → result ≡ Err (fault.TooLong envelopes items)
+            → WouldPass plan.now self.old (event.Tick actor now) envelopes items }
     {
         let client = client as usize;
         if !is_clock(self.clients[client].clock(), now) {

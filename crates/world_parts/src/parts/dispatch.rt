@@ -25,7 +25,8 @@ impl WorldParts {
         requires plan { CanRun plan.now }
         requires some { IsSomeWorld plan.now self.old }
         ensures ok { OnOk result (Happened plan.now self.old self.new (event.Deliver k)) }
-        ensures long { (envelopes items : ℕ) → result ≡ Err (fault.TooLong envelopes items) → WouldPass plan.now self.old (event.Deliver k) envelopes items }
+        ensures long { (envelopes items : ℕ) → result ≡ Err (fault.TooLong envelopes items)
+            → WouldPass plan.now self.old (event.Deliver k) envelopes items }
     {
         let k = k as usize;
         let Some(envelope) = self.envelopes.get(k) else {
@@ -54,7 +55,8 @@ impl WorldParts {
         requires plan { CanRun plan.now }
         requires some { IsSomeWorld plan.now self.old }
         ensures ok { OnOk result (Happened plan.now self.old self.new (event.Tick actor now)) }
-        ensures long { (envelopes items : ℕ) → result ≡ Err (fault.TooLong envelopes items) → WouldPass plan.now self.old (event.Tick actor now) envelopes items }
+        ensures long { (envelopes items : ℕ) → result ≡ Err (fault.TooLong envelopes items)
+            → WouldPass plan.now self.old (event.Tick actor now) envelopes items }
     {
         // the limits hold of what stays as it is
         let _ = &self.envelopes;

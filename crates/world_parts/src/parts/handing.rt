@@ -30,7 +30,8 @@ impl WorldParts {
     ) -> Result<Option<Order<FragMill>>, NoMemory>
         requires plan { CanRun plan.now }
         requires some { IsSomeWorld plan.now self.now }
-        ensures none { IfOk result (λ told. (x : World) (most : ℕ) → IsWorldOf plan.now self.now x most → (IsNone told ↔ (ready_at x actor ≡ 0))) }
+        ensures none { IfOk result (λ told. (x : World) (most : ℕ) → IsWorldOf plan.now self.now x most
+            → (IsNone told ↔ (ready_at x actor ≡ 0))) }
         ensures some { IfOk result (λ told. IfSome told (IsHandedOut plan.now self.now actor)) }
     {
         let place = self.node_place(plan, actor);
@@ -53,8 +54,10 @@ impl WorldParts {
         requires some { IsSomeWorld plan.now self.old }
         ensures ok { OnOk result (Happened plan.now self.old self.new (event.Mill milled.order.node (length milled.order.buckets))) }
         ensures fits { OnOk result (IsTimely plan.now self.old milled.order) }
-        ensures long { (envelopes items : ℕ) → result ≡ Err (fault.TooLong envelopes items) → WouldPass plan.now self.old (event.Mill milled.order.node (length milled.order.buckets)) envelopes items }
-        ensures stale { (had needed : Point) → result ≡ Err (fault.Stale had needed) → (self.new ≡ self.old) × IsStaleAt plan.now self.old milled.order had needed }
+        ensures long { (envelopes items : ℕ) → result ≡ Err (fault.TooLong envelopes items)
+            → WouldPass plan.now self.old (event.Mill milled.order.node (length milled.order.buckets)) envelopes items }
+        ensures stale { (had needed : Point) → result ≡ Err (fault.Stale had needed) → (self.new ≡ self.old)
+            × IsStaleAt plan.now self.old milled.order had needed }
     {
         let actor = milled.order().node;
         let place = self.node_place(plan, actor);

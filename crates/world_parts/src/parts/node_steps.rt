@@ -25,7 +25,8 @@ impl WorldParts {
         requires plan { CanRun plan.now }
         requires some { IsSomeWorld plan.now self.old }
         ensures ok { OnOk result (Happened plan.now self.old self.new (event.Mill actor count)) }
-        ensures long { (envelopes items : ℕ) → result ≡ Err (fault.TooLong envelopes items) → WouldPass plan.now self.old (event.Mill actor count) envelopes items }
+        ensures long { (envelopes items : ℕ) → result ≡ Err (fault.TooLong envelopes items)
+            → WouldPass plan.now self.old (event.Mill actor count) envelopes items }
     {
         let place = self.node_place(plan, actor);
         if let Role::Node(_, _) = role_of(plan, actor) {
@@ -48,7 +49,8 @@ impl WorldParts {
         requires some { IsSomeWorld plan.now self.old }
         requires comes { IsComing plan.now self.old k (IsNode frag replica) }
         ensures ok { OnOk result (Happened plan.now self.old self.new (event.Deliver k)) }
-        ensures long { (envelopes items : ℕ) → result ≡ Err (fault.TooLong envelopes items) → WouldPass plan.now self.old (event.Deliver k) envelopes items }
+        ensures long { (envelopes items : ℕ) → result ≡ Err (fault.TooLong envelopes items)
+            → WouldPass plan.now self.old (event.Deliver k) envelopes items }
     {
         let to = self.envelopes[k].to();
         let place = self.node_place(plan, to);
@@ -72,7 +74,8 @@ impl WorldParts {
         requires some { IsSomeWorld plan.now self.old }
         requires role { role_of plan.now actor ≡ IsNode frag replica }
         ensures ok { OnOk result (Happened plan.now self.old self.new (event.Tick actor now)) }
-        ensures long { (envelopes items : ℕ) → result ≡ Err (fault.TooLong envelopes items) → WouldPass plan.now self.old (event.Tick actor now) envelopes items }
+        ensures long { (envelopes items : ℕ) → result ≡ Err (fault.TooLong envelopes items)
+            → WouldPass plan.now self.old (event.Tick actor now) envelopes items }
     {
         let place = self.node_place(plan, actor);
         let mails = self.nodes[place].tick(alloc, now)?;

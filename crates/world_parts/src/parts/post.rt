@@ -19,7 +19,8 @@ impl WorldParts {
     pub(crate) fn post(&mut self, sender: u64, mails: Vec<Mail>) -> Result<(), EventFault>
         ensures ok { OnOk result (self.new ≡ with_posted sender mails.items self.old) }
         ensures within { OnOk result (IsPastLimits (with_posted sender mails.items self.old) → ⊥) }
-        ensures long { (envelopes items : ℕ) → result ≡ Err (fault.TooLong envelopes items) → IsTooLong envelopes items (with_posted sender mails.items self.old) }
+        ensures long { (envelopes items : ℕ) → result ≡ Err (fault.TooLong envelopes items)
+            → IsTooLong envelopes items (with_posted sender mails.items self.old) }
     {
         let envelopes = self.envelopes.len() as u64 + mails.len() as u64;
         let Some(added) = items_in_all(mails.as_slice()) else {

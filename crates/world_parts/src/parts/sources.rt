@@ -39,7 +39,8 @@ impl WorldParts {
         requires plan { CanRun plan.now }
         requires some { IsSomeWorld plan.now self.old }
         ensures ok { OnOk result (Happened plan.now self.old self.new (event.Emit actor time)) }
-        ensures long { (envelopes items : ℕ) → result ≡ Err (fault.TooLong envelopes items) → WouldPass plan.now self.old (event.Emit actor time) envelopes items }
+        ensures long { (envelopes items : ℕ) → result ≡ Err (fault.TooLong envelopes items)
+            → WouldPass plan.now self.old (event.Emit actor time) envelopes items }
     {
         let _ = &self.items; // the invariant, for events that change nothing
         let Some(source) = source_at(plan, actor, time) else {
@@ -61,7 +62,8 @@ impl WorldParts {
         requires plan { CanRun plan.now }
         requires some { IsSomeWorld plan.now self.old }
         ensures ok { OnOk result (Happened plan.now self.old self.new (event.Release actor time)) }
-        ensures long { (envelopes items : ℕ) → result ≡ Err (fault.TooLong envelopes items) → WouldPass plan.now self.old (event.Release actor time) envelopes items }
+        ensures long { (envelopes items : ℕ) → result ≡ Err (fault.TooLong envelopes items)
+            → WouldPass plan.now self.old (event.Release actor time) envelopes items }
     {
         let _ = &self.items; // the invariant, for events that change nothing
         let Some(source) = source_at(plan, actor, time) else {
@@ -84,7 +86,8 @@ impl WorldParts {
         requires some { IsSomeWorld plan.now self.old }
         requires comes { IsComing plan.now self.old k (IsSource source) }
         ensures ok { OnOk result (Happened plan.now self.old self.new (event.Deliver k)) }
-        ensures long { (envelopes items : ℕ) → result ≡ Err (fault.TooLong envelopes items) → WouldPass plan.now self.old (event.Deliver k) envelopes items }
+        ensures long { (envelopes items : ℕ) → result ≡ Err (fault.TooLong envelopes items)
+            → WouldPass plan.now self.old (event.Deliver k) envelopes items }
     {
         let envelope = &self.envelopes[k];
         let Packet::Plain(message) = &envelope.packet else {
@@ -109,7 +112,8 @@ impl WorldParts {
         requires some { IsSomeWorld plan.now self.old }
         requires role { role_of plan.now actor ≡ IsSource source }
         ensures ok { OnOk result (Happened plan.now self.old self.new (event.Tick actor now)) }
-        ensures long { (envelopes items : ℕ) → result ≡ Err (fault.TooLong envelopes items) → WouldPass plan.now self.old (event.Tick actor now) envelopes items }
+        ensures long { (envelopes items : ℕ) → result ≡ Err (fault.TooLong envelopes items)
+            → WouldPass plan.now self.old (event.Tick actor now) envelopes items }
     {
         let source = source as usize;
         if !is_clock(self.sources[source].clock(), now) {

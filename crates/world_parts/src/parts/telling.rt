@@ -19,7 +19,8 @@ use node_core::node::Node;
 impl WorldParts {
     /// The sender and the addressee of envelope number k; `None` exactly where it was not sent.
     pub fn ends(&self, k: u64) -> Option<(u64, u64)>
-        ensures { (plan : Plan) (x : World) → StandsForWorld plan self.now x → result ≡ option_map (λ (e : PlainEnvelope). (e.sender, e.to)) (slice_get x.envelopes k) }
+        ensures { (plan : Plan) (x : World) → StandsForWorld plan self.now x
+            → result ≡ option_map (λ (e : PlainEnvelope). (e.sender, e.to)) (slice_get x.envelopes k) }
     {
         let envelope = self.envelopes.get(k as usize)?;
         Some((envelope.sender(), envelope.to()))
@@ -37,7 +38,8 @@ impl WorldParts {
 
     /// The node that an actor is, where it is one and is up.
     pub fn node(&self, plan: &Plan, actor: u64) -> Option<&Node>
-        ensures { (x : World) → StandsForWorld plan.now self.now x → StandsForRole plan.now (role_of plan.now actor) (option_copied result) (node_at x actor) }
+        ensures { (x : World) → StandsForWorld plan.now self.now x
+            → StandsForRole plan.now (role_of plan.now actor) (option_copied result) (node_at x actor) }
     {
         let Role::Node(_, _) = role_of(plan, actor) else {
             return None;
