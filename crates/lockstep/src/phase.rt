@@ -24,7 +24,7 @@ fn most_replicas(frags: &[FragSpec]) -> u64
     most
 }
 
-/// The most quiet phases of a run.
+/// The most quiet phases of a run: 38 is `settling_phases` of `world_model`.
 fn quiet_limit(plan: &Plan) -> u128
     ensures { result ≡ quiet_limit plan.now }
 {
