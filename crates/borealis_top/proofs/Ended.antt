@@ -12,10 +12,11 @@ use Rattle.script_rules.specs.declared.reasons.PlanFault.{PlanFault}
 use Rattle.script_rules.specs.Reading.{reading, read, refusal, script_in}
 use Rattle.world_model.specs.Worlds.{Sums}
 use Rattle.borealis_top.specs.declared.command.Reading.{Reading}
+use Rattle.borealis_top.specs.declared.command.Reading.TheVariants.{Ideal}
 use Rattle.borealis_top.specs.declared.status.Status.{Status}
 use Rattle.borealis_top.specs.declared.status.Status.TheVariants.{Done, Refused, NoMemory, NotSettled, TooLong}
 use Rattle.borealis_top.specs.Texts.{not_settled_line, too_long_line}
-use Rattle.borealis_top.specs.Ends.{IsTold, IsToldOpen, IsReadInPart, IsRead, IsNotRead, Answers, Passes, fault_line, answer_to, excess_of, leaves_open, ReadEnds, IsWhole, ReadIsWhole}
+use Rattle.borealis_top.specs.Ends.{IsTold, IsToldOpen, IsToldAlong, IsReadInPart, IsRead, IsNotRead, Answers, Passes, fault_line, answer_to, excess_of, leaves_open, ReadEnds, IsWhole, ReadIsWhole}
 use Rattle.borealis_top.proofs.Runs.{read-Holds}
 
 -- ---- what was read
@@ -70,6 +71,14 @@ pub told-ReadEnds : (what : Reading) (input input_new out out_new err err_new : 
 told-ReadEnds what input input_new out out_new err err_new text result r silent (inl h) = rw h.0 (text, r, h.1, silent)
 told-ReadEnds what input input_new out out_new err err_new text result r silent (inr h) = rw h.0 (inl (text, false, r, h.1, silent))
 
+-- the failure-free streams were, or memory ran out on the way
+pub along-ReadEnds : (input input_new out out_new err err_new : Edge) (text : List ℕ) (result : Status) →
+    Answers Ideal input input_new false text → Stays err err_new → IsReadInPart input input_new → input_new.faults ≡ input.faults → IsToldAlong out out_new text result →
+    ReadEnds Ideal input input_new out out_new err err_new result
+along-ReadEnds input input_new out out_new err err_new text result r silent part quiet (inl h) = told-ReadEnds Ideal input input_new out out_new err err_new text result r silent h
+along-ReadEnds input input_new out out_new err err_new text result r silent part quiet (inr h) =
+    rw h.0 (inr (record { is = refl; text = text; answers = r; took = h.1 }), silent, part, quiet)
+
 -- so was a report that leaves a client open, and the line that says so
 pub open-ReadEnds : (what : Reading) (input input_new out out_new err err_new : Edge) (text : List ℕ) (result : Status) →
     Answers what input input_new true text → IsToldOpen out out_new err err_new text result → ReadEnds what input input_new out out_new err err_new result
@@ -90,7 +99,7 @@ pub refused-ReadEnds : (what : Reading) (input input_new out out_new err err_new
     ReadEnds what input input_new out out_new err err_new result
 refused-ReadEnds what input input_new out out_new err err_new fault result r silent part quiet (inl (inl h)) = rw h.0 (fault, r, silent, h.1)
 refused-ReadEnds what input input_new out out_new err err_new fault result r silent part quiet (inl (inr h)) = rw h.0 (inr (inr (inr (fault, r, silent, h.1))))
-refused-ReadEnds what input input_new out out_new err err_new fault result r silent part quiet (inr h) = rw h.0 (silent, h.1, part, quiet)
+refused-ReadEnds what input input_new out out_new err err_new fault result r silent part quiet (inr h) = rw h.0 (inl silent, h.1, part, quiet)
 
 -- ---- where nothing failed that is written to
 
@@ -103,6 +112,11 @@ told-Took old new text status result (inr h) quiet = absurd (quiet h.1.faults)
 pub told-IsWhole : (text : List ℕ) (out out_new err err_new : Edge) (result : Status) → IsTold out out_new text Done result →
     IsWhole None false text out out_new err err_new result
 told-IsWhole text out out_new err err_new result h = λ quiet. inl (told-Took out out_new text Done result h quiet)
+
+pub along-IsWhole : (text : List ℕ) (out out_new err err_new : Edge) (result : Status) → IsToldAlong out out_new text result →
+    IsWhole None false text out out_new err err_new result
+along-IsWhole text out out_new err err_new result (inl h) = told-IsWhole text out out_new err err_new result h
+along-IsWhole text out out_new err err_new result (inr h) = λ quiet. inr h.0
 
 pub open-IsWhole : (text : List ℕ) (out out_new err err_new : Edge) (result : Status) → IsToldOpen out out_new err err_new text result →
     IsWhole None true text out out_new err err_new result

@@ -1,5 +1,5 @@
 -- What milling needs of a script that was read.
-use Rattle.std.proofs.Common.{◌≡◌, ℕ, zero, suc, ◌<◌, Bool, true, false, ◌&&◌, ◌==◌, nat_lt, List, [], ◌∷◌, map, length, Ok, Some, refl, ap, arith, All}
+use Rattle.std.proofs.Common.{◌≡◌, ℕ, zero, suc, ◌<◌, true, ◌&&◌, ◌==◌, nat_lt, List, [], ◌∷◌, map, length, Ok, ap, All}
 use Rattle.std.proofs.lemmas.Bool.{and_parts, ltb-true}
 use Rattle.std.proofs.lemmas.List.Elements.{All-from_recursion}
 use Rattle.std.specs.List.{AllByRecursion}
@@ -8,7 +8,7 @@ use Rattle.dpc_model.specs.declared.tuples.Tuple.{Tuple}
 use Rattle.dpc_model.specs.declared.plans.SourceSpec.{SourceSpec}
 use Rattle.dpc_model.specs.declared.scripts.Script.{Script}
 use Rattle.script_rules.specs.Facts.{log_fits}
-use Rattle.script_rules.specs.Reading.{reading, read, script_in}
+use Rattle.script_rules.specs.Reading.{reading, script_in}
 use Rattle.script_rules.proofs.ReadForms.{reads_have_form}
 use Rattle.ideal_run.specs.IdealPlans.{IsIdealPlan}
 

@@ -9,7 +9,7 @@ use Rattle.script_rules.specs.Reading.{reading, script_in}
 use Rattle.script_rules.specs.Checking.{IsChecked}
 use Rattle.script_rules.proofs.ReadForms.{reads_have_facts}
 use Rattle.law_scripts.proofs.ReadChecked.{reads_checked}
-use Rattle.law_settling_whole.proofs.Whole.{healed-settles, crashless-settles}
+use Rattle.law_settling_whole.proofs.Whole.{checked-settles, healed-settles, crashless-settles}
 use Rattle.law_fit.specs.Fits.{CanRun}
 use Rattle.law_checked_runs.proofs.Plans.{can_run}
 use Rattle.law_safety.proofs.Law.{run-good, run-safe}
@@ -50,6 +50,7 @@ good-run s can checked =
           let both = and_parts s.settle (not (all_settled (run_of s))) e in
           quiet-so (all_settled (run_of s)) (phases_in (lockstep_journal s)) (length s.phases + quiet_limit s.plan) ((live-ends s (lockstep_journal s) (lock-live s)).1 both.0) both.1;
       settles = λ healed none. none-open s.settle (all_settled (run_of s)) (λ on. crashless-settles s checked on healed none);
+      steady = λ well steady. none-open s.settle (all_settled (run_of s)) (λ on. checked-settles s (lockstep_journal s) checked on (lock-live s) well steady);
       recovers = λ healed calm. none-open s.settle (all_settled (run_of s)) (λ on. healed-settles s checked on healed calm);
     }
 

@@ -2,7 +2,7 @@
 use Rattle.std.specs.Prelude.{◌≡◌, ⊤, ℕ, ◌+◌, ◌⊎◌, Bool, true, false, not, ◌&&◌, List, length, Option, None, Some}
 use Rattle.std.specs.Io.KnownBytes.{IsAtEnd}
 use Rattle.dpc_edge.specs.Faults.{Rises}
-use Rattle.dpc_edge.specs.Edges.{Edge, Stays, Gave, Took}
+use Rattle.dpc_edge.specs.Edges.{Edge, Stays, Gave, Took, TookPart, TookSome}
 use Rattle.dpc_model.specs.Limits.{most_input}
 use Rattle.dpc_model.specs.ScriptText.{script_text}
 use Rattle.dpc_model.specs.declared.scripts.Script.{Script}
@@ -10,14 +10,14 @@ use Rattle.script_rules.specs.declared.reasons.PlanFault.{PlanFault}
 use Rattle.script_rules.specs.ReasonTable.{number_of}
 use Rattle.script_rules.specs.Reading.{read, refusal}
 use Rattle.load_gen.specs.Generated.{generated}
-use Rattle.world_model.specs.Worlds.{World, Sums, run, all_settled}
+use Rattle.world_model.specs.Worlds.{World, Sums, run, all_settled, excess}
 use Rattle.world_model.specs.Safe.{IsSafe}
+use Rattle.world_model.specs.Steady.{OpensWell, IsSteady}
 use Rattle.world_model.specs.Schedules.{lockstep_journal, is_live, quiet_limit}
 use Rattle.law_schedules.specs.Journals.{phases_in}
 use Rattle.law_healing.specs.Healing.{heals}
 use Rattle.law_lockstep.specs.Calm.{IsCalm}
 use Rattle.law_calm.specs.Crashes.{has_no_crash}
-use Rattle.world_core.specs.Runs.{excess}
 use Rattle.report.specs.Text.{report_text, report_short, ideal_text}
 use Rattle.client_reports.specs.Json.{report_json}
 use Rattle.borealis_top.specs.declared.answer.Answer.{Answer}
@@ -29,7 +29,7 @@ use Rattle.borealis_top.specs.declared.command.Reading.TheVariants.{Run, Check, 
 use Rattle.borealis_top.specs.declared.status.Status.{Status}
 use Rattle.borealis_top.specs.declared.status.Status.TheVariants.{Done, Words, Refused, NoMemory, NotSettled, ReadFault, WriteFault, TooLong}
 use Rattle.borealis_top.specs.Texts.{refusal_line, ok_text, not_settled_line, too_long_line}
-use Rattle.borealis_top.specs.Transfers.{GaveAtMost, TookPart}
+use Rattle.borealis_top.specs.Transfers.{GaveAtMost}
 
 -- a text was to be written, with a status: it was, or the sink failed, which is a status of its own
 abbrev pub IsTold : Edge → Edge → List ℕ → Status → Status → Type 0
@@ -76,6 +76,8 @@ pub record IsGoodRun (s : Script) : Type 0 where
   -- where its directives mend what they break it leaves no client open, if it crashes no node or recoveries end
   pub settles : heals s ≡ true → has_no_crash s ≡ true → leaves_open (Run Text) s ≡ false
   pub recovers : heals s ≡ true → IsCalm s (lockstep_journal s) → leaves_open (Run Text) s ≡ false
+  -- nor where, whatever failed, its quiet phases open with all logs released and all links and nodes up, and the run is steady
+  pub steady : OpensWell s (lockstep_journal s) → IsSteady s (lockstep_journal s) → leaves_open (Run Text) s ≡ false
 
 -- what holds of a script whose answer is written
 abbrev pub Holds : Reading → Script → Type 0
@@ -120,6 +122,13 @@ pub record Passes (reading : Reading) (input input_new : Edge) (sums : Sums) : T
 abbrev pub fault_line : PlanFault → List ℕ
 fault_line fault = refusal_line fault.line (number_of fault.reason)
 
+-- the failure-free streams, which are written as they are milled, were written in part
+pub record WroteSome (reading : Reading) (input input_new out out_new : Edge) : Type 0 where
+  pub is : reading ≡ Ideal
+  pub text : List ℕ
+  pub answers : Answers reading input input_new false text
+  pub took : TookSome out out_new text
+
 -- how such a command ends, by its status
 abbrev pub ReadEnds : Reading → Edge → Edge → Edge → Edge → Edge → Edge → Status → Type 0
 ReadEnds reading input input_new out out_new err err_new Done =
@@ -131,7 +140,8 @@ ReadEnds reading input input_new out out_new err err_new TooLong =
 ReadEnds reading input input_new out out_new err err_new Refused =
     (fault : PlanFault) × IsNotRead input input_new fault × Stays out out_new × Took err err_new (fault_line fault)
 ReadEnds reading input input_new out out_new err err_new NoMemory =
-    Stays out out_new × Stays err err_new × IsReadInPart input input_new × (input_new.faults ≡ input.faults)
+    (Stays out out_new ⊎ WroteSome reading input input_new out out_new) × Stays err err_new × IsReadInPart input input_new
+    × (input_new.faults ≡ input.faults)
 ReadEnds reading input input_new out out_new err err_new ReadFault =
     Stays out out_new × Stays err err_new × IsReadInPart input input_new × Rises input.faults input_new.faults
 ReadEnds reading input input_new out out_new err err_new WriteFault =
@@ -163,7 +173,12 @@ ReadIsWhole reading input input_new out out_new err err_new result =
 abbrev pub IsAnswer : Reading → Script → Answer → Type 0
 IsAnswer reading s (answer.Text text) = (excess_of reading s ≡ None) × (leaves_open reading s ≡ false) × (answer_to reading s ≡ text.items)
 IsAnswer reading s (answer.Open text) = (excess_of reading s ≡ None) × (leaves_open reading s ≡ true) × (answer_to reading s ≡ text.items)
+IsAnswer reading s (answer.Ideal plan) = (reading ≡ Ideal) × (s.plan ≡ plan)
 IsAnswer reading s (answer.TooLong line) = (sums : Sums) × (excess_of reading s ≡ Some sums) × (line.items ≡ too_long_line sums)
+
+-- a text was to be written as it comes: it was, or the sink failed, or memory ran out behind a beginning of it
+abbrev pub IsToldAlong : Edge → Edge → List ℕ → Status → Type 0
+IsToldAlong out out_new text result = IsTold out out_new text Done result ⊎ ((result ≡ NoMemory) × TookSome out out_new text)
 
 -- a text and then the line on clients that are not settled were to be written: both were, or one of the sinks failed
 abbrev pub IsToldOpen : Edge → Edge → Edge → Edge → List ℕ → Status → Type 0

@@ -13,8 +13,8 @@ use client_reports::json::report_json;
 use client_reports::text::{report_short, report_text};
 use diagram_printer::print_script;
 use dpc_lists::faults::NoMemory;
+use dpc_model::plans::Plan;
 use dpc_model::scripts::Script;
-use ideal_run::ideal_text;
 use itoa::Buffer;
 use lockstep::faults::RunFault;
 use lockstep::lock::run;
@@ -31,6 +31,8 @@ pub enum Answer {
     Text(Vec<u8>),
     /// This report of a run, and that a client is not settled after all quiet phases.
     Open(Vec<u8>),
+    /// The failure-free streams of this plan, which are written as they are milled.
+    Ideal(Plan),
     /// The line on a run that would pass a limit.
     TooLong(Vec<u8>),
 }
@@ -50,7 +52,7 @@ pub(crate) fn answer_script(
         Reading::Run(form) => run_answer(alloc, form, script),
         Reading::Check => Ok(Answer::Text(Vec::from_slice(alloc, RIGHT)?)),
         Reading::Print => Ok(Answer::Text(print_script(alloc, &script)?)),
-        Reading::Ideal => Ok(Answer::Text(ideal_text(alloc, &script.plan)?)),
+        Reading::Ideal => Ok(Answer::Ideal(script.plan)),
     }
 }
 

@@ -6,6 +6,4 @@ mod command;
 pub mod plain;
 pub mod program;
 pub mod status;
-#[cfg(test)]
-mod tests;
 mod transfer;

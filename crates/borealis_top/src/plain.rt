@@ -2,23 +2,29 @@
 ghost use Rattle.std.specs.Prelude.{◌≡◌, ◌⊎◌, ℕ, IfOk, Some, None, map, string_bytes, MatchOption};
 ghost use Rattle.dpc_edge.specs.Edges.{Stays};
 ghost use Rattle.dpc_model.specs.ScriptText.{script_text};
+ghost use Rattle.report.specs.Text.{ideal_text};
+ghost use Rattle.ideal_run.specs.IdealPlans.{IsIdealPlan};
 ghost use Rattle.load_gen.specs.Generated.{generated};
 ghost use Rattle.script_rules.specs.ReasonTable.{reasons_text};
 ghost use Rattle.borealis_top.specs.Commands.{command_of};
 ghost use Rattle.borealis_top.specs.Texts.{help_text, version_text, unknown_words_line, refusal_line};
-ghost use Rattle.borealis_top.specs.Ends.{IsTold, IsToldOpen, fault_line, ReadEnds, ReadIsWhole, GenEnds};
+ghost use Rattle.borealis_top.specs.Ends.{IsTold, IsToldOpen, IsToldAlong, fault_line, ReadEnds, ReadIsWhole, GenEnds};
 ghost use Rattle.borealis_top.specs.declared.command.Reading as reading;
 
 use crate::answer::{Answer, answer_script};
 use crate::command::{Command, Reading, command_in};
 use crate::status::Status;
-use crate::transfer::{InputFault, read_whole, write_whole};
+use crate::transfer::{InputFault, read_whole};
 use diagram_printer::print_script;
 use diagram_reader::faults::ScriptFault;
 use diagram_reader::read_script;
 use dpc_edge::sink::Sink;
 use dpc_edge::source::Source;
+use dpc_edge::whole::write_whole;
 use dpc_lists::faults::NoMemory;
+use dpc_model::plans::Plan;
+use ideal_run::faults::WriteFault;
+use ideal_run::write_ideal;
 use itoa::Buffer;
 use load_gen::generate;
 use script_rules::reasons::{PlanFault, Reason};
@@ -173,6 +179,7 @@ fn read<S: Source, O: Sink, E: Sink>(
         Ok(script) => match answer_script(alloc, reading, script) {
             Ok(Answer::Text(text)) => told(out, text.as_slice(), Status::Done),
             Ok(Answer::Open(text)) => told_open(out, err, text.as_slice()),
+            Ok(Answer::Ideal(plan)) => told_ideal(alloc, &plan, out),
             Ok(Answer::TooLong(line)) => told(err, line.as_slice(), Status::TooLong),
             Err(NoMemory) => Status::NoMemory,
         },
@@ -188,6 +195,18 @@ fn told_open<O: Sink, E: Sink>(out: &mut O, err: &mut E, text: &[u8]) -> Status
     match write_whole(out, text) {
         Ok(()) => told(err, NOT_SETTLED, Status::NotSettled),
         Err(_) => Status::WriteFault,
+    }
+}
+
+/// Writes the failure-free streams of a plan as they are milled.
+fn told_ideal<O: Sink>(alloc: Global, plan: &Plan, out: &mut O) -> Status
+    requires { IsIdealPlan plan.now }
+    ensures { IsToldAlong (O.edge out.old) (O.edge out.new) (ideal_text plan.now) result }
+{
+    match write_ideal(alloc, plan, out) {
+        Ok(()) => Status::Done,
+        Err(WriteFault::NoMemory) => Status::NoMemory,
+        Err(WriteFault::Failed) => Status::WriteFault,
     }
 }
 

@@ -1,12 +1,11 @@
-//! Whole inputs and whole texts, over sources and sinks that move pieces.
+//! Whole inputs, over sources that move pieces.
 ghost use Rattle.std.specs.Prelude.{◌≡◌, ◌≢◌, ◌+◌, ◌<◌, ◌≤◌, ◌++◌, ℕ, List, take, length, vec_len, IfOk, OnOk, OnErr, Err};
 ghost use Rattle.std.specs.Io.KnownBytes.{IsAtEnd};
 ghost use Rattle.dpc_edge.specs.Faults.{Rises};
-ghost use Rattle.dpc_edge.specs.Edges.{Gave, Took};
-ghost use Rattle.borealis_top.specs.Transfers.{GaveAtMost, TookPart};
+ghost use Rattle.dpc_edge.specs.Edges.{Gave};
+ghost use Rattle.borealis_top.specs.Transfers.{GaveAtMost};
 
 use dpc_edge::faults::Failed;
-use dpc_edge::sink::Sink;
 use dpc_edge::source::Source;
 use std::alloc::{AllocError, AllocFailed, Global};
 
@@ -95,16 +94,4 @@ pub fn read_whole<S: Source>(alloc: Global, input: &mut S) -> Result<Vec<u8>, In
         }
     }
     Err(InputFault::TooLong)
-}
-
-/// Writes a whole text, in as many pieces as the sink takes.
-pub fn write_whole<K: Sink>(out: &mut K, text: &[u8]) -> Result<(), Failed>
-    ensures took { OnOk result (Took (K.edge out.old) (K.edge out.new) text.now) }
-    ensures failed { OnErr result (TookPart (K.edge out.old) (K.edge out.new) text.now) }
-{
-    let mut done = 0;
-    while done < text.len() {
-        done += out.write(&text[done..])?;
-    }
-    Ok(())
 }

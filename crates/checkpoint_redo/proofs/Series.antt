@@ -1,10 +1,10 @@
 -- Buckets one after another, one more at the end.
 use Rattle.std.proofs.Common.{◌≡◌, ℕ, zero, suc, ◌+◌, ◌<◌, List, [], ◌∷◌, ◌++◌, take, length, sym, ap, ◌∙◌, arith, Option, append-nil, append_assoc, slice_index_or}
 use Rattle.dpc_model.specs.Operators.{all_of}
-use Rattle.dpc_model.specs.Engines.{Value, Accepts, added_output}
+use Rattle.dpc_model.specs.Engines.{Value, Accepts, added_output, AcceptsAll}
 use Rattle.dpc_model.specs.declared.tuples.Tuple.{Tuple}
 use Rattle.dpc_model.specs.declared.tuples.Tagged.{Tagged}
-use Rattle.checkpoint_redo.specs.Keeping.{AcceptsAll, added_by}
+use Rattle.checkpoint_redo.specs.Keeping.{added_by}
 
 -- the bucket of number k + i is accepted
 pub accepts-at : (width : Option ℕ) (k i : ℕ) (bs : List (List Tagged)) (d : List Tagged) → i < length bs → AcceptsAll width k bs → Accepts width (k + i) (slice_index_or bs i d)

@@ -2,11 +2,11 @@
 use Rattle.std.specs.Prelude.{◌≡◌, ℕ, ◌+◌, ◌*◌, List, ◌++◌, length, Some, All}
 use Rattle.dpc_model.specs.Streams.{IsOrdered}
 use Rattle.dpc_model.specs.Operators.{all_of}
-use Rattle.dpc_model.specs.Engines.{LiesBelow, engine_value}
+use Rattle.dpc_model.specs.Engines.{LiesBelow, engine_value, AcceptsAll}
 use Rattle.dpc_model.specs.Fragments.{AreSoundOps}
 use Rattle.dpc_model.specs.declared.tuples.Tagged.{Tagged}
 use Rattle.dpc_model.specs.declared.operators.OpSpec.{OpSpec}
-use Rattle.checkpoint_redo.specs.Keeping.{AcceptsAll, added_by}
+use Rattle.checkpoint_redo.specs.Keeping.{added_by}
 
 -- behind inputs in order of time, all below bucket k, the output with buckets from k on is the output before them and what they add
 abbrev pub BucketsAdd : Type 0

@@ -1,10 +1,10 @@
 //! An engine, and the copy of its state before the tentative buckets.
 ghost use Rattle.std.specs.Prelude.{◌≡◌, ◌+◌, ◌^◌, ◌<◌, ◌++◌, ◌↔◌, ℕ, List, [], length, true, false, Some, None, unwrap_or, is_err, is_some, IsTrue, IfOk, OnOk};
 ghost use Rattle.dpc_model.specs.Operators.{all_of};
-ghost use Rattle.dpc_model.specs.Engines.{Accepts, engine_value, added_output};
+ghost use Rattle.dpc_model.specs.Engines.{Accepts, engine_value, added_output, AcceptsAll, TookAlike};
 ghost use Rattle.dpc_model.specs.PartStands.{at_cursor};
 ghost use Rattle.dpc_model.specs.declared.tuples.Tagged.{Tagged};
-ghost use Rattle.checkpoint_redo.specs.Keeping.{AcceptsAll, added_by};
+ghost use Rattle.checkpoint_redo.specs.Keeping.{added_by};
 
 use dpc_lists::lists::Listed;
 use dpc_lists::steps::Steps;
@@ -77,6 +77,7 @@ impl<M: Engine + Drop> Keeper<M> {
         ensures after { OnOk result ((before : List Tagged) → M.after self.old.keeper.state before k
             → M.after self.new.keeper.state (before ++ inputs.now) (k + 1)) }
         ensures next { OnOk result (M.next self.new.keeper.state ≡ k + 1) }
+        ensures fresh { OnOk result (M.is_spent self.new.keeper.state ≡ false) }
         ensures spent { result ≡ Err StepFault.Spent ↔ self.old.spent ≡ true }
         ensures stays { IsTrue self.new.spent ↔ IsTrue (is_err result) }
         ensures held { self.new.keeper.held ≡ self.old.keeper.held }
@@ -110,6 +111,7 @@ impl<M: Engine + Drop> Keeper<M> {
         ensures after { OnOk result ((before : List Tagged) → M.after self.old.keeper.state before k
             → M.after self.new.keeper.state (before ++ all_of buckets.now) (k + length buckets.now)) }
         ensures next { OnOk result (M.next self.new.keeper.state ≡ k + length buckets.now) }
+        ensures fresh { OnOk result (M.is_spent self.new.keeper.state ≡ false) }
         ensures steps { OnOk result (steps.new ≡ steps.old + length buckets.now) }
         ensures spent { result ≡ Err StepFault.Spent ↔ self.old.spent ≡ true }
         ensures stays { IsTrue self.new.spent ↔ IsTrue (is_err result) }
@@ -185,9 +187,13 @@ impl<M: Engine + Drop> Keeper<M> {
         }
     }
 
-    /// Whether the state before the tentative buckets is this one. It takes no memory.
+    /// Whether the state before the tentative buckets is this one. What an unspent engine is made of, and what it
+    /// took, determines its state. It takes no memory.
     pub fn same(&self, state: &M) -> bool
-        ensures { IsTrue result ↔ (at_cursor self.now.keeper ≡ state.now) }
+        ensures same { IsTrue result ↔ (at_cursor self.now.keeper ≡ state.now) }
+        ensures determined { (xs : List Tagged) (k : ℕ)
+            → TookAlike M.width M.operators M.is_spent M.after (at_cursor self.now.keeper) state.now xs k
+            → at_cursor self.now.keeper ≡ state.now }
     {
         match &self.held {
             Some(copy) => copy.same(state),

@@ -134,7 +134,8 @@ fn put_operators(
 /// The line of a fragment.
 fn put_fragment_line(text: &mut Vec<u8>, plan: &Plan, frag: &FragSpec) -> Result<(), NoMemory>
     ensures { OnOk result (text.new.items
-        ≡ text.old.items ++ line_of (codes "fragment" ∷ frag.now.name ∷ decimal frag.now.replicas ∷ map (stream_name plan.now) frag.now.inputs)) }
+        ≡ text.old.items ++ line_of (codes "fragment" ∷ frag.now.name ∷ decimal frag.now.replicas ∷
+        map (stream_name plan.now) frag.now.inputs)) }
 {
     put_first(text, b"fragment")?;
     put_word(text, frag.name.as_slice())?;

@@ -1,5 +1,5 @@
 -- What contracts see of a source or of a sink, and what a call makes of it.
-use Rattle.std.specs.Prelude.{◌≡◌, ℕ, List, Option}
+use Rattle.std.specs.Prelude.{◌≡◌, ℕ, ◌<◌, ◌≤◌, List, length, take, Option}
 use Rattle.std.specs.Io.KnownBytes.{Consumes, Appends, Keeps}
 use Rattle.dpc_edge.specs.Faults.{Rises}
 
@@ -28,3 +28,17 @@ pub record Took (old new : Edge) (taken : List ℕ) : Type 0 where
 pub record Fails (old new : Edge) : Type 0 where
   pub bytes : Keeps old.bytes new.bytes
   pub faults : Rises old.faults new.faults
+
+-- a sink failed, and took a proper beginning of a text
+pub record TookPart (old new : Edge) (text : List ℕ) : Type 0 where
+  pub count : ℕ
+  pub proper : count < length text
+  pub bytes : Appends old.bytes new.bytes (take count text)
+  pub faults : Rises old.faults new.faults
+
+-- it took a beginning of a text, and nothing failed
+pub record TookSome (old new : Edge) (text : List ℕ) : Type 0 where
+  pub count : ℕ
+  pub within : count ≤ length text
+  pub bytes : Appends old.bytes new.bytes (take count text)
+  pub faults : new.faults ≡ old.faults

@@ -11,3 +11,4 @@ pub mod sink;
 pub mod source;
 #[cfg(test)]
 mod tests;
+pub mod whole;

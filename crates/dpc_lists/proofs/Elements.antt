@@ -71,7 +71,7 @@ nth-here d i f [] l = absurd (omega (arith, l))
 nth-here d zero f (x ∷ xs) l = refl
 nth-here d (suc i) f (x ∷ xs) l = nth-here d i f xs (omega (arith, l))
 
--- a session that is put where it stands
+-- an element that is put where it stands
 pub changed-to-same : {X : Type 0} (d : X) (i : ℕ) (xs : List X) → changed i (λ _. nth d xs i) xs ≡ xs
 changed-to-same d i [] = refl
 changed-to-same d zero (x ∷ xs) = refl

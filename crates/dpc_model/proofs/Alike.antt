@@ -1,5 +1,5 @@
 -- Streams, sessions and events that are alike, and the order of sessions.
-use Rattle.std.proofs.Common.{◌≡◌, ◌-◌, true, ap, arith, refl, ◌==◌, ℕ}
+use Rattle.std.proofs.Common.{◌≡◌, true, ap, arith, refl, ◌==◌, ℕ}
 use Rattle.std.proofs.lemmas.Grind.{common_steps}
 use Rattle.dpc_model.specs.Actors.{same_stream}
 use Rattle.dpc_model.specs.declared.plans.StreamRef.{StreamRef}

@@ -1,7 +1,7 @@
 -- Roles by number, and roles that pass a test.
 use Rattle.std.specs.List.{filter, enumerate_from}
 use Rattle.std.specs.Prelude.{◌||◌}
-use Rattle.std.proofs.Common.{ℕ, Bool, List, map, ◌+◌, cond, ◌∷◌, ◌≡◌, zero, suc, ◌<◌, ◌++◌, arith, false, [], refl, Some, slice_get, ◌-◌, ◌≤◌, length}
+use Rattle.std.proofs.Common.{ℕ, Bool, List, map, ◌+◌, cond, ◌∷◌, ◌≡◌, zero, suc, ◌<◌, ◌++◌, arith, false, [], refl, Some, slice_get, ◌≤◌, length}
 use Rattle.dpc_model.specs.declared.actors.Role.{Role}
 use Rattle.dpc_lists.specs.Lists.{nth, range_with_len, list_any}
 use Rattle.dpc_model.specs.declared.actors.Role.TheVariants.{Source as IsSource, Nobody, Node as IsNode, Client as IsClient}

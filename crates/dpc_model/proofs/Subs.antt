@@ -1,5 +1,5 @@
 -- Sessions and ports, by number.
-use Rattle.std.proofs.Common.{◌≡◌, ℕ, zero, suc, List, [], ◌∷◌, map, refl, ◌⊎◌, inl, inr, ◌-◌, length, false, Some, None, slice_get, true, cond, ◌||◌, nat_lt, Option}
+use Rattle.std.proofs.Common.{◌≡◌, ℕ, zero, suc, List, [], ◌∷◌, map, refl, ◌⊎◌, inl, inr, length, false, Some, None, slice_get, true, cond, ◌||◌, nat_lt, Option}
 use Rattle.std.proofs.lemmas.List.{length-map}
 use Rattle.dpc_lists.specs.Lists.{nth}
 use Rattle.dpc_model.specs.Sessions.{no_session, with_batch, with_batches, tally_of}

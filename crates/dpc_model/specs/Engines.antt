@@ -1,5 +1,5 @@
 -- Engines that take one bucket after another: what they take, and what they answer.
-use Rattle.std.specs.Prelude.{⊤, ℕ, ◌+◌, ◌*◌, ◌^◌, ◌<◌, Bool, true, IsTrue, ◌&&◌, ◌||◌, ◌==◌, nat_lt, nat_le, Option, Some, None, List, [], ◌∷◌, ◌++◌, map, filter, length, drop, All}
+use Rattle.std.specs.Prelude.{⊤, ◌≡◌, ℕ, ◌+◌, ◌*◌, ◌^◌, ◌<◌, Bool, true, false, IsTrue, ◌&&◌, ◌||◌, ◌==◌, nat_lt, nat_le, Option, Some, None, List, [], ◌∷◌, ◌++◌, map, filter, length, drop, All}
 use Rattle.std.specs.List.{AllAdjacentBelow}
 use Rattle.dpc_lists.specs.Lists.{range_with_len}
 use Rattle.dpc_model.specs.Fragments.{at_port, fragment_value}
@@ -46,6 +46,11 @@ abbrev pub Accepts : Option ℕ → ℕ → List Tagged → Type 0
 Accepts None k xs = ⊤
 Accepts (Some width) k xs = FitsBucket width k xs
 
+-- each of these buckets, from number k on, is accepted in its turn
+abbrev pub AcceptsAll : Option ℕ → ℕ → List (List Tagged) → Type 0
+AcceptsAll width k [] = ⊤
+AcceptsAll width k (b ∷ bs) = Accepts width k b × AcceptsAll width (k + 1) bs
+
 -- a tagged tuple lies below a time
 abbrev pub LiesBelow : ℕ → Tagged → Type 0
 LiesBelow b x = x.tuple.stime < b
@@ -73,6 +78,14 @@ nameless ops = map (λ (op : OpSpec). record { name = []; kind = op.kind; reads 
 -- what an operator makes of n inputs
 abbrev pub operator_value : OpKind → ℕ → Value
 operator_value kind n xs b = output_of kind (ports_of n xs) b
+
+-- two unspent engines of one width with the same operators took the same inputs, those of the buckets below this one
+pub record TookAlike {M : Type 0} (width : M → Option ℕ) (operators : M → List OpSpec) (is_spent : M → Bool)
+    (after : M → List Tagged → ℕ → Type 0) (m n : M) (xs : List Tagged) (k : ℕ) : Type 0 where
+  pub wide : width m ≡ width n
+  pub made_of : operators m ≡ operators n
+  pub unspent : (is_spent m ≡ false) × (is_spent n ≡ false)
+  pub took : after m xs k × after n xs k
 
 -- the output that bucket k adds, where the inputs before it are known
 abbrev pub added_output : Value → ℕ → List Tagged → List Tagged → ℕ → List Tuple

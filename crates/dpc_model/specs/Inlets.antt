@@ -30,6 +30,10 @@ pub record InletState : Type 0 where
 abbrev pub new_inlet : ℕ → InletState
 new_inlet i = record { held = empty_reader; sess = sess_of i 1; next = 0; answered = true; broken = false }
 
+-- an inlet of no port
+abbrev pub no_inlet : InletState
+no_inlet = new_inlet 0
+
 -- what holds these tuples, all up to b, and has no session yet
 abbrev pub restarted_inlet : Reader → Sess → InletState
 restarted_inlet r s = record { held = r; sess = s; next = 0; answered = false; broken = true }

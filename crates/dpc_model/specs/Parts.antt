@@ -1,7 +1,7 @@
 -- The parts of a node, as the contracts of each part see them: its inputs, its output, and what it knows of others.
-use Rattle.std.specs.Prelude.{ℕ, ◌+◌, ◌*◌, Bool, not, ◌&&◌, ◌==◌, if◌then◌else◌, List, ◌++◌, map, length, drop, Option, Some, None}
+use Rattle.std.specs.Prelude.{ℕ, ◌+◌, ◌*◌, ◌≤◌, Bool, not, ◌&&◌, ◌==◌, if◌then◌else◌, List, ◌++◌, map, length, drop, Option, Some, None, All}
 use Rattle.dpc_lists.specs.Lists.{is_nil}
-use Rattle.dpc_model.specs.Streams.{cut}
+use Rattle.dpc_model.specs.Streams.{cut, InOrder}
 use Rattle.dpc_model.specs.Operators.{between, all_of}
 use Rattle.dpc_model.specs.Reading.{Reader}
 use Rattle.dpc_model.specs.Fragments.{serial}
@@ -23,6 +23,14 @@ pub record Inputs : Type 0 where
   pub stamps : Stamps
   pub cursor : ℕ
   pub closed : List (List Tagged)
+
+-- each port's stable tuples are in order of time
+abbrev pub AreInOrder : Inputs → Type 0
+AreInOrder x = All (λ (i : InletState). InOrder i.held.stable) x.inlets
+
+-- no port holds a tentative tuple below its bound
+abbrev pub ArePastBounds : Inputs → Type 0
+ArePastBounds x = All (λ (i : InletState). All (λ (t : Tuple). i.held.bound ≤ t.stime) i.held.tentative) x.inlets
 
 -- the frontier: the first bucket that is neither processed nor closed
 abbrev pub frontier_of : Inputs → ℕ

@@ -46,9 +46,13 @@ abbrev pub rank_by : Option (NodeState × Bool) → Rank
 rank_by None = Stable
 rank_by (Some s) = if s.1 then Stabilizing else rank_said s.0
 
--- absent: three ticks brought no beat, or it truncated what the reader asks for
+-- the number of ticks without a beat that tell that a replica is absent
+abbrev pub absent_after : ℕ
+absent_after = 3
+
+-- absent: so many ticks brought no beat, or it truncated what the reader asks for
 abbrev pub is_absent : Watch → Bool
-is_absent w = nat_le 3 w.ticks || is_some w.truncated
+is_absent w = nat_le absent_after w.ticks || is_some w.truncated
 
 abbrev pub rank_of : Watch → Rank
 rank_of w = if is_absent w then Absent else rank_by w.said

@@ -1,7 +1,7 @@
 //! Engines that take one bucket of inputs after another.
 ghost use Rattle.std.specs.Prelude.{◌≡◌, ◌+◌, ◌*◌, ◌^◌, ◌<◌, ◌≤◌, ◌++◌, ◌↔◌, ℕ, List, [], Bool, true, false, Option, unwrap_or, length, All, IfOk, OnOk, OnErr, is_err, IsTrue};
 ghost use Rattle.std.specs.List.{AllAdjacentBelow};
-ghost use Rattle.dpc_model.specs.Engines.{Accepts, FitsBucket, engine_value, added_output, precedes};
+ghost use Rattle.dpc_model.specs.Engines.{Accepts, FitsBucket, TookAlike, engine_value, added_output, precedes};
 ghost use Rattle.dpc_model.specs.declared.operators.OpSpec.{OpSpec};
 ghost use Rattle.dpc_model.specs.declared.tuples.Tagged.{Tagged};
 
@@ -82,9 +82,12 @@ pub trait Engine: Sized {
         ensures same { IfOk result (λ other. other ≡ self.now) }
         ensures spent { result ≡ Err StepFault.Spent ↔ is_spent self.now ≡ true };
 
-    /// Whether the two are the same engine in the same state.
+    /// Whether the two are the same engine in the same state. What an unspent engine is made of, and what it
+    /// took, determines its state.
     fn same(&self, other: &Self) -> bool
-        ensures { IsTrue result ↔ (self.now ≡ other.now) };
+        ensures same { IsTrue result ↔ (self.now ≡ other.now) }
+        ensures determined { (xs : List Tagged) (k : ℕ)
+            → TookAlike width operators is_spent after self.now other.now xs k → self.now ≡ other.now };
 
     /// The state before bucket 0.
     fn reset(&mut self)

@@ -1,5 +1,5 @@
 -- What a mill took determines it.
-use Rattle.std.proofs.Common.{◌≡◌, ℕ, ◌*◌, ◌<◌, false, Bool, List, [], length, take, get_or, unwrap_or, refl, sym, ◌∙◌, ap, arith, All}
+use Rattle.std.proofs.Common.{◌≡◌, ℕ, ◌*◌, ◌<◌, false, Bool, Option, Some, None, List, [], length, take, get_or, unwrap_or, refl, sym, ◌∙◌, ap, arith, All}
 use Rattle.std.proofs.lemmas.List.{same_lists}
 use Rattle.std.proofs.Math.ListN.{get_or-map}
 use Rattle.dpc_model.specs.Fragments.{outputs_after}
@@ -14,10 +14,10 @@ use Rattle.ops_window.proofs.Standing.{aggregate_before, aggregate-is}
 use Rattle.fragment_mill.specs.declared.operator.Operator.{Operator}
 use Rattle.fragment_mill.specs.declared.operator.Operator.TheVariants.{Filter, Map, Union, Join, Aggregate}
 use Rattle.fragment_mill.specs.declared.mill.Stage.{Stage}
-use Rattle.fragment_mill.specs.Mills.{kind_of, port_count, width_of, next_of, spent_of, OperatorAfter, MillState, spec_of, specs_of, inputs_of}
+use Rattle.fragment_mill.specs.Mills.{kind_of, port_count, width_of, next_of, spent_of, operators_of, OperatorAfter, MillState, spec_of, specs_of, inputs_of, MillAfter}
 use Rattle.fragment_mill.specs.Milling.{ports_for, IsFit, IsMill}
 use Rattle.fragment_mill.specs.Sameness.{InputsDetermineMills}
-use Rattle.fragment_mill.proofs.Operators.{next-after}
+use Rattle.fragment_mill.proofs.Operators.{kind-stays, ports-stay, next-after}
 use Rattle.fragment_mill.proofs.Running.{specs-length}
 
 -- ---- one operator
@@ -47,6 +47,17 @@ same-operators o p w xs k kind ports width width' idle idle' after after' =
     ∙ ap (λ (a : OpKind). operator_before a (port_count o) w xs k) kind
     ∙ ap (λ (n : ℕ). operator_before (kind_of p) n w xs k) ports
     ∙ sym (operator-is p w xs k width' idle' after')
+
+-- so are two of one width with the same operators
+width-own : (w : Option ℕ) → unwrap_or w (unwrap_or w 0) ≡ unwrap_or w 0
+width-own None = refl
+width-own (Some n) = refl
+
+pub same-engines : (o p : Operator) (xs : List Tagged) (k : ℕ) → width_of o ≡ width_of p → operators_of o ≡ operators_of p →
+    (spent_of o ≡ false) × (spent_of p ≡ false) → OperatorAfter o xs k × OperatorAfter p xs k → o ≡ p
+same-engines o p xs k width made idle after =
+    same-operators o p (unwrap_or (width_of o) 0) xs k (kind-stays p o made) (ports-stay p o made) (width-own (width_of o))
+    (rw width (width-own (width_of p))) idle.0 idle.1 after.0 after.1
 
 -- ---- the stages
 
@@ -105,3 +116,9 @@ same-mills m n xs k mill mill' width specs idle idle' after after' =
     (mill.idle idle i d low) (mill'.idle idle' i d low') (after.stages i d low) taken)
     in
     same-parts m.width n.width m.stages n.stages m.next n.next m.spent n.spent width stages (after.next ∙ sym after'.next) (idle ∙ sym idle')
+
+-- .. and so they are as engines
+pub mills-determined : (m n : MillState) (xs : List Tagged) (k : ℕ) → IsMill m → IsMill n → Some m.width ≡ Some n.width → specs_of m.stages ≡ specs_of n.stages →
+    (m.spent ≡ false) × (n.spent ≡ false) → MillAfter m xs k × MillAfter n xs k → m ≡ n
+mills-determined m n xs k mill mill' wide specs idle after =
+    let width : m.width ≡ n.width = cc in same-mills m n xs k mill mill' width specs idle.0 idle.1 after.0 after.1

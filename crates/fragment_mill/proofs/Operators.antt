@@ -23,12 +23,12 @@ use Rattle.dpc_model.proofs.Serial.{at_port-serial, ports_of-serial}
 
 -- ---- what stays
 
-kind-stays : (o p : Operator) → operators_of p ≡ operators_of o → kind_of p ≡ kind_of o
+pub kind-stays : (o p : Operator) → operators_of p ≡ operators_of o → kind_of p ≡ kind_of o
 kind-stays o p e =
     let same : kind_of p ∷ [] ≡ kind_of o ∷ [] = ap (λ (ops : List OpSpec). map (λ (op : OpSpec). op.kind) ops) e in
     cc
 
-ports-stay : (o p : Operator) → operators_of p ≡ operators_of o → port_count p ≡ port_count o
+pub ports-stay : (o p : Operator) → operators_of p ≡ operators_of o → port_count p ≡ port_count o
 ports-stay o p e =
     let many : (n : ℕ) → length (map {A = ℕ} {B = Wire} Port (range_with_len 0 n)) ≡ n = length-map-range_with_len {X = Wire} Port 0 in
     let same : map {A = ℕ} {B = Wire} Port (range_with_len 0 (port_count p)) ∷ [] ≡ map {A = ℕ} {B = Wire} Port (range_with_len 0 (port_count o)) ∷ [] =

@@ -1,31 +1,162 @@
--- The lines of one element more.
-use Rattle.std.proofs.Common.{◌≡◌, ℕ, ◌+◌, ◌<◌, List, [], ◌∷◌, ◌++◌, length, take, get_or, flat_map, sym, ◌∙◌, ap}
-use Rattle.std.proofs.lemmas.List.{take_more, append-nil}
+-- The lines of a stream, one bucket more, and of clients, one more.
+use Rattle.std.proofs.Common.{◌≡◌, ℕ, ◌+◌, ◌*◌, ◌<◌, ◌≤◌, List, [], ◌∷◌, ◌++◌, length, take, drop, get_or, flat_map, map, refl, sym, ◌∙◌, ap, arith, append_assoc, nat_le}
+use Rattle.std.specs.Prelude.{codes}
+use Rattle.std.proofs.lemmas.Grind.{common_steps}
+use Rattle.std.proofs.lemmas.List.{take_more, append-nil, length-append, map-append, take-append-drop}
 use Rattle.std.proofs.lemmas.List.Concat.{flat_map-append}
 use Rattle.dpc_model.specs.Words.{Word, line_of, text_of}
+use Rattle.dpc_model.specs.Streams.{cut, InOrder, time_of, is_below}
+use Rattle.dpc_model.specs.Engines.{from_time}
 use Rattle.dpc_model.specs.Fragments.{ideal}
+use Rattle.dpc_model.specs.Sessions.{stable_items}
+use Rattle.dpc_model.specs.declared.tuples.Item.{Item}
+use Rattle.dpc_model.specs.declared.tuples.Item.TheVariants.{Stable}
 use Rattle.dpc_model.specs.declared.tuples.Tuple.{Tuple}
 use Rattle.dpc_model.specs.declared.plans.ClientSpec.{ClientSpec}
 use Rattle.dpc_model.specs.declared.plans.Plan.{Plan}
-use Rattle.report.specs.Text.{stream_lines}
+use Rattle.dpc_model.specs.declared.plans.StreamRef.{StreamRef}
+use Rattle.dpc_model.proofs.Causality.{filter-filter}
+use Rattle.dpc_model.proofs.WindowCausality.{filter-implied}
+use Rattle.dpc_model.proofs.Cuts.{none-below, none_below-zero, ordered-split}
+use Rattle.dpc_model.proofs.Order.{IsOrdered-filter, ideal_upto-InOrder}
+use Rattle.dpc_model.proofs.IdealCausality.{cut-ideal_upto}
+use Rattle.report.specs.Text.{item_words, stream_lines, total_words, ideal_text}
+use Rattle.ideal_run.specs.Buckets.{bucket_of, client_text}
+use Rattle.ideal_run.specs.IdealPlans.{IsIdealPlan}
 
-pub lines-more : {X : Type 0} (f : X → List (List Word)) (xs : List X) (i : ℕ) (d : X) → i < length xs →
-    text_of (flat_map f (take i xs)) ++ text_of (f (get_or xs i d)) ≡ text_of (flat_map f (take (i + 1) xs))
-lines-more f xs i d h =
-    let x = get_or xs i d in
-    sym (flat_map-append line_of (flat_map f (take i xs)) (f x))
-    ∙ ap text_of
-    (ap (λ (lines : List (List Word)). flat_map f (take i xs) ++ lines) (sym (append-nil (f x)))
-    ∙ sym (flat_map-append f (take i xs) (x ∷ [])) ∙ ap (flat_map f) (sym (take_more xs i d h)))
+-- ---- numbered tuples
 
--- the lines of a client's stream
-abbrev pub client_stream : Plan → ClientSpec → List (List Word)
-client_stream plan c = stream_lines c.name (ideal plan c.input)
+stable_items-append : (n : ℕ) (ts us : List Tuple) → stable_items n (ts ++ us) ≡ stable_items n ts ++ stable_items (n + length ts) us
+stable_items-append n [] us = let none : n + 0 ≡ n = omega arith in rw none refl
+stable_items-append n (t ∷ ts) us =
+    let next : n + length (t ∷ ts) ≡ n + 1 + length ts = omega arith in
+    rw next (ap (λ (items : List Item). Stable n t ∷ items) (stable_items-append (n + 1) ts us))
+
+-- the lines of some tuples, the first of which has this number
+abbrev pub numbered : ℕ → List Tuple → List ℕ
+numbered n ts = text_of (map item_words (stable_items n ts))
+
+pub numbered-more : (ts us : List Tuple) → numbered 0 ts ++ numbered (length ts) us ≡ numbered 0 (ts ++ us)
+numbered-more ts us =
+    let zero-first : 0 + length ts ≡ length ts = omega arith in
+    sym (flat_map-append line_of (map item_words (stable_items 0 ts)) (map item_words (stable_items (length ts) us)))
+    ∙ ap text_of (sym (map-append item_words (stable_items 0 ts) (stable_items (length ts) us)) ∙ ap (map item_words) (sym (rw zero-first at (stable_items-append 0 ts us))))
+
+-- ---- the buckets of a stream
+
+cut-next : (w k : ℕ) (ts : List Tuple) → InOrder ts → cut ts (k * w) ++ cut (from_time (k * w) ts) ((k + 1) * w) ≡ cut ts ((k + 1) * w)
+cut-next w k ts o =
+    let later : k * w ≤ (k + 1) * w = grind (arith, common_steps) in
+    let early : cut (cut ts ((k + 1) * w)) (k * w) ≡ cut ts (k * w) = filter-implied (is_below (k * w)) (is_below ((k + 1) * w)) (λ t e. grind (arith, common_steps, later)) ts in
+    ap (λ (us : List Tuple). us ++ cut (from_time (k * w) ts) ((k + 1) * w)) (sym early)
+    ∙ ap (λ (us : List Tuple). cut (cut ts ((k + 1) * w)) (k * w) ++ us) (filter-filter (is_below ((k + 1) * w)) (λ (t : Tuple). nat_le (k * w) t.stime) ts)
+    ∙ sym (ordered-split time_of (k * w) (cut ts ((k + 1) * w)) (IsOrdered-filter time_of (is_below ((k + 1) * w)) ts o))
+
+cut-some : (ts : List Tuple) (b : ℕ) → InOrder ts → (rest : List Tuple) × (ts ≡ cut ts b ++ rest)
+cut-some ts b o = (from_time b ts, ordered-split time_of b ts o)
+
+-- ---- a client's text
+
+abbrev name_words : ClientSpec → List Word
+name_words c = codes "client" ∷ c.name ∷ []
+
+-- the lines of a client up to bucket k: its name, and the tuples below the bucket
+abbrev pub text_upto : Plan → ClientSpec → ℕ → List ℕ
+text_upto plan c k = line_of (name_words c) ++ numbered 0 (cut (ideal plan c.input) (k * plan.width))
+
+ideal-ordered : (plan : Plan) (s : StreamRef) → IsIdealPlan plan → InOrder (ideal plan s)
+unfolding ideal
+ideal-ordered plan s h = ideal_upto-InOrder plan s plan.end h.sound.logs
+
+ideal-cut : (plan : Plan) (s : StreamRef) → IsIdealPlan plan → cut (ideal plan s) plan.end ≡ ideal plan s
+unfolding ideal
+ideal-cut plan s h = cut-ideal_upto plan s plan.end plan.end h.sound.ops (omega arith)
+
+none-early : (w : ℕ) (ts : List Tuple) → InOrder ts → cut ts (0 * w) ≡ []
+none-early w ts o = let none : 0 * w ≡ 0 = omega arith in rw none (none-below time_of 0 0 ts (omega arith) (none_below-zero time_of ts))
+
+pub upto-none : (plan : Plan) (c : ClientSpec) → IsIdealPlan plan → line_of (name_words c) ≡ text_upto plan c 0
+upto-none plan c h =
+    let none = none-early plan.width (ideal plan c.input) (ideal-ordered plan c.input h) in
+    sym (ap (λ (ts : List Tuple). line_of (name_words c) ++ numbered 0 ts) none ∙ append-nil (line_of (name_words c)))
+
+pub count-none : (plan : Plan) (c : ClientSpec) → IsIdealPlan plan → 0 ≡ length (cut (ideal plan c.input) (0 * plan.width))
+count-none plan c h = sym (ap length (none-early plan.width (ideal plan c.input) (ideal-ordered plan c.input h)))
+
+pub upto-next : (plan : Plan) (c : ClientSpec) (k n : ℕ) (ts : List Tuple) → IsIdealPlan plan → n ≡ length (cut (ideal plan c.input) (k * plan.width)) → ts ≡ bucket_of plan k c.input →
+    text_upto plan c k ++ numbered n ts ≡ text_upto plan c (k + 1)
+upto-next plan c k n ts h count is =
+    let early = cut (ideal plan c.input) (k * plan.width) in
+    ap (λ (xs : List ℕ). text_upto plan c k ++ xs) (ap (λ (m : ℕ). numbered m ts) count ∙ ap (λ (us : List Tuple). numbered (length early) us) is)
+    ∙ append_assoc (line_of (name_words c)) (numbered 0 early) (numbered (length early) (bucket_of plan k c.input))
+    ∙ ap (λ (xs : List ℕ). line_of (name_words c) ++ xs) (numbered-more early (bucket_of plan k c.input) ∙ ap (λ (us : List Tuple). numbered 0 us) (cut-next plan.width k (ideal plan c.input) (ideal-ordered plan c.input h)))
+
+pub count-next : (plan : Plan) (c : ClientSpec) (k n : ℕ) (ts : List Tuple) → IsIdealPlan plan → n ≡ length (cut (ideal plan c.input) (k * plan.width)) → ts ≡ bucket_of plan k c.input →
+    n + length ts ≡ length (cut (ideal plan c.input) ((k + 1) * plan.width))
+count-next plan c k n ts h count is =
+    let early = cut (ideal plan c.input) (k * plan.width) in
+    ap (λ (m : ℕ). m + length ts) count ∙ ap (λ (us : List Tuple). length early + length us) is ∙ sym (length-append early (bucket_of plan k c.input))
+    ∙ ap length (cut-next plan.width k (ideal plan c.input) (ideal-ordered plan c.input h))
+
+whole-text : (c : ClientSpec) (ts : List Tuple) → text_of (stream_lines c.name ts) ≡ (line_of (name_words c) ++ numbered 0 ts) ++ line_of (total_words (length ts))
+whole-text c ts =
+    ap (λ (xs : List ℕ). line_of (name_words c) ++ xs)
+    (flat_map-append line_of (map item_words (stable_items 0 ts)) (total_words (length ts) ∷ [])
+    ∙ ap (λ (xs : List ℕ). numbered 0 ts ++ xs) (append-nil (line_of (total_words (length ts)))))
+    ∙ sym (append_assoc (line_of (name_words c)) (numbered 0 ts) (line_of (total_words (length ts))))
+
+pub upto-whole : (plan : Plan) (c : ClientSpec) (k n : ℕ) → IsIdealPlan plan → k * plan.width ≡ plan.end → n ≡ length (cut (ideal plan c.input) (k * plan.width)) →
+    text_upto plan c k ++ line_of (total_words n) ≡ client_text plan c
+upto-whole plan c k n h end count =
+    let all : cut (ideal plan c.input) (k * plan.width) ≡ ideal plan c.input = ap (λ (b : ℕ). cut (ideal plan c.input) b) end ∙ ideal-cut plan c.input h in
+    ap (λ (m : ℕ). text_upto plan c k ++ line_of (total_words m)) (count ∙ ap length all)
+    ∙ ap (λ (ts : List Tuple). (line_of (name_words c) ++ numbered 0 ts) ++ line_of (total_words (length (ideal plan c.input)))) all
+    ∙ sym (whole-text c (ideal plan c.input))
+
+-- it is a beginning of the client's text
+pub upto-some : (plan : Plan) (c : ClientSpec) (k : ℕ) → IsIdealPlan plan → (rest : List ℕ) × (client_text plan c ≡ text_upto plan c k ++ rest)
+upto-some plan c k h =
+    let ts = ideal plan c.input in
+    let early = cut ts (k * plan.width) in
+    let late = from_time (k * plan.width) ts in
+    let last = line_of (total_words (length ts)) in
+    let name = line_of (name_words c) in (
+      numbered (length early) late ++ last,
+      whole-text c ts
+          ∙ ap (λ (xs : List ℕ). (name ++ xs) ++ last) (ap (λ (us : List Tuple). numbered 0 us) (ordered-split time_of (k * plan.width) ts (ideal-ordered plan c.input h)) ∙ sym (numbered-more early late))
+          ∙ ap (λ (xs : List ℕ). xs ++ last) (sym (append_assoc name (numbered 0 early) (numbered (length early) late)))
+          ∙ append_assoc (text_upto plan c k) (numbered (length early) late) last,
+    )
+
+-- ---- clients
+
+-- the lines of some clients
+abbrev pub clients_text : Plan → List ClientSpec → List ℕ
+clients_text plan cs = text_of (flat_map (λ (c : ClientSpec). stream_lines c.name (ideal plan c.input)) cs)
+
+clients-append : (plan : Plan) (cs ds : List ClientSpec) → clients_text plan (cs ++ ds) ≡ clients_text plan cs ++ clients_text plan ds
+clients-append plan cs ds =
+    ap text_of (flat_map-append (λ (c : ClientSpec). stream_lines c.name (ideal plan c.input)) cs ds)
+    ∙ flat_map-append line_of (flat_map (λ (c : ClientSpec). stream_lines c.name (ideal plan c.input)) cs) (flat_map (λ (c : ClientSpec). stream_lines c.name (ideal plan c.input)) ds)
+
+one-client : (plan : Plan) (c : ClientSpec) → clients_text plan (c ∷ []) ≡ client_text plan c
+one-client plan c = ap text_of (append-nil (stream_lines c.name (ideal plan c.input)))
 
 -- one client more
-pub client-more : (plan : Plan) (i : ℕ) (client : ClientSpec) (name old new : List ℕ) (stream : List Tuple) → i < length plan.clients → client ≡ get_or plan.clients i client →
-    old ≡ text_of (flat_map (client_stream plan) (take i plan.clients)) → name ≡ client.name → stream ≡ ideal plan client.input →
-    new ≡ old ++ text_of (stream_lines name stream) → new ≡ text_of (flat_map (client_stream plan) (take (i + 1) plan.clients))
-client-more plan i client name old new stream h at before n s e =
-    e ∙ rw (before, n, s) (ap (λ (c : ClientSpec). text_of (flat_map (client_stream plan) (take i plan.clients)) ++ text_of (client_stream plan c)) at)
-    ∙ lines-more (client_stream plan) plan.clients i client h
+pub clients-more : (plan : Plan) (i : ℕ) (c : ClientSpec) → i < length plan.clients → c ≡ get_or plan.clients i c →
+    clients_text plan (take i plan.clients) ++ client_text plan c ≡ clients_text plan (take (i + 1) plan.clients)
+clients-more plan i c low at =
+    ap (λ (xs : List ℕ). clients_text plan (take i plan.clients) ++ xs) (sym (one-client plan c))
+    ∙ sym (clients-append plan (take i plan.clients) (c ∷ []))
+    ∙ ap (λ (d : ClientSpec). clients_text plan (take i plan.clients ++ d ∷ [])) at
+    ∙ ap (clients_text plan) (sym (take_more plan.clients i c low))
+
+-- the first ones are a beginning of all
+pub clients-some : (plan : Plan) (i : ℕ) → (rest : List ℕ) × (ideal_text plan ≡ clients_text plan (take i plan.clients) ++ rest)
+unfolding ideal_text
+clients-some plan i =
+    (clients_text plan (drop i plan.clients), ap (clients_text plan) (sym (take-append-drop i plan.clients)) ∙ clients-append plan (take i plan.clients) (drop i plan.clients))
+
+pub clients-all : (plan : Plan) → clients_text plan plan.clients ≡ ideal_text plan
+unfolding ideal_text
+clients-all plan = refl

@@ -1,1 +1,2 @@
 pub mod IdealPlans
+pub mod Buckets

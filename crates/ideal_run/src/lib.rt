@@ -1,46 +1,36 @@
-//! The failure-free streams of a plan, bucket by bucket through the mills of its fragments.
+//! The failure-free streams of a plan, bucket by bucket through the mills of its fragments, written as they come.
 #![tactic(auto)]
 
-ghost use Rattle.std.specs.Prelude.{◌≡◌, IfOk};
+ghost use Rattle.std.specs.Prelude.{OnOk, IfErr};
+ghost use Rattle.dpc_edge.specs.Edges.{Took};
 ghost use Rattle.report.specs.Text.{ideal_text};
-ghost use Rattle.ideal_run.specs.IdealPlans.{IsIdealPlan, frag_streams};
+ghost use Rattle.ideal_run.specs.Buckets.{Stopped};
+ghost use Rattle.ideal_run.specs.IdealPlans.{IsIdealPlan};
 
+pub mod faults;
 mod inputs;
 mod milling;
+mod writing;
 
-use crate::inputs::stream_of;
-use crate::milling::frag_stream;
-use dpc_lists::faults::NoMemory;
+use crate::faults::WriteFault;
+use crate::writing::{write_held, write_stream};
+use dpc_edge::sink::Sink;
 use dpc_model::plans::Plan;
-use dpc_model::tuples::Tuples;
-use report::text::put_stream;
 use std::alloc::Global;
 
-/// The failure-free streams of the fragments in order.
-fn all_streams(alloc: Global, plan: &Plan) -> Result<Vec<Tuples>, NoMemory>
+/// Writes the failure-free stream of each client in order, as it is milled: a line of its name, one line for
+/// each tuple, and how many there are. No stream is held, so that memory is for the operators' state, one
+/// bucket and one piece of the text; each client's fragment is milled anew, with those before it. Where it
+/// ends early, a beginning of the text stands on the sink.
+pub fn write_ideal<K: Sink>(alloc: Global, plan: &Plan, out: &mut K) -> Result<(), WriteFault>
     requires { IsIdealPlan plan.now }
-    ensures { IfOk result (λ streams. streams.items ≡ frag_streams plan.now) }
+    ensures took { OnOk result (Took (K.edge out.old) (K.edge out.new) (ideal_text plan.now)) }
+    ensures err { IfErr result (λ why. Stopped why (K.edge out.old) (K.edge out.new) (ideal_text plan.now)) }
 {
-    let count = plan.frags.len();
-    let mut streams = Vec::with_capacity(alloc, count)?;
-    for frag in 0..count {
-        let stream = frag_stream(alloc, plan, frag, streams.as_slice())?;
-        streams.push(stream)?;
-    }
-    Ok(streams)
-}
-
-/// The failure-free stream of each client in order: a line of its name, one line for each tuple, and how
-/// many there are.
-pub fn ideal_text(alloc: Global, plan: &Plan) -> Result<Vec<u8>, NoMemory>
-    requires { IsIdealPlan plan.now }
-    ensures { IfOk result (λ text. text.items ≡ ideal_text plan.now) }
-{
-    let streams = all_streams(alloc, plan)?;
     let mut text = Vec::new(alloc);
     for client in plan.clients.as_slice() {
-        let stream = stream_of(plan, streams.as_slice(), client.input);
-        put_stream(&mut text, client.name.as_slice(), stream)?;
+        write_stream(alloc, plan, client, out, &mut text)?;
     }
-    Ok(text)
+    write_held(out, &mut text)?;
+    Ok(())
 }

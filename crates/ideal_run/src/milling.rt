@@ -1,83 +1,74 @@
-//! A fragment over whole streams, bucket by bucket.
-ghost use Rattle.std.specs.Prelude.{◌≡◌, ◌+◌, ◌*◌, ◌^◌, ◌<◌, ◌++◌, List, take, length, filter, nat_le, IfOk, OnOk};
-ghost use Rattle.dpc_model.specs.Streams.{IsOrdered};
-ghost use Rattle.dpc_model.specs.Engines.{FitsBucket, engine_value};
-ghost use Rattle.dpc_model.specs.Fragments.{AreSoundOps, cut_tagged, ideal};
-ghost use Rattle.dpc_model.specs.declared.tuples.Tagged.{Tagged};
+//! The mills of the first fragments of a plan, all of them bucket by bucket.
+ghost use Rattle.std.specs.Prelude.{◌≡◌, ◌+◌, ◌/◌, ◌<◌, ◌≤◌, length, IfOk, OnOk};
 ghost use Rattle.dpc_model.specs.declared.plans.StreamRef.TheVariants.{Frag};
-ghost use Rattle.fragment_mill.specs.Mills.{MillAfter, specs_of};
-ghost use Rattle.ideal_run.specs.IdealPlans.{IsIdealPlan, frag_streams};
+ghost use Rattle.ideal_run.specs.Buckets.{bucket_of, buckets_before, IsMillOf, AreMills};
+ghost use Rattle.ideal_run.specs.IdealPlans.{IsIdealPlan};
 
-use crate::inputs::serial_inputs;
+use crate::inputs::bucket_inputs;
 use dpc_lists::faults::NoMemory;
-use dpc_lists::lists::Listed;
 use dpc_model::engines::Engine;
 use dpc_model::plans::Plan;
-use dpc_model::tuples::{Tagged, Tuple, Tuples};
+use dpc_model::tuples::Tuples;
 use fragment_mill::mill::FragMill;
 use std::alloc::Global;
 
-/// The inputs below a time, and the others.
-fn split_below<'a>(inputs: &'a [Tagged], time: u64) -> (&'a [Tagged], &'a [Tagged])
-    requires { IsOrdered (λ (x : Tagged). x.tuple.stime) inputs.now }
-    ensures below { result.0.now ≡ cut_tagged time inputs.now }
-    ensures rest { result.1.now ≡ filter (λ (x : Tagged). nat_le time x.tuple.stime) inputs.now }
-{
-    let mut count = 0;
-    while count < inputs.len() && inputs[count].tuple.stime < time {
-        count += 1;
-    }
-    inputs.split_at(count)
-}
-
-/// Mills bucket k, and appends what it adds.
+/// Mills bucket k of a fragment, where those before it gave these: the bucket of its failure-free stream.
 fn mill_bucket(
     alloc: Global,
-    mill: &mut FragMill,
-    bucket: &[Tagged],
-    k: u64,
-    output: &mut Vec<Tuple>,
-) -> Result<(), NoMemory>
-    requires next { k ≡ mill.old.next }
-    requires range { k + 1 < 2 ^ 64 }
-    requires fits { FitsBucket mill.old.width k bucket.now }
-    requires sound { AreSoundOps (specs_of mill.old.stages) }
-    ensures output { OnOk result ((before : List Tagged) → MillAfter mill.old before k
-        → output.old.items ≡ engine_value (specs_of mill.old.stages) before (k * mill.old.width)
-        → output.new.items ≡ engine_value (specs_of mill.old.stages) (before ++ bucket.now) ((k + 1) * mill.old.width)) }
-    ensures after { OnOk result ((before : List Tagged) → MillAfter mill.old before k
-        → MillAfter mill.new (before ++ bucket.now) (k + 1)) }
-    ensures operators { specs_of mill.new.stages ≡ specs_of mill.old.stages }
-    ensures width { mill.new.width ≡ mill.old.width }
-{
-    let Ok(more) = mill.bucket(alloc, bucket, k) else {
-        return Err(NoMemory);
-    };
-    output.append(&mut more.into_vec())?;
-    Ok(())
-}
-
-/// The failure-free stream of a fragment, where those before it have these streams.
-pub(crate) fn frag_stream(
-    alloc: Global,
     plan: &Plan,
-    frag: usize,
-    streams: &[Tuples],
+    mill: &mut FragMill,
+    outputs: &[Tuples],
+    k: u64,
 ) -> Result<Tuples, NoMemory>
     requires plan { IsIdealPlan plan.now }
-    requires frag { frag < length plan.now.frags }
-    requires streams { streams.now ≡ take frag (frag_streams plan.now) }
-    ensures { IfOk result (λ stream. stream ≡ ideal plan.now (Frag frag)) }
+    requires frag { length outputs.now < length plan.now.frags }
+    requires bucket { k < plan.now.end / plan.now.width }
+    requires outputs { outputs.now ≡ buckets_before plan.now k (length outputs.now) }
+    requires mill { IsMillOf plan.now k (length outputs.now) mill.old }
+    ensures output { IfOk result (λ output. output ≡ bucket_of plan.now k (Frag (length outputs.now))) }
+    ensures after { OnOk result (IsMillOf plan.now (k + 1) (length outputs.now) mill.new) }
 {
-    let reads = plan.frags.as_slice()[frag].inputs.as_slice();
-    let inputs = serial_inputs(alloc, plan, streams, reads)?;
-    let mut mill = FragMill::new(alloc, plan, frag as u64)?;
-    let mut rest = inputs.as_slice();
-    let mut output = Vec::new(alloc);
-    for k in 0..plan.end / plan.width {
-        let (bucket, later) = split_below(rest, (k + 1) * plan.width);
-        mill_bucket(alloc, &mut mill, bucket, k, &mut output)?;
-        rest = later;
+    let reads = plan.frags.as_slice()[outputs.len()].inputs.as_slice();
+    let bucket = bucket_inputs(alloc, plan, outputs, reads, k)?;
+    let Ok(output) = mill.bucket(alloc, bucket.as_slice(), k) else {
+        return Err(NoMemory);
+    };
+    Ok(output)
+}
+
+/// Mills bucket k of the first fragments in order: the bucket of each one's failure-free stream.
+pub(crate) fn mill_all(
+    alloc: Global,
+    plan: &Plan,
+    mills: &mut Vec<FragMill>,
+    k: u64,
+) -> Result<Vec<Tuples>, NoMemory>
+    requires plan { IsIdealPlan plan.now }
+    requires few { length mills.old.items ≤ length plan.now.frags }
+    requires bucket { k < plan.now.end / plan.now.width }
+    requires mills { AreMills plan.now k mills.old.items }
+    ensures outputs { IfOk result (λ outputs. outputs.items ≡ buckets_before plan.now k (length mills.old.items)) }
+    ensures after { OnOk result (AreMills plan.now (k + 1) mills.new.items) }
+    ensures long { length mills.new.items ≡ length mills.old.items }
+{
+    let mut outputs = Vec::with_capacity(alloc, mills.len())?;
+    for frag in 0..mills.len() {
+        let output = mill_bucket(alloc, plan, &mut mills[frag], outputs.as_slice(), k)?;
+        outputs.push(output)?;
     }
-    Ok(Listed::from_vec(output))
+    Ok(outputs)
+}
+
+/// The mills of the first fragments, before bucket 0.
+pub(crate) fn new_mills(alloc: Global, plan: &Plan, count: usize) -> Result<Vec<FragMill>, NoMemory>
+    requires plan { IsIdealPlan plan.now }
+    requires few { count ≤ length plan.now.frags }
+    ensures mills { IfOk result (λ mills. AreMills plan.now 0 mills.items) }
+    ensures long { IfOk result (λ mills. length mills.items ≡ count) }
+{
+    let mut mills = Vec::with_capacity(alloc, count)?;
+    for frag in 0..count {
+        mills.push(FragMill::new(alloc, plan, frag as u64)?)?;
+    }
+    Ok(mills)
 }

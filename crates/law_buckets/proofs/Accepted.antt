@@ -4,7 +4,7 @@ use Rattle.std.proofs.lemmas.List.Elements.{filter_passes}
 use Rattle.std.proofs.lemmas.List.FromFn.{length-map-range_with_len}
 use Rattle.std.proofs.lemmas.Simd.{map-map}
 use Rattle.std.specs.List.{filter}
-use Rattle.dpc_model.specs.Engines.{lies_in, LiesIn, FitsBucket}
+use Rattle.dpc_model.specs.Engines.{lies_in, LiesIn, FitsBucket, AcceptsAll}
 use Rattle.dpc_model.specs.Fragments.{serial}
 use Rattle.dpc_model.specs.Parts.{Inputs, bucket_at, bucket_held}
 use Rattle.dpc_model.specs.Reading.{Reader}
@@ -12,7 +12,6 @@ use Rattle.dpc_model.specs.declared.tuples.Tuple.{Tuple}
 use Rattle.dpc_model.specs.declared.tuples.Tagged.{Tagged}
 use Rattle.dpc_model.proofs.Kept.{serial-kept}
 use Rattle.dpc_model.proofs.Serial.{serial-is, serial-adjacent}
-use Rattle.checkpoint_redo.specs.Keeping.{AcceptsAll}
 use Rattle.sunion.specs.Unions.{held_in, bucket_in}
 use Rattle.law_buckets.specs.Series.{buckets_from}
 

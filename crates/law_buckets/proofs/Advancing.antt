@@ -3,13 +3,13 @@ use Rattle.std.proofs.Common.{◌≡◌, ℕ, ◌+◌, ◌*◌, ◌<◌, Bool, t
 use Rattle.std.proofs.Math.Seq.{drop-length}
 use Rattle.dpc_lists.specs.Lists.{is_nil}
 use Rattle.dpc_model.specs.Operators.{all_of}
-use Rattle.dpc_model.specs.Engines.{engine_value}
+use Rattle.dpc_model.specs.Engines.{engine_value, AcceptsAll}
 use Rattle.dpc_model.specs.Fragments.{AreSoundOps, fragment_value}
 use Rattle.dpc_model.specs.Parts.{Inputs, stream_by, processed, processed_and_closed, frontier_of}
 use Rattle.dpc_model.specs.declared.tuples.Tuple.{Tuple}
 use Rattle.dpc_model.specs.declared.tuples.Tagged.{Tagged}
 use Rattle.dpc_model.specs.declared.operators.OpSpec.{OpSpec}
-use Rattle.checkpoint_redo.specs.Keeping.{AcceptsAll, added_by}
+use Rattle.checkpoint_redo.specs.Keeping.{added_by}
 use Rattle.checkpoint_redo.proofs.Adding.{buckets-add}
 use Rattle.sunion.specs.Unions.{after_advancing, without_closed}
 use Rattle.law_buckets.specs.Series.{buckets_from, AreReady}

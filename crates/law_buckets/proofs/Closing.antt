@@ -3,12 +3,12 @@ use Rattle.std.proofs.Common.{◌≡◌, ℕ, ◌+◌, ◌*◌, List, ◌++◌, 
 use Rattle.std.proofs.lemmas.Grind.{flat_map-append}
 use Rattle.std.proofs.Math.Seq.{drop-append_seam}
 use Rattle.dpc_model.specs.Operators.{all_of}
-use Rattle.dpc_model.specs.Engines.{engine_value}
+use Rattle.dpc_model.specs.Engines.{engine_value, AcceptsAll}
 use Rattle.dpc_model.specs.Fragments.{AreSoundOps, fragment_value}
 use Rattle.dpc_model.specs.Parts.{Inputs, processed, processed_and_closed, frontier_of}
 use Rattle.dpc_model.specs.declared.tuples.Tagged.{Tagged}
 use Rattle.dpc_model.specs.declared.operators.OpSpec.{OpSpec}
-use Rattle.checkpoint_redo.specs.Keeping.{AcceptsAll, added_by}
+use Rattle.checkpoint_redo.specs.Keeping.{added_by}
 use Rattle.law_buckets.specs.Series.{buckets_from, CanClose, after_closing_all}
 use Rattle.law_buckets.specs.Laws.{BucketsClose}
 use Rattle.law_buckets.proofs.Accepted.{buckets-accepted, accepts-append, count-buckets}

@@ -11,7 +11,7 @@ use Rattle.dpc_model.specs.Operators.{all_of}
 use Rattle.dpc_model.specs.Engines.{lies_in}
 use Rattle.dpc_model.specs.Fragments.{serial, tagged_from, cut_tagged}
 use Rattle.dpc_model.specs.Inlets.{InletState}
-use Rattle.dpc_model.specs.Parts.{Inputs, processed, bucket_at}
+use Rattle.dpc_model.specs.Parts.{Inputs, processed, bucket_at, ArePastBounds}
 use Rattle.dpc_model.specs.Reading.{Reader}
 use Rattle.dpc_model.specs.declared.tuples.Tuple.{Tuple}
 use Rattle.dpc_model.specs.declared.tuples.Tagged.{Tagged}
@@ -21,7 +21,7 @@ use Rattle.dpc_model.proofs.Kept.{serial-kept}
 use Rattle.dpc_model.proofs.Order.{IsOrdered-filter, tagged_time}
 use Rattle.dpc_model.proofs.WindowCausality.{filter-implied}
 use Rattle.sunion.specs.Unions.{held_in, bucket_in, complete_upto_in}
-use Rattle.law_buckets.specs.Series.{buckets_from, ArePastBounds}
+use Rattle.law_buckets.specs.Series.{buckets_from}
 use Rattle.law_buckets.proofs.Accepted.{is_in}
 
 -- ---- which ports reach the end of a bucket

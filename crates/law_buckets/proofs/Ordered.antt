@@ -4,13 +4,12 @@ use Rattle.std.proofs.lemmas.Grind.{common_steps}
 use Rattle.std.proofs.lemmas.List.Elements.{filter_passes, All-weaker}
 use Rattle.dpc_model.specs.Streams.{is_below}
 use Rattle.dpc_model.specs.Operators.{all_of}
-use Rattle.dpc_model.specs.Engines.{LiesBelow}
+use Rattle.dpc_model.specs.Engines.{LiesBelow, AcceptsAll}
 use Rattle.dpc_model.specs.Fragments.{cut_tagged}
 use Rattle.dpc_model.specs.Parts.{Inputs, processed}
 use Rattle.dpc_model.specs.declared.tuples.Tagged.{Tagged}
 use Rattle.dpc_model.proofs.Buckets.{inputs-ordered, LiesBelow-next}
 use Rattle.dpc_model.proofs.Order.{IsOrdered-filter, tagged_time}
-use Rattle.checkpoint_redo.specs.Keeping.{AcceptsAll}
 use Rattle.law_buckets.specs.Laws.{IsProcessed, ProcessedInOrder}
 use Rattle.law_buckets.proofs.Complete.{stable_inputs, stable-ordered, processed-cut}
 

@@ -3,12 +3,12 @@ use Rattle.std.specs.Prelude.{◌≡◌, ℕ, ◌+◌, ◌*◌, ◌<◌, Bool, n
 use Rattle.dpc_lists.specs.Lists.{is_nil}
 use Rattle.dpc_model.specs.Streams.{IsOrdered}
 use Rattle.dpc_model.specs.Operators.{all_of}
-use Rattle.dpc_model.specs.Engines.{LiesBelow, engine_value}
+use Rattle.dpc_model.specs.Engines.{LiesBelow, engine_value, AcceptsAll}
 use Rattle.dpc_model.specs.Fragments.{AreSoundOps, fragment_value}
 use Rattle.dpc_model.specs.Parts.{Inputs, frontier_of, processed, processed_and_closed, Stream, stream_by}
 use Rattle.dpc_model.specs.declared.tuples.Tagged.{Tagged}
 use Rattle.dpc_model.specs.declared.operators.OpSpec.{OpSpec}
-use Rattle.checkpoint_redo.specs.Keeping.{AcceptsAll, added_by}
+use Rattle.checkpoint_redo.specs.Keeping.{added_by}
 use Rattle.sunion.specs.Unions.{after_advancing, without_closed}
 use Rattle.law_buckets.specs.Series.{buckets_from, AreReady, CanClose, after_closing_all}
 

@@ -2,19 +2,15 @@
 use Rattle.std.specs.Prelude.{◌≡◌, ℕ, ◌+◌, ◌*◌, ◌^◌, ◌<◌, ◌≤◌, List, [], ◌++◌, map, Some, All}
 use Rattle.dpc_lists.specs.Lists.{range_with_len}
 use Rattle.dpc_model.specs.Inlets.{InletState}
-use Rattle.dpc_model.specs.Parts.{Inputs, frontier_of}
+use Rattle.dpc_model.specs.Parts.{ArePastBounds, Inputs, frontier_of, AreInOrder}
 use Rattle.dpc_model.specs.declared.tuples.Tuple.{Tuple}
 use Rattle.dpc_model.specs.declared.tuples.Tagged.{Tagged}
-use Rattle.checkpoint_redo.specs.Keeping.{AcceptsAll}
-use Rattle.sunion.specs.Unions.{AreInOrder, complete_upto_in, bucket_in}
+use Rattle.dpc_model.specs.Engines.{AcceptsAll}
+use Rattle.sunion.specs.Unions.{complete_upto_in, bucket_in}
 
 -- so many buckets from number k on, as they stand
 abbrev pub buckets_from : ℕ → Inputs → ℕ → ℕ → List (List Tagged)
 buckets_from width x k count = map (bucket_in width x) (range_with_len k count)
-
--- no port holds a tentative tuple below its bound
-abbrev pub ArePastBounds : Inputs → Type 0
-ArePastBounds x = All (λ (i : InletState). All (λ (t : Tuple). i.held.bound ≤ t.stime) i.held.tentative) x.inlets
 
 -- so many buckets from the cursor on can be processed stably
 pub record AreReady (width : ℕ) (x : Inputs) (count : ℕ) : Type 0 where

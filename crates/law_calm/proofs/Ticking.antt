@@ -1,12 +1,10 @@
 -- What a tick makes of the ports of a node that does not recover, and which acknowledgements the steps of a node send.
-use Rattle.std.proofs.Common.{◌≡◌, ℕ, suc, ◌+◌, ◌-◌, min, Bool, true, false, cond, not, ◌&&◌, ◌==◌, nat_lt, List, [], ◌∷◌, ◌++◌, map, length, refl, sym, ap, subst, ◌∙◌, arith, Option, Some, None, slice_get}
-use Rattle.std.specs.Prelude.{is_none}
+use Rattle.std.proofs.Common.{◌≡◌, ℕ, suc, ◌+◌, ◌-◌, min, Bool, true, false, cond, ◌&&◌, ◌==◌, nat_lt, List, [], ◌∷◌, ◌++◌, map, length, refl, sym, ap, subst, ◌∙◌, arith, Option, Some, None, slice_get}
 use Rattle.dpc_lists.specs.Lists.{nth, list_all}
 use Rattle.dpc_model.specs.Granting.{own_key, grants, with_promise, may_enter_by, with_ask}
-use Rattle.dpc_model.specs.Replicas.{is_absent}
 use Rattle.dpc_model.specs.Actors.{role_of, sends_stream, senders_of, replicas_of}
 use Rattle.dpc_model.specs.Ports.{Port, without_ended_marks, port_after_tick, port_after_choice, subscriptions}
-use Rattle.dpc_model.specs.Sessions.{given_items, no_session, Shown, Answered, first_batch, is_newer_than_kept, answer_to}
+use Rattle.dpc_model.specs.Sessions.{given_items, no_session, Shown, answer_to}
 use Rattle.dpc_model.specs.declared.sessions.Sub.{Sub}
 use Rattle.dpc_model.specs.declared.tuples.Item.{Item}
 use Rattle.dpc_model.specs.declared.tuples.Item.TheVariants as item
@@ -16,10 +14,11 @@ use Rattle.dpc_model.specs.declared.messages.Message.TheVariants as message
 use Rattle.dpc_model.specs.declared.messages.NodeState.TheVariants.{Stabilization}
 use Rattle.dpc_model.specs.declared.plans.StreamRef.{StreamRef}
 use Rattle.dpc_model.specs.NodeStates.{is_up_failure, is_stabilization}
-use Rattle.node_model.specs.Mails.{Packet, Plain, SnapFor, Mail, mail, mails, in_actor_order, to_each, Stepped}
-use Rattle.node_model.specs.Nodes.{Home, PlainNode, streams_of, own_readers, node_frontier, out_stable, complete_buckets, ready, due_at, wants_to_reconcile, shown}
-use Rattle.node_model.specs.NodeSteps.{idle_step, peers_of, peer_watches, replica_number, reader_place, give, given_by, given_stable, enter_step, on_subscribe, on_ask, on_grant, on_snap_ask, on_message, with_marks_ended, packet_step, after_stable_buckets, after_last_correction, mill_step, after_clock, choice_step, ask_step, with_closed, with_failure, processing_upto, processing_step, done_at, acks_from, beats, announcing_step, serving_step, tick_step}
+use Rattle.node_model.specs.Mails.{Packet, Plain, SnapFor, Mail, mail, mails, in_actor_order, Stepped}
+use Rattle.node_model.specs.Nodes.{Home, PlainNode, streams_of, own_readers, node_frontier, out_stable, complete_buckets, ready, shown}
+use Rattle.node_model.specs.NodeSteps.{idle_step, peers_of, replica_number, reader_place, give, given_by, given_stable, enter_step, on_subscribe, on_ask, on_grant, on_snap_ask, on_message, with_marks_ended, packet_step, after_stable_buckets, after_last_correction, mill_step, after_clock, choice_step, ask_step, with_closed, with_failure, processing_upto, processing_step, done_at, acks_from, beats, announcing_step, serving_step, tick_step}
 use Rattle.law_safety.proofs.Numbering.{actors-pass}
+use Rattle.law_safety.proofs.StepCases.{by-asking, by-processing, by-answer}
 use Rattle.dpc_lists.proofs.Truths.{both}
 use Rattle.dpc_lists.proofs.Each.{Each, each-append}
 use Rattle.law_granting.proofs.Each.{each-sorted, each-to, each-batches, each-subscription, each-beats}
@@ -94,17 +93,7 @@ module _ (home : Home) (z : PlainNode) where
 
   answer-acks : (shows : Shown) (sub : Sub) (asked : Subscribe) (to : ℕ) → Each Acks (elim (answer_to shows sub asked).answer as (λ _. List Mail) [ None ↦ [] | Some m ↦ mail to m ∷ [] ])
   answer-acks shows sub asked to =
-      elim (is_newer_than_kept asked.sess sub.kept) as (λ b. Each Acks (elim (cond {A = Answered} (not b) (record { after = sub; answer = None }) (cond (nat_lt asked.n shows.base)
-      (record { after = record { kept = Some asked.sess; is_open = false; batches = 0 }; answer = Some (message.Truncated asked.sess shows.base) })
-      (record { after = record { kept = Some asked.sess; is_open = true; batches = 1 }; answer = Some (message.Batch asked.sess 0 (first_batch shows asked)) }))).answer as (λ _. List Mail) [ None ↦ [] | Some m ↦ mail to m ∷ [] ])) [
-        | false ↦ tt
-        | true ↦ elim (nat_lt asked.n shows.base) as (λ b. Each Acks (elim (cond {A = Answered} b
-            (record { after = record { kept = Some asked.sess; is_open = false; batches = 0 }; answer = Some (message.Truncated asked.sess shows.base) })
-            (record { after = record { kept = Some asked.sess; is_open = true; batches = 1 }; answer = Some (message.Batch asked.sess 0 (first_batch shows asked)) })).answer as (λ _. List Mail) [ None ↦ [] | Some m ↦ mail to m ∷ [] ])) [
-              | true ↦ (tt, tt)
-              | false ↦ (tt, tt)
-            ]
-      ]
+      by-answer shows sub asked to (Each Acks) tt (tt, tt) (tt, tt)
 
   subscribed-acks : (asked : Subscribe) (o : Option ℕ) (n : PlainNode) → Each Acks (on_subscribe home asked o n).sends
   subscribed-acks asked None n = tt
@@ -155,15 +144,7 @@ module _ (home : Home) (z : PlainNode) where
 
   asking-acks : (n : PlainNode) → Each Acks (ask_step home n).sends
   asking-acks n =
-      elim (wants_to_reconcile home n && is_none n.grants.promise) as (λ b. Each Acks (cond {A = Stepped PlainNode} b (cond (list_all is_absent (peer_watches home n)) (enter_step home n)
-      (record { after = record n { grants = with_ask n.grants }; sends = to_each (message.Ask (own_key n.grants).0 (own_key n.grants).1) (peers_of home) })) (idle_step n)).sends) [
-        | true ↦ elim (list_all is_absent (peer_watches home n)) as (λ b. Each Acks (cond {A = Stepped PlainNode} b (enter_step home n)
-            (record { after = record n { grants = with_ask n.grants }; sends = to_each (message.Ask (own_key n.grants).0 (own_key n.grants).1) (peers_of home) })).sends) [
-              | true ↦ entered-acks n
-              | false ↦ each-to Acks (message.Ask (own_key n.grants).0 (own_key n.grants).1) (peers_of home) (λ to. tt)
-            ]
-        | false ↦ tt
-      ]
+      by-asking home n (λ s. Each Acks s.sends) (entered-acks n) (each-to Acks (message.Ask (own_key n.grants).0 (own_key n.grants).1) (peers_of home) (λ to. tt)) tt
 
   upto-acks : (last : ℕ) (n : PlainNode) → Each Acks (processing_upto home last n).sends
   upto-acks last n =
@@ -174,13 +155,7 @@ module _ (home : Home) (z : PlainNode) where
 
   processing-acks : (n : PlainNode) → Each Acks (processing_step home n).sends
   processing-acks n =
-      elim (is_stabilization n.state) as (λ b. Each Acks (cond {A = Stepped PlainNode} b (idle_step n) (elim (due_at home n n.clock) [ None ↦ idle_step n | Some last ↦ processing_upto home last n ])).sends) [
-        | true ↦ tt
-        | false ↦ elim (due_at home n n.clock) as (λ o. Each Acks (elim o as (λ _. Stepped PlainNode) [ None ↦ idle_step n | Some last ↦ processing_upto home last n ]).sends) [
-          | None ↦ tt
-          | Some last ↦ upto-acks last n
-        ]
-      ]
+      by-processing home n (λ s. Each Acks s.sends) tt (λ last e due. upto-acks last n)
 
 serving-acks : (home : Home) (m : PlainNode) → Each (Acks home (serving_step home m).after) (serving_step home m).sends
 serving-acks home m =

@@ -1,10 +1,8 @@
 -- No step of a node that does not recover begins to recover, where it takes no truncation of a present session.
 use Rattle.std.proofs.Common.{◌≡◌, ℕ, zero, suc, Bool, true, false, cond, not, ◌&&◌, ◌==◌, List, [], ◌∷◌, map, refl, sym, ap, subst, ◌∙◌, Option, Some, None}
-use Rattle.std.specs.Prelude.{is_none}
-use Rattle.dpc_lists.specs.Lists.{nth, list_all}
+use Rattle.dpc_lists.specs.Lists.{nth}
 use Rattle.dpc_model.specs.Inlets.{same_sess, take_batch}
-use Rattle.dpc_model.specs.Replicas.{is_absent}
-use Rattle.dpc_model.specs.Granting.{own_key, grants, with_promise, may_enter_by, with_ask}
+use Rattle.dpc_model.specs.Granting.{grants, with_promise, may_enter_by}
 use Rattle.dpc_model.specs.Actors.{replicas_of}
 use Rattle.dpc_model.specs.Ports.{Port, no_port, sender_at, without_ended_marks, on_truncated, all_truncated}
 use Rattle.dpc_model.specs.declared.batches.Taken.{Taken}
@@ -15,10 +13,11 @@ use Rattle.dpc_model.specs.declared.messages.Beat.{Beat}
 use Rattle.dpc_model.specs.declared.messages.Subscribe.{Subscribe}
 use Rattle.dpc_model.specs.declared.messages.Message.{Message}
 use Rattle.dpc_model.specs.declared.messages.Message.TheVariants as message
-use Rattle.dpc_model.specs.NodeStates.{is_up_failure, is_stabilization}
-use Rattle.node_model.specs.Mails.{Packet, Plain, SnapFor, mail, to_each, Stepped}
-use Rattle.node_model.specs.Nodes.{Home, PlainNode, streams_of, due_at, wants_to_reconcile}
-use Rattle.node_model.specs.NodeSteps.{idle_step, then_do, peers_of, peer_watches, replica_number, reader_place, with_port, enter_step, after_loss, after_adoption, after_taking, with_stamps_of, on_batch, on_subscribe, on_truncation, on_upstream_beat, on_peer_beat, on_ack, on_ask, on_grant, on_snap_ask, on_message, with_marks_ended, packet_step, mill_step, after_clock, may_start_afresh, choice_step, ask_step, processing_upto, processing_step, announcing_step, serving_step, snapshot_ask_step, with_fresh_start, tick_step}
+use Rattle.dpc_model.specs.NodeStates.{is_up_failure}
+use Rattle.node_model.specs.Mails.{Packet, Plain, SnapFor, mail, Stepped}
+use Rattle.node_model.specs.Nodes.{Home, PlainNode, streams_of}
+use Rattle.node_model.specs.NodeSteps.{idle_step, then_do, replica_number, reader_place, with_port, enter_step, after_loss, after_adoption, after_taking, with_stamps_of, on_batch, on_subscribe, on_truncation, on_upstream_beat, on_peer_beat, on_ack, on_ask, on_grant, on_snap_ask, on_message, with_marks_ended, packet_step, mill_step, after_clock, may_start_afresh, choice_step, ask_step, processing_step, announcing_step, serving_step, snapshot_ask_step, with_fresh_start, tick_step}
+use Rattle.law_safety.proofs.StepCases.{by-asking, by-processing}
 
 -- the packet is no truncation of a port's present session
 abbrev pub IsHarmless : Home → ℕ → Packet → PlainNode → Type 0
@@ -118,25 +117,11 @@ module _ (home : Home) (a : ℕ) where
 
   asking-whole : (n : PlainNode) → (ask_step home n).after.recovering ≡ n.recovering
   asking-whole n =
-      elim (wants_to_reconcile home n && is_none n.grants.promise) as (λ b. (cond {A = Stepped PlainNode} b (cond (list_all is_absent (peer_watches home n)) (enter_step home n)
-      (record { after = record n { grants = with_ask n.grants }; sends = to_each (message.Ask (own_key n.grants).0 (own_key n.grants).1) (peers_of home) })) (idle_step n)).after.recovering ≡ n.recovering) [
-        | true ↦ elim (list_all is_absent (peer_watches home n)) as (λ b. (cond {A = Stepped PlainNode} b (enter_step home n)
-            (record { after = record n { grants = with_ask n.grants }; sends = to_each (message.Ask (own_key n.grants).0 (own_key n.grants).1) (peers_of home) })).after.recovering ≡ n.recovering) [
-              | true ↦ enter-whole n
-              | false ↦ refl
-            ]
-        | false ↦ refl
-      ]
+      by-asking home n (λ s. s.after.recovering ≡ n.recovering) (enter-whole n) refl refl
 
   processing-whole : (n : PlainNode) → (processing_step home n).after.recovering ≡ n.recovering
   processing-whole n =
-      elim (is_stabilization n.state) as (λ b. (cond {A = Stepped PlainNode} b (idle_step n) (elim (due_at home n n.clock) [ None ↦ idle_step n | Some last ↦ processing_upto home last n ])).after.recovering ≡ n.recovering) [
-        | true ↦ refl
-        | false ↦ elim (due_at home n n.clock) as (λ o. (elim o as (λ _. Stepped PlainNode) [ None ↦ idle_step n | Some last ↦ processing_upto home last n ]).after.recovering ≡ n.recovering) [
-          | None ↦ refl
-          | Some last ↦ refl
-        ]
-      ]
+      by-processing home n (λ s. s.after.recovering ≡ n.recovering) refl (λ last e due. refl)
 
   serving-whole : (n : PlainNode) → (serving_step home n).after.recovering ≡ n.recovering
   serving-whole n =

@@ -16,7 +16,7 @@ use Rattle.law_safety.proofs.Frames.{IsGood}
 use Rattle.law_safety.proofs.Numbering.{node-at, all-at}
 use Rattle.law_safety.proofs.Worlding.{slots-both, slots-at, actor-at, true-at}
 use Rattle.law_safety.proofs.Law.{run-safe, run-orderly, run-good}
-use Rattle.law_node.specs.Fitting.{IsFit, IsFitPacket}
+use Rattle.node_model.specs.Fitting.{IsFit, IsFitPacket}
 use Rattle.law_fit.specs.Fits.{NodesAreFit, PacketsAreFit}
 use Rattle.law_fit.proofs.GoodNodes.{good-fit}
 use Rattle.law_fit.proofs.Packets.{packet-fits}

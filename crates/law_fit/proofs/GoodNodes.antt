@@ -15,7 +15,7 @@ use Rattle.law_safety.proofs.Closing.{closed-of}
 use Rattle.law_safety.proofs.Processing.{holds-length}
 use Rattle.law_safety.proofs.Frames.{IsGood}
 use Rattle.law_safety.proofs.Emptied.{shape-of, no_ack, emptied-of}
-use Rattle.law_node.specs.Fitting.{AreFitInputs, IsFit}
+use Rattle.node_model.specs.Fitting.{AreFitInputs, IsFit}
 use Rattle.law_fit.proofs.Readers.{IsPast, inlets-all, holding-each, held-ordered, reaching-each, past-each, good-reaches}
 use Rattle.law_fit.proofs.Placed.{placed-accepted}
 

@@ -32,8 +32,8 @@ use Rattle.law_safety.proofs.Outputs.{inputs-held}
 use Rattle.law_safety.proofs.Frames.{IsGood, marks-good}
 use Rattle.law_safety.proofs.Mailing.{IsActor}
 use Rattle.law_safety.proofs.Delivered.{delivered-good, peer-snap}
-use Rattle.law_node.specs.Fitting.{IsFitSnap, IsFitMessage, IsFitPacket}
-use Rattle.law_node.proofs.Viewed.{done-is}
+use Rattle.node_model.specs.Fitting.{IsFitSnap, IsFitMessage, IsFitPacket}
+use Rattle.node_model.proofs.Viewed.{done-is}
 use Rattle.law_fit.proofs.Readers.{all-of, good-reaches}
 
 -- ---- a batch

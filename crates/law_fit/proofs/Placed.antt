@@ -3,10 +3,9 @@ use Rattle.std.proofs.Common.{◌≡◌, ℕ, ◌+◌, ◌*◌, ◌/◌, ◌^◌
 use Rattle.std.proofs.Math.Nat.{div-mul-le_self}
 use Rattle.std.specs.List.{enumerate_from}
 use Rattle.dpc_lists.specs.Lists.{list_all}
-use Rattle.dpc_model.specs.Engines.{lies_in, LiesIn, is_serial, FitsBucket}
+use Rattle.dpc_model.specs.Engines.{lies_in, LiesIn, is_serial, FitsBucket, AcceptsAll}
 use Rattle.dpc_model.specs.declared.tuples.Tagged.{Tagged}
 use Rattle.dpc_model.proofs.Serial.{serial-adjacent}
-use Rattle.checkpoint_redo.specs.Keeping.{AcceptsAll}
 use Rattle.world_model.specs.Orderly.{fits_port}
 use Rattle.dpc_lists.proofs.Truths.{both}
 use Rattle.dpc_model.proofs.Numbers.{times-le}

@@ -8,7 +8,7 @@ use Rattle.dpc_model.specs.declared.plans.TheConstants.{MOST_REPLICAS}
 use Rattle.node_model.specs.Nodes.{PlainNode}
 use Rattle.world_model.specs.Worlds.{World, Envelope, home_of, slot_of}
 use Rattle.law_safety.specs.Plans.{IsCheckedPlan}
-use Rattle.law_node.specs.Fitting.{IsFit, IsFitPacket}
+use Rattle.node_model.specs.Fitting.{IsFit, IsFitPacket}
 
 -- ---- a world
 

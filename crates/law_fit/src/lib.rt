@@ -12,7 +12,7 @@ ghost use Rattle.world_model.specs.Safe.{IsSafeNode, IsTrueEnvelope};
 ghost use Rattle.world_model.specs.Orderly.{IsOrderlyNode, is_fitting};
 ghost use Rattle.law_safety.specs.Plans.{IsChecked, IsCheckedPlan};
 ghost use Rattle.law_safety.specs.Keeps.{IsFineWorld};
-ghost use Rattle.law_node.specs.Fitting.{IsFit, IsFitPacket};
+ghost use Rattle.node_model.specs.Fitting.{IsFit, IsFitPacket};
 ghost use Rattle.law_session_origins.specs.Numbers.{replicas_at};
 ghost use Rattle.node_model.specs.Making.{IsReplica};
 ghost use Rattle.law_fit.specs.Fits.{NodesAreFit, PacketsAreFit, HasFewReplicas};

@@ -22,7 +22,7 @@ use Rattle.dpc_model.specs.declared.messages.Message.TheVariants as message
 use Rattle.dpc_model.specs.Sessions.{given_items}
 use Rattle.node_model.specs.Mails.{Snap, Packet, Plain, SnapFor, mail, to_each, Stepped}
 use Rattle.dpc_model.specs.NodeStates.{is_stable, is_up_failure, is_stabilization}
-use Rattle.node_model.specs.Nodes.{Home, PlainNode, streams_of, held_by, node_frontier, out_stable, complete_upto, complete_buckets, ready, due_at, wants_to_reconcile}
+use Rattle.node_model.specs.Nodes.{Home, PlainNode, streams_of, held_by, node_frontier, out_stable, complete_upto, complete_buckets, ready, wants_to_reconcile}
 use Rattle.node_model.specs.NodeSteps.{idle_step, then_do, peers_of, peer_watches, replica_number, with_port, give, given_stable, enter_step, after_loss, after_adoption, after_taking, with_stamps_of, on_batch, on_subscribe, on_truncation, on_upstream_beat, on_peer_beat, on_ack, on_ask, on_grant, on_snap_ask, on_snap, reader_place, on_message, on_packet, with_marks_ended, packet_step, after_stable_buckets, after_last_correction, mill_step, after_clock, may_start_afresh, choice_step, ask_step, with_closed, with_failure, processing_upto, processing_step, announcing_step, serving_step, snapshot_ask_step, rest_of_tick, with_fresh_start, tick_step}
 use Rattle.world_model.specs.Safe.{EachReaches}
 use Rattle.world_model.specs.Orderly.{has_state_of_closed, packet_way}
@@ -46,6 +46,7 @@ use Rattle.law_granting.proofs.Keys.{nth-changed, greater-one}
 use Rattle.law_granting.proofs.Saying.{IsGranted, granted-of}
 use Rattle.law_safety.proofs.ClientHolds.{held_at-beat}
 use Rattle.law_safety.proofs.Dues.{complete-reach}
+use Rattle.law_safety.proofs.StepCases.{by-processing}
 
 -- ---- what is kept
 
@@ -451,13 +452,7 @@ IsAskingAfter home s = IsAsking home s.after
 
 processing-asking : (home : Home) (n : PlainNode) → n.recovering ≡ false → has_state_of_closed n ≡ true → IsAsking home n → IsAsking home (processing_step home n).after
 processing-asking home n up closed h =
-    (elim (is_stabilization n.state) as (λ b. is_stabilization n.state ≡ b → IsAskingAfter home (cond b (idle_step n) (elim (due_at home n n.clock) [ None ↦ idle_step n | Some last ↦ processing_upto home last n ]))) [
-      | true ↦ λ e. h
-      | false ↦ λ e. elim (due_at home n n.clock) as (λ o. IsAskingAfter home (elim o [ None ↦ idle_step n | Some last ↦ processing_upto home last n ])) [
-        | None ↦ h
-        | Some last ↦ processed-asking home last n up e closed h
-      ]
-    ]) refl
+    by-processing home n (IsAskingAfter home) h (λ last e due. processed-asking home last n up e closed h)
 
 -- ---- the whole tick
 

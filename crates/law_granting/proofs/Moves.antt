@@ -1,12 +1,10 @@
 -- What an event may do to a port: nothing to its session, or the next batch is taken, or a new session is opened.
 use Rattle.std.proofs.Common.{◌≡◌, ℕ, zero, suc, ◌+◌, ◌*◌, true, false, cond, not, ◌&&◌, ◌||◌, ◌==◌, nat_lt, nat_le, List, [], ◌∷◌, map, refl, sym, ap, subst, ◌∙◌, arith, Option, Some, None, slice_get, ◌⊎◌, inl, inr}
-use Rattle.std.specs.Prelude.{is_none}
 use Rattle.std.proofs.lemmas.Grind.{common_steps}
-use Rattle.dpc_lists.specs.Lists.{nth, changed, list_all}
+use Rattle.dpc_lists.specs.Lists.{nth, changed}
 use Rattle.dpc_model.specs.Reading.{Folded, fold_items}
 use Rattle.dpc_model.specs.Inlets.{InletState, AfterBatch, with_next_session, take_batch, same_sess, sess_of, after_missing_batch, after_next_batch, after_tally, shows_loss}
-use Rattle.dpc_model.specs.Replicas.{is_absent}
-use Rattle.dpc_model.specs.Granting.{own_key, with_ask, may_enter_by, grants, with_promise}
+use Rattle.dpc_model.specs.Granting.{may_enter_by, grants, with_promise}
 use Rattle.dpc_model.specs.Actors.{replicas_of}
 use Rattle.dpc_model.specs.Ports.{Port, no_port, sender_at, without_ended_marks, on_beat, on_truncated, all_truncated, port_after_tick, port_after_choice, choice_at, must_reopen}
 use Rattle.dpc_model.specs.declared.batches.Taken.{Taken}
@@ -18,13 +16,14 @@ use Rattle.dpc_model.specs.declared.messages.Subscribe.{Subscribe}
 use Rattle.dpc_model.specs.declared.messages.Beat.{Beat}
 use Rattle.dpc_model.specs.declared.messages.Message.{Message}
 use Rattle.dpc_model.specs.declared.messages.Message.TheVariants as message
-use Rattle.node_model.specs.Mails.{Snap, Packet, Plain, SnapFor, mail, to_each, Stepped}
-use Rattle.dpc_model.specs.NodeStates.{is_up_failure, is_stabilization}
-use Rattle.node_model.specs.Nodes.{Home, PlainNode, streams_of, due_at, wants_to_reconcile}
-use Rattle.node_model.specs.NodeSteps.{idle_step, then_do, peers_of, peer_watches, replica_number, reader_place, with_port, emptied_port, adopted_ports, enter_step, after_loss, after_adoption, after_taking, with_stamps_of, on_batch, on_subscribe, on_truncation, on_upstream_beat, on_peer_beat, on_ack, on_ask, on_grant, on_snap_ask, on_snap, on_message, on_packet, with_marks_ended, packet_step, mill_step, after_clock, may_start_afresh, choice_step, ask_step, processing_upto, processing_step, announcing_step, serving_step, snapshot_ask_step, rest_of_tick, with_fresh_start, tick_step}
+use Rattle.node_model.specs.Mails.{Snap, Packet, Plain, SnapFor, mail, Stepped}
+use Rattle.dpc_model.specs.NodeStates.{is_up_failure}
+use Rattle.node_model.specs.Nodes.{Home, PlainNode, streams_of}
+use Rattle.node_model.specs.NodeSteps.{idle_step, then_do, replica_number, reader_place, with_port, emptied_port, adopted_ports, enter_step, after_loss, after_adoption, after_taking, with_stamps_of, on_batch, on_subscribe, on_truncation, on_upstream_beat, on_peer_beat, on_ack, on_ask, on_grant, on_snap_ask, on_snap, on_message, on_packet, with_marks_ended, packet_step, mill_step, after_clock, may_start_afresh, choice_step, ask_step, processing_step, announcing_step, serving_step, snapshot_ask_step, rest_of_tick, with_fresh_start, tick_step}
 use Rattle.dpc_lists.proofs.Truths.{not-lt, eq-of, neither, not-first}
 use Rattle.dpc_model.proofs.Subs.{nth-there}
 use Rattle.dpc_lists.proofs.Somes.{some-same}
+use Rattle.law_safety.proofs.StepCases.{by-asking, by-processing}
 use Rattle.law_granting.specs.Taken.{index_in}
 
 -- ---- one port
@@ -344,25 +343,11 @@ HasPorts ps s = s.after.ports ≡ ps
 
 pub reconciling-ports : (home : Home) (n : PlainNode) → HasPorts n.ports (ask_step home n)
 reconciling-ports home n =
-    elim (wants_to_reconcile home n && is_none n.grants.promise) as (λ b. HasPorts n.ports (cond b (cond (list_all is_absent (peer_watches home n)) (enter_step home n)
-    (record { after = record n { grants = with_ask n.grants }; sends = to_each (message.Ask (own_key n.grants).0 (own_key n.grants).1) (peers_of home) })) (idle_step n))) [
-      | true ↦ elim (list_all is_absent (peer_watches home n)) as (λ b. HasPorts n.ports (cond b (enter_step home n)
-          (record { after = record n { grants = with_ask n.grants }; sends = to_each (message.Ask (own_key n.grants).0 (own_key n.grants).1) (peers_of home) }))) [
-            | true ↦ entered-ports home n
-            | false ↦ refl
-          ]
-      | false ↦ refl
-    ]
+    by-asking home n (HasPorts n.ports) (entered-ports home n) refl refl
 
 pub processing-ports : (home : Home) (n : PlainNode) → HasPorts n.ports (processing_step home n)
 processing-ports home n =
-    elim (is_stabilization n.state) as (λ b. HasPorts n.ports (cond b (idle_step n) (elim (due_at home n n.clock) [ None ↦ idle_step n | Some last ↦ processing_upto home last n ]))) [
-      | true ↦ refl
-      | false ↦ elim (due_at home n n.clock) as (λ o. HasPorts n.ports (elim o [ None ↦ idle_step n | Some last ↦ processing_upto home last n ])) [
-        | None ↦ refl
-        | Some last ↦ refl
-      ]
-    ]
+    by-processing home n (HasPorts n.ports) refl (λ last e due. refl)
 
 serving-ports : (home : Home) (n : PlainNode) → PortsMove NoneTaken n.ports (serving_step home n).after.ports
 serving-ports home n =

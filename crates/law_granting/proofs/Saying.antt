@@ -1,13 +1,12 @@
 -- What each step of a node does to its asks and promises, and what its mails say of them.
 use Rattle.std.proofs.Common.{◌≡◌, ℕ, ◌+◌, ◌-◌, Bool, true, false, cond, not, ◌&&◌, ◌||◌, ◌==◌, nat_lt, min, List, [], ◌∷◌, ◌++◌, map, length, refl, sym, subst, Option, Some, None}
-use Rattle.std.specs.Prelude.{is_none}
-use Rattle.dpc_lists.specs.Lists.{nth, list_all}
+use Rattle.dpc_lists.specs.Lists.{nth}
 use Rattle.dpc_model.specs.Inlets.{AfterBatch, take_batch, same_sess}
 use Rattle.dpc_model.specs.Replicas.{is_absent}
 use Rattle.dpc_model.specs.Granting.{Key, key_le, Grants, own_key, grants, with_promise, promise_to, promised_other, known_over, may_enter_by, with_ask}
 use Rattle.dpc_model.specs.Actors.{replicas_of}
 use Rattle.dpc_model.specs.Ports.{subscriptions, no_port, sender_at, on_truncated, all_truncated}
-use Rattle.dpc_model.specs.Sessions.{Shown, Answered, answer_to, is_newer_than_kept, first_batch, given_items}
+use Rattle.dpc_model.specs.Sessions.{Shown, answer_to, given_items}
 use Rattle.dpc_model.specs.declared.sessions.Sub.{Sub}
 use Rattle.dpc_model.specs.declared.batches.Taken.{Taken}
 use Rattle.dpc_model.specs.declared.batches.Taken.TheVariants.{Used, Old, Broken}
@@ -20,12 +19,13 @@ use Rattle.dpc_model.specs.declared.messages.Beat.{Beat}
 use Rattle.dpc_model.specs.declared.messages.NodeState.{NodeState}
 use Rattle.dpc_model.specs.declared.messages.Message.{Message}
 use Rattle.dpc_model.specs.declared.messages.Message.TheVariants as message
-use Rattle.node_model.specs.Mails.{Snap, Packet, Plain, SnapFor, Mail, mail, mails, in_actor_order, to_each, Stepped}
+use Rattle.node_model.specs.Mails.{Snap, Packet, Plain, SnapFor, Mail, mail, mails, in_actor_order, Stepped}
 use Rattle.dpc_model.specs.NodeStates.{is_up_failure, is_stabilization}
 use Rattle.dpc_lists.proofs.Places.{place-nth}
-use Rattle.node_model.specs.Nodes.{Home, PlainNode, streams_of, own_readers, node_frontier, out_stable, shown, complete_buckets, ready, due_at, wants_to_reconcile}
-use Rattle.node_model.specs.NodeSteps.{idle_step, then_do, peers_of, peer_watches, replica_number, with_port, give, given_by, given_stable, enter_step, after_loss, after_adoption, after_taking, with_stamps_of, on_batch, on_subscribe, on_truncation, on_upstream_beat, on_peer_beat, on_ack, on_ask, on_grant, on_snap_ask, on_snap, reader_place, on_message, on_packet, with_marks_ended, packet_step, after_stable_buckets, after_last_correction, mill_step, after_clock, may_start_afresh, choice_step, ask_step, with_closed, with_failure, processing_upto, processing_step, acks_from, beats, announcing_step, serving_step, snapshot_ask_step, rest_of_tick, with_fresh_start, tick_step}
+use Rattle.node_model.specs.Nodes.{Home, PlainNode, streams_of, own_readers, node_frontier, out_stable, shown, complete_buckets, ready}
+use Rattle.node_model.specs.NodeSteps.{idle_step, then_do, peers_of, replica_number, with_port, give, given_by, given_stable, enter_step, after_loss, after_adoption, after_taking, with_stamps_of, on_batch, on_subscribe, on_truncation, on_upstream_beat, on_peer_beat, on_ack, on_ask, on_grant, on_snap_ask, on_snap, reader_place, on_message, on_packet, with_marks_ended, packet_step, after_stable_buckets, after_last_correction, mill_step, after_clock, may_start_afresh, choice_step, ask_step, with_closed, with_failure, processing_upto, processing_step, acks_from, beats, announcing_step, serving_step, snapshot_ask_step, rest_of_tick, with_fresh_start, tick_step}
 use Rattle.dpc_lists.proofs.Each.{Each, each-append}
+use Rattle.law_safety.proofs.StepCases.{by-asking, by-processing, by-answer}
 use Rattle.law_granting.proofs.Each.{each-sorted, each-to, each-batches, each-subscription, each-acks, each-beats}
 use Rattle.law_granting.proofs.Keys.{key-refl, greater-second, IsAskStep, step-same, step-asking, step-finished, step-told, step-granted, step-silent}
 
@@ -133,20 +133,7 @@ entered-says home g n = give-says home g (item.Undo (length (out_stable home n))
 subscribed-says : (home : Home) (g : Grants) (k : ℕ) (x : Shown) (sub : Sub) (asked : Subscribe) →
     Each (Says home g) (elim (answer_to x sub asked).answer [ None ↦ [] | Some m ↦ mail (nth 0 (own_readers home) k) m ∷ [] ])
 subscribed-says home g k x sub asked =
-    elim (not (is_newer_than_kept asked.sess sub.kept)) as (λ b. Each (Says home g) (elim (cond {A = Answered} b (record { after = sub; answer = None })
-    (cond {A = Answered} (nat_lt asked.n x.base)
-    (record { after = record { kept = Some asked.sess; is_open = false; batches = 0 }; answer = Some (message.Truncated asked.sess x.base) })
-    (record { after = record { kept = Some asked.sess; is_open = true; batches = 1 }; answer = Some (message.Batch asked.sess 0 (first_batch x asked)) }))).answer
-    [ None ↦ [] | Some m ↦ mail (nth 0 (own_readers home) k) m ∷ [] ])) [
-      | true ↦ tt
-      | false ↦ elim (nat_lt asked.n x.base) as (λ b. Each (Says home g) (elim (cond {A = Answered} b
-          (record { after = record { kept = Some asked.sess; is_open = false; batches = 0 }; answer = Some (message.Truncated asked.sess x.base) })
-          (record { after = record { kept = Some asked.sess; is_open = true; batches = 1 }; answer = Some (message.Batch asked.sess 0 (first_batch x asked)) })).answer
-          [ None ↦ [] | Some m ↦ mail (nth 0 (own_readers home) k) m ∷ [] ])) [
-            | true ↦ (tt, tt)
-            | false ↦ (tt, tt)
-          ]
-    ]
+    by-answer x sub asked (nth 0 (own_readers home) k) (Each (Says home g)) tt (tt, tt) (tt, tt)
 
 -- what a grant needs
 pub record IsGranted (g : Grants) (s : NodeState) (r : ℕ) (key : Key) : Type 0 where
@@ -300,26 +287,14 @@ HasGrants g s = s.after.grants ≡ g
 
 processing-grants : (home : Home) (n : PlainNode) → HasGrants n.grants (processing_step home n)
 processing-grants home n =
-    elim (is_stabilization n.state) as (λ b. HasGrants n.grants (cond b (idle_step n) (elim (due_at home n n.clock) [ None ↦ idle_step n | Some last ↦ processing_upto home last n ]))) [
-      | true ↦ refl
-      | false ↦ elim (due_at home n n.clock) as (λ o. HasGrants n.grants (elim o [ None ↦ idle_step n | Some last ↦ processing_upto home last n ])) [
-        | None ↦ refl
-        | Some last ↦ processed-grants home last n
-      ]
-    ]
+    by-processing home n (HasGrants n.grants) refl (λ last e due. processed-grants home last n)
 
 abbrev SendsSaying : Home → Grants → Stepped PlainNode → Type 0
 SendsSaying home g s = Each (Says home g) s.sends
 
 processing-says : (home : Home) (g : Grants) (n : PlainNode) → SendsSaying home g (processing_step home n)
 processing-says home g n =
-    elim (is_stabilization n.state) as (λ b. SendsSaying home g (cond b (idle_step n) (elim (due_at home n n.clock) [ None ↦ idle_step n | Some last ↦ processing_upto home last n ]))) [
-      | true ↦ tt
-      | false ↦ elim (due_at home n n.clock) as (λ o. SendsSaying home g (elim o [ None ↦ idle_step n | Some last ↦ processing_upto home last n ])) [
-        | None ↦ tt
-        | Some last ↦ processed-says last
-      ]
-    ]
+    by-processing home n (SendsSaying home g) tt (λ last e due. processed-says last)
   where
     processed-says : (last : ℕ) → SendsSaying home g (processing_upto home last n)
     processed-says last =
@@ -342,21 +317,12 @@ module _ (H A E : ℕ → Key → Type 0) (home : Home) (g : Grants) where
 
   reconciling-own : (n : PlainNode) → IsAskStep H A E g n.grants → IsReconciling n (ask_step home n)
   reconciling-own n h =
-      elim (wants_to_reconcile home n && is_none n.grants.promise) as (λ b. IsReconciling n (cond b (cond (list_all is_absent (peer_watches home n)) (enter_step home n)
-      (record { after = record n { grants = with_ask n.grants }; sends = to_each (message.Ask (own_key n.grants).0 (own_key n.grants).1) (peers_of home) })) (idle_step n))) [
-        | true ↦ elim (list_all is_absent (peer_watches home n)) as (λ b. IsReconciling n (cond b (enter_step home n)
-            (record { after = record n { grants = with_ask n.grants }; sends = to_each (message.Ask (own_key n.grants).0 (own_key n.grants).1) (peers_of home) }))) [
-              | true ↦ record {
-                grants = subst (λ (x : Grants). IsAskStep H A E g x) (sym (entered-grants home n)) (step-asking H A E g n.grants h);
-                mails = entered-says home (enter_step home n).after.grants n;
-              }
-              | false ↦ record {
-                grants = step-asking H A E g n.grants h;
-                mails = each-to (Says home (with_ask n.grants)) (message.Ask (own_key n.grants).0 (own_key n.grants).1) (peers_of home) (λ to. record { inc = refl; next = refl; runs = refl });
-              }
-            ]
-        | false ↦ record { grants = h; mails = tt }
-      ]
+      by-asking home n (IsReconciling n)
+      (record { grants = subst (λ (x : Grants). IsAskStep H A E g x) (sym (entered-grants home n)) (step-asking H A E g n.grants h); mails = entered-says home (enter_step home n).after.grants n })
+      (record {
+        grants = step-asking H A E g n.grants h;
+        mails = each-to (Says home (with_ask n.grants)) (message.Ask (own_key n.grants).0 (own_key n.grants).1) (peers_of home) (λ to. record { inc = refl; next = refl; runs = refl });
+      }) (record { grants = h; mails = tt })
 
   serving-own : (n : PlainNode) → IsAskStep H A E g n.grants → IsReconciling n (serving_step home n)
   serving-own n h =

@@ -1,10 +1,8 @@
 -- What a node's step sends in one reader's session.
-use Rattle.std.proofs.Common.{◌≡◌, ℕ, zero, suc, ◌+◌, ◌-◌, min, ◌<◌, Bool, true, false, cond, not, ◌&&◌, ◌==◌, nat_lt, List, [], ◌∷◌, ◌++◌, map, length, refl, sym, ap, subst, ◌∙◌, arith, Option, Some, None, inl, inr}
-use Rattle.std.specs.Prelude.{is_none}
-use Rattle.std.proofs.lemmas.List.{length-map}
-use Rattle.dpc_lists.specs.Lists.{nth, changed, list_all}
+use Rattle.std.proofs.Common.{◌≡◌, ℕ, ◌+◌, ◌-◌, min, ◌<◌, Bool, true, false, cond, not, ◌&&◌, ◌==◌, nat_lt, List, [], ◌∷◌, map, length, refl, sym, ap, subst, ◌∙◌, arith, Option, Some, None, inl, inr}
+use Rattle.std.proofs.lemmas.List.{length-map, map-append}
+use Rattle.dpc_lists.specs.Lists.{nth, changed}
 use Rattle.dpc_model.specs.Inlets.{same_sess}
-use Rattle.dpc_model.specs.Replicas.{is_absent}
 use Rattle.dpc_model.specs.Granting.{grants, with_promise, own_key, with_ask, may_enter_by}
 use Rattle.dpc_model.specs.Actors.{replicas_of}
 use Rattle.dpc_model.specs.Ports.{no_port, sender_at, on_truncated, all_truncated, subscriptions}
@@ -13,20 +11,20 @@ use Rattle.dpc_model.specs.declared.sessions.Sub.{Sub}
 use Rattle.dpc_model.specs.declared.tuples.Item.{Item}
 use Rattle.dpc_model.specs.declared.tuples.Item.TheVariants as item
 use Rattle.dpc_model.specs.declared.messages.Sess.{Sess}
-use Rattle.dpc_model.specs.declared.messages.Beat.{Beat}
 use Rattle.dpc_model.specs.declared.messages.Subscribe.{Subscribe}
 use Rattle.dpc_model.specs.declared.messages.Message.{Message}
 use Rattle.dpc_model.specs.declared.messages.Message.TheVariants as message
 use Rattle.dpc_model.specs.declared.messages.NodeState.TheVariants.{Stabilization}
 use Rattle.node_model.specs.Mails.{Snap, Packet, Plain, SnapFor, Mail, mail, mails, in_actor_order, to_each, Stepped}
 use Rattle.dpc_model.specs.NodeStates.{is_up_failure, is_stabilization}
-use Rattle.node_model.specs.Nodes.{Home, PlainNode, streams_of, own_readers, node_frontier, out_stable, shown, complete_buckets, ready, due_at, wants_to_reconcile}
-use Rattle.node_model.specs.NodeSteps.{idle_step, then_do, peers_of, peer_watches, replica_number, reader_place, with_port, give, given_by, given_stable, enter_step, after_loss, after_adoption, on_subscribe, on_truncation, on_ack, on_ask, on_grant, on_snap_ask, on_snap, on_message, on_packet, with_marks_ended, packet_step, after_stable_buckets, after_last_correction, mill_step, after_clock, may_start_afresh, choice_step, ask_step, with_closed, with_failure, processing_upto, processing_step, acks_from, beats, announcing_step, serving_step, snapshot_ask_step, rest_of_tick, with_fresh_start, tick_step}
+use Rattle.node_model.specs.Nodes.{Home, PlainNode, streams_of, own_readers, node_frontier, out_stable, shown, complete_buckets, ready}
+use Rattle.node_model.specs.NodeSteps.{idle_step, then_do, peers_of, replica_number, reader_place, with_port, give, given_by, given_stable, enter_step, after_loss, after_adoption, on_subscribe, on_truncation, on_ack, on_ask, on_grant, on_snap_ask, on_snap, on_message, on_packet, with_marks_ended, packet_step, after_stable_buckets, after_last_correction, mill_step, after_clock, may_start_afresh, choice_step, ask_step, with_closed, with_failure, processing_upto, processing_step, acks_from, beats, announcing_step, serving_step, snapshot_ask_step, rest_of_tick, with_fresh_start, tick_step}
 use Rattle.world_model.specs.Worlds.{Envelope, from}
 use Rattle.world_model.specs.SessionLaw.{Channel}
 use Rattle.dpc_lists.proofs.Truths.{both-of, eq-of, eq-test, and-false}
 use Rattle.law_safety.proofs.Histories.{AreDistinct}
-use Rattle.dpc_lists.proofs.Elements.{length-changed}
+use Rattle.law_safety.proofs.StepCases.{by-asking, by-processing}
+use Rattle.dpc_lists.proofs.Elements.{length-changed, nth-here}
 use Rattle.dpc_lists.proofs.Places.{place-within, place-nth}
 use Rattle.dpc_model.proofs.Subs.{length-counted}
 use Rattle.dpc_lists.proofs.Each.{Each, each-append}
@@ -36,15 +34,6 @@ use Rattle.law_granting.proofs.Each.{each-sorted, each-to, each-subscription, ea
 use Rattle.law_granting.proofs.Keys.{nth-changed}
 use Rattle.law_granting.proofs.Asked.{same-or}
 use Rattle.law_granting.proofs.Sending.{indexes, indexes-append, SendsOn, sends-none, sends-shut, sends-then, answer_index, sends-answered, IsNoBatch, none-indexed, skip-other, take-mine, nth-map, sends-given}
-
-map-append : (a : ℕ) (ms ns : List Mail) → map (from a) (ms ++ ns) ≡ map (from a) ms ++ map (from a) ns
-map-append a [] ns = refl
-map-append a (m ∷ ms) ns = ap (λ (es : List Envelope). from a m ∷ es) (map-append a ms ns)
-
-nth-at : (f : Sub → Sub) (subs : List Sub) (k : ℕ) → k < length subs → nth no_session (changed k f subs) k ≡ f (nth no_session subs k)
-nth-at f [] k h = absurd (omega (arith, h))
-nth-at f (x ∷ subs) zero h = refl
-nth-at f (x ∷ subs) (suc k) h = nth-at f subs k (omega (arith, h))
 
 -- what a step sends to the reader of one place in one session
 pub record NodeSends (home : Home) (a k : ℕ) (s : Sess) (opens : Bool) (old : List Sub) (t : Stepped PlainNode) : Type 0 where
@@ -84,7 +73,7 @@ module _ (home : Home) (a k : ℕ) (s : Sess) (opens : Bool) (distinct : AreDist
       record {
         many = g.many;
         on = subst (λ (z : List ℕ). SendsOn s opens (nth no_session old k) (nth no_session (f t.after).after.subs k) z)
-            (sym (ap (λ (es : List Envelope). indexes line es) (map-append a t.sends (f t.after).sends) ∙ indexes-append line (map (from a) t.sends) (map (from a) (f t.after).sends)))
+            (sym (ap (λ (es : List Envelope). indexes line es) (map-append (from a) t.sends (f t.after).sends) ∙ indexes-append line (map (from a) t.sends) (map (from a) (f t.after).sends)))
             (sends-then s opens (nth no_session old k) (nth no_session t.after.subs k) (nth no_session (f t.after).after.subs k) (indexes line (map (from a) t.sends)) (indexes line (map (from a) (f t.after).sends)) h.on g.on);
       }
 
@@ -105,7 +94,7 @@ module _ (home : Home) (a k : ℕ) (s : Sess) (opens : Bool) (distinct : AreDist
           let answer = answer_to (shown home n) (nth no_session n.subs k) asked in
           record {
             many = length-changed k (λ _. answer.after) n.subs ∙ many;
-            on = subst (λ (z : Sub). SendsOn s opens (nth no_session n.subs k) z (indexes line (map (from a) (on_subscribe home asked (Some k) n).sends))) (sym (nth-at (λ _. answer.after) n.subs k (omega (arith, many, low))))
+            on = subst (λ (z : Sub). SendsOn s opens (nth no_session n.subs k) z (indexes line (map (from a) (on_subscribe home asked (Some k) n).sends))) (sym (nth-here no_session k (λ _. answer.after) n.subs (omega (arith, many, low))))
                 (subst (λ (z : List ℕ). SendsOn s opens (nth no_session n.subs k) answer.after z) (sym (answer-is answer.answer))
                 (sends-answered s opens (shown home n) (nth no_session n.subs k) asked (told it)));
           }
@@ -209,26 +198,13 @@ module _ (home : Home) (a k : ℕ) (s : Sess) (opens : Bool) (distinct : AreDist
 
   reconciling-sends : (n : PlainNode) → length n.subs ≡ length (own_readers home) → Sends n.subs (ask_step home n)
   reconciling-sends n many =
-      elim (wants_to_reconcile home n && is_none n.grants.promise) as (λ b. Sends n.subs (cond b (cond (list_all is_absent (peer_watches home n)) (enter_step home n)
-      (record { after = record n { grants = with_ask n.grants }; sends = to_each (message.Ask (own_key n.grants).0 (own_key n.grants).1) (peers_of home) })) (idle_step n))) [
-        | true ↦ elim (list_all is_absent (peer_watches home n)) as (λ b. Sends n.subs (cond b (enter_step home n)
-            (record { after = record n { grants = with_ask n.grants }; sends = to_each (message.Ask (own_key n.grants).0 (own_key n.grants).1) (peers_of home) }))) [
-              | true ↦ entered-sends n many
-              | false ↦ sends-quiet n.subs (record { after = record n { grants = with_ask n.grants }; sends = to_each (message.Ask (own_key n.grants).0 (own_key n.grants).1) (peers_of home) }) many refl
-                  (each-to IsNoBatch (message.Ask (own_key n.grants).0 (own_key n.grants).1) (peers_of home) (λ to z. refl))
-            ]
-        | false ↦ sends-quiet n.subs (idle_step n) many refl tt
-      ]
+      by-asking home n (Sends n.subs) (entered-sends n many)
+      (sends-quiet n.subs (record { after = record n { grants = with_ask n.grants }; sends = to_each (message.Ask (own_key n.grants).0 (own_key n.grants).1) (peers_of home) }) many refl
+      (each-to IsNoBatch (message.Ask (own_key n.grants).0 (own_key n.grants).1) (peers_of home) (λ to z. refl))) (sends-quiet n.subs (idle_step n) many refl tt)
 
   processing-sends : (n : PlainNode) → length n.subs ≡ length (own_readers home) → Sends n.subs (processing_step home n)
   processing-sends n many =
-      elim (is_stabilization n.state) as (λ b. Sends n.subs (cond b (idle_step n) (elim (due_at home n n.clock) [ None ↦ idle_step n | Some last ↦ processing_upto home last n ]))) [
-        | true ↦ sends-quiet n.subs (idle_step n) many refl tt
-        | false ↦ elim (due_at home n n.clock) as (λ o. Sends n.subs (elim o [ None ↦ idle_step n | Some last ↦ processing_upto home last n ])) [
-          | None ↦ sends-quiet n.subs (idle_step n) many refl tt
-          | Some last ↦ processed last
-        ]
-      ]
+      by-processing home n (Sends n.subs) (sends-quiet n.subs (idle_step n) many refl tt) (λ last e due. processed last)
     where
       processed : (last : ℕ) → NodeSends home a k s opens n.subs (processing_upto home last n)
       processed last =

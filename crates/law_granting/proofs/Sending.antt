@@ -14,9 +14,9 @@ use Rattle.dpc_model.specs.declared.messages.Message.TheVariants as message
 use Rattle.node_model.specs.Mails.{Mail, mail, Plain, to_readers}
 use Rattle.world_model.specs.Worlds.{Envelope, from}
 use Rattle.world_model.specs.SessionLaw.{Channel}
-use Rattle.dpc_lists.proofs.Truths.{both-of, eq-of, eq-test, and-false}
+use Rattle.dpc_lists.proofs.Truths.{both-of, eq-test, and-false}
 use Rattle.dpc_lists.proofs.Somes.{some-pair}
-use Rattle.law_safety.proofs.Histories.{AreDistinct, newer-kept}
+use Rattle.law_safety.proofs.Histories.{AreDistinct, newer-kept, reader-apart}
 use Rattle.dpc_lists.proofs.Each.{Each}
 use Rattle.law_granting.specs.Taken.{index_in, index_of}
 
@@ -295,15 +295,9 @@ others-indexed readers a k j s items (sub ∷ subs) distinct less few =
     elim (tally_of sub) as (λ o. indexes l (map (from a) (to_readers readers (elim o [ None ↦ batches_from (j + 1) items subs | Some v ↦ (j, message.Batch v.0 v.1 items) ∷ batches_from (j + 1) items subs ]))) ≡ []) [
       | None ↦ rest
       | Some v ↦
-          let other : (nth 0 readers j == nth 0 readers k) ≡ false = apart (nth 0 readers j == nth 0 readers k) refl in
+          let other : (nth 0 readers j == nth 0 readers k) ≡ false = reader-apart readers j k distinct (omega (arith, few)) (omega (arith, less, few)) (λ same. absurd (omega (arith, same, less))) in
           skip-other l a (mail (nth 0 readers j) (message.Batch v.0 v.1 items)) (map (from a) (to_readers readers (batches_from (j + 1) items subs))) (and-false (a == a) (nth 0 readers j == nth 0 readers k) other) ∙ rest
     ]
-  where
-    apart : (b : Bool) → (nth 0 readers j == nth 0 readers k) ≡ b → (nth 0 readers j == nth 0 readers k) ≡ false
-    apart false e = e
-    apart true e =
-        let same = distinct j k (omega (arith, few)) (omega (arith, less, few)) (eq-of (nth 0 readers j) (nth 0 readers k) e) in
-        absurd (omega (arith, same, less))
 
 given-indexed : (readers : List ℕ) (a j i : ℕ) (s : Sess) (items : List Item) (subs : List Sub) (sub : Sub) → AreDistinct readers → j + length subs ≤ length readers → slice_get subs i ≡ Some sub →
     indexes (record { sender = a; reader = nth 0 readers (j + i); sess = s }) (map (from a) (to_readers readers (batches_from j items subs))) ≡ given_index (tally_of sub) s
@@ -332,18 +326,12 @@ given-indexed readers a j (suc i) s items (x ∷ subs) sub distinct few e =
     let rest : indexes l (map (from a) (to_readers readers (batches_from (j + 1) items subs))) ≡ given_index (tally_of sub) s =
     rw next (given-indexed readers a (j + 1) i s items subs sub distinct (omega (arith, few)) e) in
     let within = slice_get_within subs i sub e in
-    let other : (nth 0 readers j == nth 0 readers (j + suc i)) ≡ false = apart within (nth 0 readers j == nth 0 readers (j + suc i)) refl in
+    let other : (nth 0 readers j == nth 0 readers (j + suc i)) ≡ false = reader-apart readers j (j + suc i) distinct (omega (arith, few)) (omega (arith, within, few)) (λ same. absurd (omega (arith, same))) in
     let mine : (a == a) ≡ true = eq-test a a refl in
     elim (tally_of x) as (λ o. indexes l (map (from a) (to_readers readers (elim o [ None ↦ batches_from (j + 1) items subs | Some v ↦ (j, message.Batch v.0 v.1 items) ∷ batches_from (j + 1) items subs ]))) ≡ given_index (tally_of sub) s) [
       | None ↦ rest
       | Some v ↦ skip-other l a (mail (nth 0 readers j) (message.Batch v.0 v.1 items)) (map (from a) (to_readers readers (batches_from (j + 1) items subs))) (and-false (a == a) (nth 0 readers j == nth 0 readers (j + suc i)) other) ∙ rest
     ]
-  where
-    apart : i < length subs → (b : Bool) → (nth 0 readers j == nth 0 readers (j + suc i)) ≡ b → (nth 0 readers j == nth 0 readers (j + suc i)) ≡ false
-    apart within false f = f
-    apart within true f =
-        let same = distinct j (j + suc i) (omega (arith, few)) (omega (arith, within, few)) (eq-of (nth 0 readers j) (nth 0 readers (j + suc i)) f) in
-        absurd (omega (arith, same))
 
 -- ---- what is given to all readers
 

@@ -1,39 +1,28 @@
 -- The slots of nodes after an event, and what a slot tells of its asks.
-use Rattle.std.proofs.Common.{◌≡◌, ℕ, zero, suc, ◌+◌, ◌<◌, ◌≤◌, true, false, cond, nat_lt, List, [], ◌∷◌, ◌++◌, map, refl, sym, ap, subst, ◌∙◌, arith, Option, Some, None, slice_get, ◌⊎◌, inl, inr}
+use Rattle.std.proofs.Common.{◌≡◌, ℕ, zero, suc, ◌+◌, ◌<◌, ◌≤◌, true, false, cond, nat_lt, List, [], ◌∷◌, ◌++◌, map, refl, sym, subst, ◌∙◌, arith, Option, Some, None, slice_get, ◌⊎◌, inl, inr}
 use Rattle.std.specs.Prelude.{IfSome}
-use Rattle.dpc_lists.specs.Lists.{nth, changed}
+use Rattle.dpc_lists.specs.Lists.{changed}
 use Rattle.dpc_model.specs.Granting.{Key}
-use Rattle.dpc_model.specs.Actors.{role_of, nodes_of, replicas_of}
+use Rattle.dpc_model.specs.Actors.{role_of}
 use Rattle.dpc_model.specs.declared.actors.Role.TheVariants.{Node as IsNode}
-use Rattle.dpc_model.specs.declared.plans.Plan.{Plan}
 use Rattle.node_model.specs.Mails.{Mail}
 use Rattle.node_model.specs.Nodes.{Home, PlainNode, restarted_node}
 use Rattle.world_model.specs.Worlds.{World, Envelope, Slot, node_place, slot_of, from, restart_slot}
 use Rattle.dpc_lists.proofs.Truths.{lt-of}
 use Rattle.dpc_model.proofs.Numbers.{le-or}
-use Rattle.dpc_lists.proofs.Somes.{some-pair}
-use Rattle.law_safety.proofs.Numbering.{node-at, replica-at}
+use Rattle.law_safety.proofs.Numbering.{same-actor}
 use Rattle.dpc_lists.proofs.Each.{Each}
 use Rattle.law_granting.specs.Asking.{IsOver, WasAsked}
 use Rattle.law_granting.proofs.Keys.{nth-changed, IsAskStep}
 
 -- ---- places
 
--- one replica has one actor
-pub same-role : (plan : Plan) (a b f r q : ℕ) → role_of plan a ≡ IsNode f r → role_of plan b ≡ IsNode f q → r ≡ q → a ≡ b
-same-role plan a b f r q e k same = sym (replica-at plan a f r e) ∙ ap (λ (x : ℕ). nth 0 (replicas_of plan f) x) same ∙ replica-at plan b f q k
-
-pub same-place : (plan : Plan) (a b f r g q : ℕ) → role_of plan a ≡ IsNode f r → role_of plan b ≡ IsNode g q → node_place plan a ≡ node_place plan b → a ≡ b
-same-place plan a b f r g q e k same =
-    let both = some-pair f g r q (sym (node-at plan a f r e) ∙ ap (λ (i : ℕ). slice_get (nodes_of plan) i) same ∙ node-at plan b g q k) in
-    same-role plan a b f r q e (k ∙ ap (λ (x : ℕ). IsNode x q) (sym both.0)) both.1
-
 -- the slot of another actor than the one that was changed
 pub slot-there : (w : World) (a b f r p q : ℕ) (g : Slot → Slot) → role_of w.plan a ≡ IsNode f r → role_of w.plan b ≡ IsNode p q → (b ≡ a → ⊥) → slot_of (record w { nodes = changed (node_place w.plan a) g w.nodes }) b ≡ slot_of w b
 slot-there w a b f r p q g role there other =
     elim (nth-changed (record { last_inc = 0; node = None }) (node_place w.plan a) g w.nodes (node_place w.plan b)) [
       | inl same ↦ same
-      | inr here ↦ absurd (other (same-place w.plan b a p q f r there role here.0))
+      | inr here ↦ absurd (other (same-actor w.plan b a p q f r there role here.0))
     ]
 
 -- ---- what a slot tells stays so

@@ -1,5 +1,5 @@
 -- The batches that a source sent in a session are numbered from 0 on.
-use Rattle.std.proofs.Common.{◌≡◌, ℕ, zero, suc, ◌+◌, ◌<◌, Bool, true, false, cond, ◌&&◌, ◌==◌, nat_lt, List, [], ◌∷◌, ◌++◌, map, length, refl, sym, ap, subst, ◌∙◌, arith, Option, Some, None, slice_get, inl, inr}
+use Rattle.std.proofs.Common.{◌≡◌, ℕ, ◌+◌, ◌<◌, Bool, true, false, cond, ◌&&◌, ◌==◌, nat_lt, List, [], ◌∷◌, ◌++◌, map, length, refl, sym, ap, subst, ◌∙◌, arith, Option, Some, None, slice_get, inl, inr}
 use Rattle.std.specs.Prelude.{zip, max}
 use Rattle.std.proofs.lemmas.List.{append-nil}
 use Rattle.dpc_lists.specs.Lists.{nth, changed, range_with_len, place_of}
@@ -21,7 +21,7 @@ use Rattle.world_model.specs.Worlds.{World, Envelope, source_at, no_source, from
 use Rattle.world_model.specs.Safe.{EachStep}
 use Rattle.world_model.specs.SessionLaw.{Channel}
 use Rattle.dpc_lists.proofs.Truths.{both-of, eq-test, and-false}
-use Rattle.dpc_lists.proofs.Elements.{length-changed}
+use Rattle.dpc_lists.proofs.Elements.{length-changed, nth-here}
 use Rattle.dpc_lists.proofs.Places.{place-within, place-nth}
 use Rattle.dpc_model.proofs.Subs.{length-counted}
 use Rattle.law_safety.proofs.Numbering.{source-at as source-number}
@@ -34,11 +34,6 @@ use Rattle.law_granting.proofs.Sending.{indexes, indexes-append, range-append, S
 use Rattle.law_granting.proofs.Sent.{other-indexed, apart-test, SubHolds}
 use Rattle.law_safety.proofs.Distinct.{readers-distinct}
 use Rattle.dpc_lists.proofs.Each.{Each}
-
-nth-in : {X : Type 0} (d : X) (f : X → X) (xs : List X) (k : ℕ) → k < length xs → nth d (changed k f xs) k ≡ f (nth d xs k)
-nth-in d f [] k h = absurd (omega (arith, h))
-nth-in d f (x ∷ xs) zero h = refl
-nth-in d f (x ∷ xs) (suc k) h = nth-in d f xs k (omega (arith, h))
 
 -- what a source's step sends to the reader of one place in one session
 pub record SourceSends (readers : List ℕ) (a k : ℕ) (s : Sess) (opens : Bool) (old : SourceState) (t : Stepped SourceState) : Type 0 where
@@ -80,7 +75,7 @@ module _ (plan : Plan) (u a k : ℕ) (s : Sess) (opens : Bool) (low : k < length
           let answer = answer_to (source_shown plan u x) (nth no_session x.subs k) asked in
           record {
             many = length-changed k (λ _. answer.after) x.subs ∙ many;
-            on = subst (λ (z : Sub). SendsOn s opens (nth no_session x.subs k) z (indexes line (map (from a) (source_subscribed plan u asked (Some k) x).sends))) (sym (nth-in no_session (λ _. answer.after) x.subs k (omega (arith, many, low))))
+            on = subst (λ (z : Sub). SendsOn s opens (nth no_session x.subs k) z (indexes line (map (from a) (source_subscribed plan u asked (Some k) x).sends))) (sym (nth-here no_session k (λ _. answer.after) x.subs (omega (arith, many, low))))
                 (subst (λ (z : List ℕ). SendsOn s opens (nth no_session x.subs k) answer.after z) (sym (answer-is answer.answer))
                 (sends-answered s opens (source_shown plan u x) (nth no_session x.subs k) asked (told it)));
           }
@@ -189,7 +184,7 @@ module _ (w : World) (a x u k i : ℕ) (s : Sess) (readers : ℕ) (line : IsSour
       let sent = indexes at (map (from a) t.sends) in
       let on = subst (λ (z : ℕ). SendsOn s opens (nth no_session (source_at w u).subs k) (nth no_session t.after.subs k) (indexes (record { sender = a; reader = z; sess = s }) (map (from a) t.sends))) line.reader sends.on in
       let number : u ≡ a = source-number w.plan a u line.role in
-      let here : source_at (source_stepped a t w) u ≡ t.after = subst (λ (z : ℕ). nth no_source (changed z (λ _. t.after) w.sources) u ≡ t.after) number (nth-in no_source (λ _. t.after) w.sources u h.within) in
+      let here : source_at (source_stepped a t w) u ≡ t.after = subst (λ (z : ℕ). nth no_source (changed z (λ _. t.after) w.sources) u ≡ t.after) number (nth-here no_source u (λ _. t.after) w.sources h.within) in
       let within : u < length (source_stepped a t w).sources = subst (λ (z : ℕ). u < z) (sym (length-changed a (λ (_ : SourceState). t.after) w.sources)) h.within in
       let few : length (source_at (source_stepped a t w) u).subs ≡ readers = ap (λ (z : SourceState). length z.subs) here ∙ sends.many ∙ sym line.few in
       elim (same-or 1 i) [

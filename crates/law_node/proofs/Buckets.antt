@@ -14,7 +14,7 @@ use Rattle.node_model.specs.Nodes.{Home, spec_of, PlainNode, bucket_of, complete
 use Rattle.node_model.specs.NodeSteps.{after_stable_buckets, given_stable, given_by, after_buckets, count_upto, stably}
 use Rattle.node_model.specs.NodeParts.{inputs_of}
 use Rattle.pipeline.specs.Flowing.{given_between, after_processing, stably_upto}
-use Rattle.law_node.proofs.Viewed.{held-is, made_of, stable-is, tentative-is}
+use Rattle.node_model.proofs.Viewed.{held-is, made_of, stable-is, tentative-is}
 
 -- ---- buckets
 

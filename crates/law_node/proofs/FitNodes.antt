@@ -21,8 +21,8 @@ use Rattle.node_model.specs.Mails.{Stepped}
 use Rattle.node_model.specs.Nodes.{Home, out_stable, buckets_of, PlainNode, complete_buckets, ready, due_at, due_inputs, wants_to_reconcile}
 use Rattle.node_model.specs.NodeSteps.{with_marks_ended, with_port, after_clock, with_fresh_start, choice_step, enter_step, ask_step, processing_upto, processing_step, idle_step, count_upto, stably, after_buckets, given_by, peer_watches}
 use Rattle.node_model.specs.NodeParts.{inputs_of}
-use Rattle.law_node.specs.Fitting.{AreFitInputs, IsFit}
-use Rattle.law_node.proofs.Viewed.{inlets, same-inlets}
+use Rattle.node_model.specs.Fitting.{AreFitInputs, IsFit}
+use Rattle.node_model.proofs.Viewed.{inlets, same-inlets}
 use Rattle.law_node.proofs.Messages.{marks-inputs}
 use Rattle.law_node.proofs.Buckets.{ready-is, processed-inputs}
 use Rattle.law_node.proofs.Fits.{are-ready, some-ready, fit-processed, due-lies}

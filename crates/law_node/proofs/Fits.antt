@@ -15,13 +15,13 @@ use Rattle.dpc_model.specs.Parts.{Inputs, frontier_of}
 use Rattle.dpc_model.specs.declared.tuples.Tagged.{Tagged}
 use Rattle.dpc_lists.proofs.Truths.{true-not-false}
 use Rattle.dpc_model.proofs.Numbers.{times-le}
-use Rattle.checkpoint_redo.specs.Keeping.{AcceptsAll}
+use Rattle.dpc_model.specs.Engines.{AcceptsAll}
 use Rattle.sunion.specs.Unions.{held_in, complete_upto_in, after_advancing}
 use Rattle.law_buckets.specs.Series.{buckets_from, AreReady, CanClose}
 use Rattle.law_buckets.proofs.Accepted.{buckets-accepted, accepts-append, count-buckets}
 use Rattle.law_buckets.proofs.Complete.{least-reached}
 use Rattle.pipeline.specs.Flowing.{count_upto, stably_upto, after_processing}
-use Rattle.law_node.specs.Fitting.{AreFitInputs}
+use Rattle.node_model.specs.Fitting.{AreFitInputs}
 
 -- ---- how far the ports are known
 

@@ -3,4 +3,3 @@ pub mod FitNodes
 pub mod Fits
 pub mod Messages
 pub mod Stepped
-pub mod Viewed

@@ -16,7 +16,7 @@ use Rattle.node_links.specs.Linking.{with_upstream}
 use Rattle.node_model.specs.Nodes.{Home, PlainNode}
 use Rattle.node_model.specs.NodeSteps.{with_port, with_marks_ended, after_taking, on_upstream_beat}
 use Rattle.node_model.specs.NodeParts.{inputs_of, upstream_of, neighbours_of}
-use Rattle.law_node.proofs.Viewed.{inlets, same-inlets, same-inlet, changed-inlets}
+use Rattle.node_model.proofs.Viewed.{inlets, same-inlets, same-inlet, changed-inlets}
 
 -- ---- lists
 

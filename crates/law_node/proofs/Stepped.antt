@@ -13,7 +13,7 @@ use Rattle.node_model.specs.Nodes.{Home, spec_of, PlainNode, own_readers, ready,
 use Rattle.node_model.specs.NodeSteps.{mill_step, after_stable_buckets, given_stable, given_by, past_buckets, processing_upto, after_buckets, count_upto, stably, enter_step}
 use Rattle.node_model.specs.NodeParts.{inputs_of, outputs_of}
 use Rattle.pipeline.specs.Flowing.{given_between, items_between, outputs_given, after_processing, stably_upto}
-use Rattle.law_node.proofs.Viewed.{made_of, stable-is}
+use Rattle.node_model.proofs.Viewed.{made_of, stable-is}
 use Rattle.law_node.proofs.Buckets.{given-stably, given-processed, stably-is, processed-inputs, made-alike}
 
 -- the output of these inputs

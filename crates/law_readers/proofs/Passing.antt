@@ -1,9 +1,7 @@
 -- What one step of a node keeps of its ports, sessions, acknowledgements and base, and a fact of each of its mails.
 use Rattle.std.proofs.Common.{◌≡◌, ℕ, zero, suc, ◌+◌, ◌-◌, ◌*◌, min, Bool, true, false, cond, not, ◌&&◌, ◌||◌, ◌==◌, nat_lt, List, [], ◌∷◌, map, length, refl, sym, ap, subst, ◌∙◌, arith, Option, Some, None, slice_get, inl, inr}
-use Rattle.std.specs.Prelude.{is_none}
-use Rattle.dpc_lists.specs.Lists.{nth, changed, list_all}
+use Rattle.dpc_lists.specs.Lists.{nth, changed}
 use Rattle.dpc_model.specs.Inlets.{InletState, same_sess, take_batch, after_tally, shows_loss}
-use Rattle.dpc_model.specs.Replicas.{is_absent}
 use Rattle.dpc_model.specs.Granting.{own_key, grants, with_promise, may_enter_by, with_ask}
 use Rattle.dpc_model.specs.Actors.{replicas_of}
 use Rattle.dpc_model.specs.Ports.{Port, no_port, sender_at, without_ended_marks, on_beat, on_truncated, all_truncated, port_after_tick, port_after_choice, subscriptions}
@@ -21,14 +19,15 @@ use Rattle.dpc_model.specs.declared.messages.Message.{Message}
 use Rattle.dpc_model.specs.declared.messages.Message.TheVariants as message
 use Rattle.dpc_model.specs.declared.messages.NodeState.TheVariants.{Stabilization}
 use Rattle.dpc_model.specs.NodeStates.{is_up_failure, is_stabilization}
-use Rattle.node_model.specs.Mails.{Snap, Packet, Plain, SnapFor, Mail, mail, mails, in_actor_order, to_each, to_readers, Stepped}
-use Rattle.node_model.specs.Nodes.{Home, PlainNode, streams_of, own_readers, node_frontier, out_stable, complete_buckets, ready, due_at, wants_to_reconcile}
-use Rattle.node_model.specs.NodeSteps.{idle_step, then_do, peers_of, peer_watches, replica_number, reader_place, with_port, give, given_by, given_stable, enter_step, emptied_port, adopted_ports, after_loss, snapshot, after_adoption, after_taking, with_stamps_of, on_batch, on_subscribe, on_truncation, on_upstream_beat, on_peer_beat, on_ack, on_ask, on_grant, on_snap_ask, on_message, on_packet, with_marks_ended, packet_step, past_buckets, after_stable_buckets, after_last_correction, mill_step, after_clock, may_start_afresh, choice_step, ask_step, with_closed, with_failure, processing_upto, processing_step, acks_from, beat_of, beats, announcing_step, serving_step, snapshot_ask_step, rest_of_tick, with_fresh_start, tick_step}
+use Rattle.node_model.specs.Mails.{Snap, Packet, Plain, SnapFor, Mail, mail, mails, in_actor_order, to_readers, Stepped}
+use Rattle.node_model.specs.Nodes.{Home, PlainNode, streams_of, own_readers, node_frontier, out_stable, complete_buckets, ready}
+use Rattle.node_model.specs.NodeSteps.{idle_step, then_do, peers_of, replica_number, reader_place, with_port, give, given_by, given_stable, enter_step, emptied_port, adopted_ports, after_loss, snapshot, after_adoption, after_taking, with_stamps_of, on_batch, on_subscribe, on_truncation, on_upstream_beat, on_peer_beat, on_ack, on_ask, on_grant, on_snap_ask, on_message, on_packet, with_marks_ended, packet_step, past_buckets, after_stable_buckets, after_last_correction, mill_step, after_clock, may_start_afresh, choice_step, ask_step, with_closed, with_failure, processing_upto, processing_step, acks_from, beat_of, beats, announcing_step, serving_step, snapshot_ask_step, rest_of_tick, with_fresh_start, tick_step}
 use Rattle.dpc_lists.proofs.Truths.{eq-of}
 use Rattle.dpc_lists.proofs.Places.{place-nth}
 use Rattle.dpc_model.proofs.Subs.{nth-there}
 use Rattle.dpc_lists.proofs.Somes.{some-same}
 use Rattle.dpc_lists.proofs.Each.{Each, each-append}
+use Rattle.law_safety.proofs.StepCases.{by-asking, by-processing}
 use Rattle.law_granting.proofs.Each.{each-sorted, each-to, each-acks, each-beats}
 use Rattle.law_granting.proofs.Moves.{get-mapped, get-was}
 
@@ -310,15 +309,8 @@ module _ (home : Home) (I : List Port → List Sub → List Acked → ℕ → Ty
 
   pub asking-passed : (n : PlainNode) → At I n → Ok (ask_step home n)
   asking-passed n h =
-      elim (wants_to_reconcile home n && is_none n.grants.promise) as (λ b. Ok (cond b (cond (list_all is_absent (peer_watches home n)) (enter_step home n)
-      (record { after = record n { grants = with_ask n.grants }; sends = to_each (message.Ask (own_key n.grants).0 (own_key n.grants).1) (peers_of home) })) (idle_step n))) [
-        | true ↦ elim (list_all is_absent (peer_watches home n)) as (λ b. Ok (cond b (enter_step home n)
-            (record { after = record n { grants = with_ask n.grants }; sends = to_each (message.Ask (own_key n.grants).0 (own_key n.grants).1) (peers_of home) }))) [
-              | true ↦ entered-passed n h
-              | false ↦ record { after = h; sends = each-to P (message.Ask (own_key n.grants).0 (own_key n.grants).1) (peers_of home) (λ to. o.told to (message.Ask (own_key n.grants).0 (own_key n.grants).1) refl) }
-            ]
-        | false ↦ silent n h
-      ]
+      by-asking home n Ok (entered-passed n h)
+      (record { after = h; sends = each-to P (message.Ask (own_key n.grants).0 (own_key n.grants).1) (peers_of home) (λ to. o.told to (message.Ask (own_key n.grants).0 (own_key n.grants).1) refl) }) (silent n h)
 
   upto-passed : (last : ℕ) (n : PlainNode) → At I n → Ok (processing_upto home last n)
   upto-passed last n h =
@@ -329,13 +321,7 @@ module _ (home : Home) (I : List Port → List Sub → List Acked → ℕ → Ty
 
   pub processing-passed : (n : PlainNode) → At I n → Ok (processing_step home n)
   processing-passed n h =
-      elim (is_stabilization n.state) as (λ b. Ok (cond b (idle_step n) (elim (due_at home n n.clock) [ None ↦ idle_step n | Some last ↦ processing_upto home last n ]))) [
-        | true ↦ silent n h
-        | false ↦ elim (due_at home n n.clock) as (λ l. Ok (elim l [ None ↦ idle_step n | Some last ↦ processing_upto home last n ])) [
-          | None ↦ silent n h
-          | Some last ↦ upto-passed last n h
-        ]
-      ]
+      by-processing home n Ok (silent n h) (λ last e due. upto-passed last n h)
 
   pub announcing-passed : (n : PlainNode) → At I n → Ok (announcing_step home n)
   announcing-passed n h =

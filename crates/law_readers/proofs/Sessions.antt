@@ -25,6 +25,7 @@ use Rattle.node_model.specs.Sources.{SourceState, source_readers, bound_at, sour
 use Rattle.node_model.proofs.Mailed.{kept-port}
 use Rattle.dpc_lists.proofs.Each.{Each, each-append, each-weaker}
 use Rattle.dpc_model.proofs.Subs.{took-session}
+use Rattle.law_safety.proofs.StepCases.{by-answer}
 use Rattle.law_granting.proofs.Each.{each-subscription, each-zipped}
 use Rattle.law_granting.proofs.Moves.{get-mapped, get-was}
 use Rattle.law_readers.proofs.Passing.{At, Passed, is_told, Obliges, Takes, KeepSessions, keep-same, keep-then, keep-sessions, SameSession, ports-changed, beat-session, packet-passed, mill-passed, tick-passed, serving-passed, recovering-passed}
@@ -128,17 +129,7 @@ module _ (Q : Sess → Type 0) (readers : List ℕ) (x : ℕ) where
 
       sent-ok : Each (SentTo Q x) (to_subscriber readers shows k asked subs).sends
       sent-ok =
-          elim (is_newer_than_kept asked.sess (nth no_session subs k).kept) as (λ b. Each (SentTo Q x) (elim (cond {A = Answered} (not b) (record { after = nth no_session subs k; answer = None }) (cond (nat_lt asked.n shows.base)
-          (record { after = record { kept = Some asked.sess; is_open = false; batches = 0 }; answer = Some (message.Truncated asked.sess shows.base) })
-          (record { after = record { kept = Some asked.sess; is_open = true; batches = 1 }; answer = Some (message.Batch asked.sess 0 (first_batch shows asked)) }))).answer as (λ _. List Mail) [ None ↦ [] | Some m ↦ mail (nth 0 readers k) m ∷ [] ])) [
-            | false ↦ tt
-            | true ↦ elim (nat_lt asked.n shows.base) as (λ b. Each (SentTo Q x) (elim (cond {A = Answered} b
-                (record { after = record { kept = Some asked.sess; is_open = false; batches = 0 }; answer = Some (message.Truncated asked.sess shows.base) })
-                (record { after = record { kept = Some asked.sess; is_open = true; batches = 1 }; answer = Some (message.Batch asked.sess 0 (first_batch shows asked)) })).answer as (λ _. List Mail) [ None ↦ [] | Some m ↦ mail (nth 0 readers k) m ∷ [] ])) [
-                  | true ↦ (told, tt)
-                  | false ↦ (told, tt)
-                ]
-          ]
+          by-answer shows (nth no_session subs k) asked (nth 0 readers k) (Each (SentTo Q x)) tt (told, tt) (told, tt)
 
 -- ---- a node's step, of what it keeps and writes of a reader
 
@@ -301,17 +292,7 @@ module _ (home : Home) where
     where
       answer : (k : ℕ) (shows : Shown) (sub : Sub) (asked : Subscribe) → Each NoAsk (elim (answer_to shows sub asked).answer as (λ _. List Mail) [ None ↦ [] | Some m ↦ mail (nth 0 (own_readers home) k) m ∷ [] ])
       answer k shows sub asked =
-          elim (is_newer_than_kept asked.sess sub.kept) as (λ b. Each NoAsk (elim (cond {A = Answered} (not b) (record { after = sub; answer = None }) (cond (nat_lt asked.n shows.base)
-          (record { after = record { kept = Some asked.sess; is_open = false; batches = 0 }; answer = Some (message.Truncated asked.sess shows.base) })
-          (record { after = record { kept = Some asked.sess; is_open = true; batches = 1 }; answer = Some (message.Batch asked.sess 0 (first_batch shows asked)) }))).answer as (λ _. List Mail) [ None ↦ [] | Some m ↦ mail (nth 0 (own_readers home) k) m ∷ [] ])) [
-            | false ↦ tt
-            | true ↦ elim (nat_lt asked.n shows.base) as (λ b. Each NoAsk (elim (cond {A = Answered} b
-                (record { after = record { kept = Some asked.sess; is_open = false; batches = 0 }; answer = Some (message.Truncated asked.sess shows.base) })
-                (record { after = record { kept = Some asked.sess; is_open = true; batches = 1 }; answer = Some (message.Batch asked.sess 0 (first_batch shows asked)) })).answer as (λ _. List Mail) [ None ↦ [] | Some m ↦ mail (nth 0 (own_readers home) k) m ∷ [] ])) [
-                  | true ↦ (λ y ps rs. tt, tt)
-                  | false ↦ (λ y ps rs. tt, tt)
-                ]
-          ]
+          by-answer shows sub asked (nth 0 (own_readers home) k) (Each NoAsk) tt (λ y ps rs. tt, tt) (λ y ps rs. tt, tt)
 
   pub delivered-reader : (a : ℕ) (packet : Packet) (n : PlainNode) → ReaderSteps home n (packet_step home a packet n)
   delivered-reader a packet n =

@@ -26,7 +26,7 @@ use Rattle.world_model.specs.Worlds.{World, Envelope, Slot, home_of, node_place,
 use Rattle.world_model.specs.Safe.{HoldsOf}
 use Rattle.law_safety.specs.Plans.{IsCheckedPlan}
 use Rattle.dpc_lists.proofs.Truths.{eq-test, eq-of}
-use Rattle.dpc_lists.proofs.Elements.{get-only, none-there}
+use Rattle.dpc_lists.proofs.Elements.{get-only, none-there, nth-here}
 use Rattle.dpc_lists.proofs.Somes.{some-same}
 use Rattle.law_safety.proofs.Pointwise.{sender-of}
 use Rattle.law_safety.proofs.Pointwise.{port-at as sound-port, holds-at}
@@ -216,12 +216,7 @@ module _ (w : World) (most x p : ℕ) (s : StreamRef) (fine : IsFine w most) (ma
       }
     where
       here : client_at (record w { clients = changed d change w.clients; envelopes = es }) d ≡ change (client_at w d)
-      here = nth-done (new_client w.plan d) d change w.clients low
-        where
-          nth-done : (none : ClientState) (i : ℕ) (f : ClientState → ClientState) (xs : List ClientState) → i < length xs → nth none (changed i f xs) i ≡ f (nth none xs i)
-          nth-done none i f [] h = absurd (omega (arith, h))
-          nth-done none zero f (z ∷ xs) h = refl
-          nth-done none (suc i) f (z ∷ xs) h = nth-done none i f xs (omega (arith, h))
+      here = nth-here (new_client w.plan d) d change w.clients low
 
       by-role : (is : Role) → role_of w.plan x ≡ is → (r : Port) → role_port (record w { clients = changed d change w.clients; envelopes = es }) x p is ≡ Some r → r.inlet.broken ≡ false → (z : Port) × (role_port w x p is ≡ Some z) × Went z r
       by-role (IsSource v) is r there whole = cc

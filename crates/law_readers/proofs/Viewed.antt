@@ -53,17 +53,13 @@ use Rattle.law_granting.proofs.Sourced.{SourceOrder, IsSourceLine, source-run}
 use Rattle.law_granting.proofs.Prefix.{sent-run, new-order}
 use Rattle.law_granting.proofs.First.{new-source-order}
 use Rattle.law_readers.specs.Newest.{subs_of, node_subs, IsPortOf}
-use Rattle.law_readers.specs.Held.{IsBatchOf, joined, HasRead, shown_by, node_shown, TookAll, HoldsView, ViewsAreHeld}
+use Rattle.law_readers.specs.Held.{IsBatchOf, joined, HasRead, shown_by, node_shown, TookAll, told_by, opening_of, HoldsView, ViewsAreHeld}
 use Rattle.law_readers.proofs.Sessions.{tally-kept}
 use Rattle.law_readers.proofs.Known.{sends-source, sends-node, opened-subs}
 use Rattle.law_readers.proofs.Carried.{all-carried, source-sent-after, IsWithin, node-sent-after}
 use Rattle.law_readers.proofs.Steps.{ports-have-read, reads-sender}
 
 -- ---- which subscription opened a session
-
--- what a reader told that held this when it asked; nothing at the opening
-abbrev told_by : Reader → Channel → Subscribe
-told_by start l = cond (same_sess (sess_of 1 1) l.sess) (first_subscription l) (record { sess = l.sess; n = length start.stable; tentative = not (is_sure start) })
 
 other-asked : (plan : Plan) (s : StreamRef) (x : Shown) (h : Sess → List Item) (q r : Sess → Subscribe) (sub : Sub) → ((u : Sess) → sub.kept ≡ Some u → r u ≡ q u) → HoldsSession plan s x h q sub → HoldsSession plan s x h r sub
 other-asked plan s x h q r sub same held =
@@ -128,7 +124,7 @@ pub record AsksIn (l : Channel) (e : Envelope) (asked : Subscribe) : Type 0 wher
   pub packet : e.packet ≡ Plain (message.Subscribe asked)
   pub sess : same_sess asked.sess l.sess ≡ true
 
-asks-parts : (l : Channel) (e : Envelope) (asked : Subscribe) → asks_for l e ≡ Some asked → AsksIn l e asked
+pub asks-parts : (l : Channel) (e : Envelope) (asked : Subscribe) → asks_for l e ≡ Some asked → AsksIn l e asked
 asks-parts l e asked h =
     (elim (e.sender == l.reader && e.to == l.sender) as (λ b. (e.sender == l.reader && e.to == l.sender) ≡ b → cond {A = Option Subscribe} b (packet_asks l e.packet) None ≡ Some asked → AsksIn l e asked) [
       | true ↦ λ f g. let p = both (e.sender == l.reader) (e.to == l.sender) f in let k = by-packet e.packet g in record { sender = eq-of e.sender l.reader p.0; to = eq-of e.to l.sender p.1; packet = k.0; sess = k.1 }
@@ -205,13 +201,14 @@ counted u i many inc sub h tally =
 
 -- ---- the view
 
-view-of : (plan : Plan) (s : StreamRef) (shows : Shown) (asked : Subscribe) (start held : Reader) (items : List Item) (folded : Folded) → Fits plan s asked start → LeavesView plan s asked shows items → fold_items start items ≡ Some folded → held ≡ folded.after → HoldsView plan s shows held
-view-of plan s shows asked start held items folded fits leaves read is =
+view-of : (plan : Plan) (events : List Event) (x : ℕ) (s : StreamRef) (q : Port) (shows : Shown) (l : Channel) (items : List Item) (read : HasRead plan x s (run plan events).envelopes q) → line_of plan x s q ≡ l →
+    Fits plan s (opening_of plan events read.start l) read.start → LeavesView plan s (opening_of plan events read.start l) shows items → fold_items read.start items ≡ Some read.folded → HoldsView plan events x s q shows
+view-of plan events x s q shows l items read is fits leaves folded =
+    let view = read.held ∙ subst (λ (o : Option Folded). IfSome o (λ (f : Folded). f.after ≡ taken_whole plan s (opening_of plan events read.start l) shows read.start)) folded (leaves read.start fits).0 in
     record {
-      asked = asked;
-      start = start;
-      fits = fits;
-      view = is ∙ subst (λ (o : Option Folded). IfSome o (λ (f : Folded). f.after ≡ taken_whole plan s asked shows start)) read (leaves start fits).0;
+      read = read;
+      fits = subst (λ (c : Channel). Fits plan s (opening_of plan events read.start c) read.start) (sym is) fits;
+      view = subst (λ (c : Channel). q.inlet.held ≡ taken_whole plan s (opening_of plan events read.start c) shows read.start) (sym is) view;
     }
 
 module _ (plan : Plan) (events : List Event) (x p a i : ℕ) (s : StreamRef) (q : Port) (checked : IsCheckedPlan plan) (port : IsPortOf plan x p s) (took : TookAll plan (run plan events) x p s q a) where
@@ -251,21 +248,21 @@ module _ (plan : Plan) (events : List Event) (x p a i : ℕ) (s : StreamRef) (q 
 
   -- from all that was sent in the session
   finish : (shows : Shown) (many : ℕ) → indexes line (run plan events).envelopes ≡ range_with_len 0 many → took.sub.batches ≡ many → sent_after line [] (new_world plan) events ≡ carried line (run plan events).envelopes →
-      LeavesView plan s (opened_by line (told_by read.start line) (new_world plan) events) shows (sent_after line [] (new_world plan) events) → HoldsView plan s shows q.inlet.held
+      LeavesView plan s (opened_by line (told_by read.start line) (new_world plan) events) shows (sent_after line [] (new_world plan) events) → HoldsView plan events x s q shows
   finish shows many order batches sent leaves =
       let asked = opened_by line (told_by read.start line) (new_world plan) events in
       let opened = told asked (asked-run-of plan events line (told_by read.start line)) in
       let each = λ (j : ℕ) (items : List Item) (e : slice_get read.batches j ≡ Some items). subst (λ (l : Channel). IsBatchOf l (run plan events).envelopes j items) line-is (read.each j items e) in
       let all : joined read.batches ≡ carried line (run plan events).envelopes = all-carried line (run plan events).envelopes many read.batches order (read.many ∙ took.all ∙ batches) each in
-      view-of plan s shows asked read.start q.inlet.held (sent_after line [] (new_world plan) events) read.folded (fits-of plan s asked read.start read.holds opened.0 opened.1) leaves
-      (ap (λ (items : List Item). fold_items read.start items) (sent ∙ sym all) ∙ read.read) read.held
+      view-of plan events x s q shows line (sent_after line [] (new_world plan) events) read line-is (fits-of plan s asked read.start read.holds opened.0 opened.1) leaves
+      (ap (λ (items : List Item). fold_items read.start items) (sent ∙ sym all) ∙ read.read)
 
   -- ---- a node
 
   in_run : (run plan events).plan ≡ plan
   in_run = run-plan plan events
 
-  node-view : (f r : ℕ) (n : PlainNode) → role_of plan a ≡ IsNode f r → (slot_of (run plan events) a).node ≡ Some n → IsAnsweredIn plan events line i → HoldsView plan s (shown (home_of plan (f, r)) n) q.inlet.held
+  node-view : (f r : ℕ) (n : PlainNode) → role_of plan a ≡ IsNode f r → (slot_of (run plan events) a).node ≡ Some n → IsAnsweredIn plan events line i → HoldsView plan events x s q (shown (home_of plan (f, r)) n)
   node-view f r n role up answered =
       let home = home_of plan (f, r) in
       let k = took.place in
@@ -301,7 +298,7 @@ module _ (plan : Plan) (events : List Event) (x p a i : ℕ) (s : StreamRef) (q 
 
   -- ---- a source
 
-  source-view : (v : ℕ) → role_of plan a ≡ IsSource v → IsAnsweredIn plan events line i → HoldsView plan s (source_shown plan v (source_at (run plan events) v)) q.inlet.held
+  source-view : (v : ℕ) → role_of plan a ≡ IsSource v → IsAnsweredIn plan events line i → HoldsView plan events x s q (source_shown plan v (source_at (run plan events) v))
   source-view v role answered =
       let k = took.place in
       let w = run plan events in
@@ -330,16 +327,16 @@ module _ (plan : Plan) (events : List Event) (x p a i : ℕ) (s : StreamRef) (q 
           let leaves_line = subst (λ (z : ℕ). let l : Channel = record { sender = a; reader = z; sess = q.inlet.sess } in LeavesView plan (Source v) (opened_by l (told_by read.start l) (new_world plan) events) (source_shown plan v (source_at w v)) (sent_after l [] (new_world plan) events)) reader leaves_here in
           subst (λ (z : StreamRef). LeavesView plan z (opened_by line (told_by read.start line) (new_world plan) events) (source_shown plan v (source_at w v)) (sent_after line [] (new_world plan) events)) (sym same) leaves_line
 
-  any-view : (shows : Shown) → IsAnsweredIn plan events line i → shown_by plan (run plan events) a (role_of plan a) ≡ Some shows → HoldsView plan s shows q.inlet.held
+  any-view : (shows : Shown) → IsAnsweredIn plan events line i → shown_by plan (run plan events) a (role_of plan a) ≡ Some shows → HoldsView plan events x s q shows
   any-view shows answered is = by-role (role_of plan a) refl is
     where
-      by-role : (role : Role) → role_of plan a ≡ role → shown_by plan (run plan events) a role ≡ Some shows → HoldsView plan s shows q.inlet.held
-      by-role (IsSource v) role e = subst (λ (z : Shown). HoldsView plan s z q.inlet.held) (some-same (source_shown plan v (source_at (run plan events) v)) shows e) (source-view v role answered)
+      by-role : (role : Role) → role_of plan a ≡ role → shown_by plan (run plan events) a role ≡ Some shows → HoldsView plan events x s q shows
+      by-role (IsSource v) role e = subst (λ (z : Shown). HoldsView plan events x s q z) (some-same (source_shown plan v (source_at (run plan events) v)) shows e) (source-view v role answered)
       by-role (IsNode f r) role e = by-node (slot_of (run plan events) a).node refl e
         where
-          by-node : (o : Option PlainNode) → (slot_of (run plan events) a).node ≡ o → node_shown plan f r o ≡ Some shows → HoldsView plan s shows q.inlet.held
+          by-node : (o : Option PlainNode) → (slot_of (run plan events) a).node ≡ o → node_shown plan f r o ≡ Some shows → HoldsView plan events x s q shows
           by-node None up g = cc
-          by-node (Some n) up g = subst (λ (z : Shown). HoldsView plan s z q.inlet.held) (some-same (shown (home_of plan (f, r)) n) shows g) (node-view f r n role up answered)
+          by-node (Some n) up g = subst (λ (z : Shown). HoldsView plan events x s q z) (some-same (shown (home_of plan (f, r)) n) shows g) (node-view f r n role up answered)
       by-role (IsClient c) role e = cc
       by-role Nobody role e = cc
 

@@ -1,5 +1,5 @@
 -- What a port holds: what it held when it asked for its session, read on with the first batches of the session.
-use Rattle.std.specs.Prelude.{◌≡◌, ℕ, true, false, not, List, [], ◌∷◌, ◌++◌, length, Option, Some, None, slice_get}
+use Rattle.std.specs.Prelude.{◌≡◌, ℕ, true, false, not, if◌then◌else◌, List, [], ◌∷◌, ◌++◌, length, Option, Some, None, slice_get}
 use Rattle.dpc_lists.specs.Lists.{nth}
 use Rattle.dpc_model.specs.Reading.{Reader, empty_reader, is_sure, Folded, fold_items}
 use Rattle.dpc_model.specs.Inlets.{same_sess, sess_of}
@@ -18,10 +18,11 @@ use Rattle.dpc_model.specs.declared.plans.StreamRef.{StreamRef}
 use Rattle.node_model.specs.Mails.{Plain}
 use Rattle.node_model.specs.Nodes.{PlainNode, shown}
 use Rattle.node_model.specs.Sources.{source_shown}
-use Rattle.world_model.specs.Worlds.{World, Envelope, home_of, slot_of, source_at, run}
+use Rattle.world_model.specs.Worlds.{World, Envelope, home_of, slot_of, source_at, run, new_world}
 use Rattle.world_model.specs.Safe.{HoldsOf}
 use Rattle.world_model.specs.Orderly.{items_carried}
 use Rattle.world_model.specs.SessionLaw.{Channel, Fits, taken_whole}
+use Rattle.law_sessions.specs.Openings.{first_subscription, opened_by}
 use Rattle.law_granting.specs.Taken.{index_of, port_of, line_of, IsAnsweredIn}
 use Rattle.law_readers.specs.Newest.{subs_of, IsPortOf}
 
@@ -82,15 +83,22 @@ pub record TookAll (plan : Plan) (w : World) (x p : ℕ) (s : StreamRef) (q : Po
   pub is_open : sub.is_open ≡ true
   pub all : q.inlet.next ≡ sub.batches
 
--- it holds the sender's view, from a start that fits its subscription
-pub record HoldsView (plan : Plan) (s : StreamRef) (shows : Shown) (held : Reader) : Type 0 where
-  pub asked : Subscribe
-  pub start : Reader
-  pub fits : Fits plan s asked start
-  pub view : held ≡ taken_whole plan s asked shows start
+-- what a reader told that held this when it asked for a session; nothing at the opening
+abbrev pub told_by : Reader → Channel → Subscribe
+told_by start l = if same_sess (sess_of 1 1) l.sess then first_subscription l else record { sess = l.sess; n = length start.stable; tentative = not (is_sure start) }
+
+-- the subscription that a session was opened by, whose reader held this when it asked for it
+abbrev pub opening_of : Plan → List Event → Reader → Channel → Subscribe
+opening_of plan events start l = opened_by l (told_by start l) (new_world plan) events
+
+-- the port holds the sender's view, from what it held when it asked for its session, which fits the subscription that opened the session
+pub record HoldsView (plan : Plan) (events : List Event) (x : ℕ) (s : StreamRef) (q : Port) (shows : Shown) : Type 0 where
+  pub read : HasRead plan x s (run plan events).envelopes q
+  pub fits : Fits plan s (opening_of plan events read.start (line_of plan x s q)) read.start
+  pub view : q.inlet.held ≡ taken_whole plan s (opening_of plan events read.start (line_of plan x s q)) shows read.start
 
 -- where the session was answered in one incarnation of the sender
 abbrev pub ViewsAreHeld : Plan → List Event → Type 0
 ViewsAreHeld plan events =
     (x p a i : ℕ) (s : StreamRef) (q : Port) (shows : Shown) → IsPortOf plan x p s → TookAll plan (run plan events) x p s q a → IsAnsweredIn plan events (line_of plan x s q) i →
-    shown_by plan (run plan events) a (role_of plan a) ≡ Some shows → HoldsView plan s shows q.inlet.held
+    shown_by plan (run plan events) a (role_of plan a) ≡ Some shows → HoldsView plan events x s q shows

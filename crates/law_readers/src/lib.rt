@@ -35,8 +35,8 @@ pub fn ports_hold_what_they_read()
     ensures { (plan : Plan) (events : List Event) → IsCheckedPlan plan → PortsHaveRead plan events }
 {}
 
-/// A port that took as many batches of its session as the sender that it reads sent in it holds the sender's view, from a start
-/// that fits the session's subscription, where the session was answered in one incarnation of the sender.
+/// A port that took as many batches of its session as the sender that it reads sent in it holds the sender's view, from what it held
+/// when it asked, which fits the subscription that opened the session, where the session was answered in one incarnation of the sender.
 pub fn readers_hold_the_view()
     ensures { (plan : Plan) (events : List Event) → IsCheckedPlan plan → ViewsAreHeld plan events }
 {}

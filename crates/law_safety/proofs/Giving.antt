@@ -8,7 +8,7 @@ use Rattle.dpc_model.specs.Operators.{all_of}
 use Rattle.dpc_model.specs.Fragments.{serial, fragment_value}
 use Rattle.dpc_model.specs.Granting.{with_ask}
 use Rattle.dpc_model.specs.Actors.{role_of, reads_from, readers_of}
-use Rattle.dpc_model.specs.Sessions.{Shown, given_items, stable_items, boundary_item, tentative_items, passed_item, item_if, first_batch, Answered, answer_to, is_newer_than_kept}
+use Rattle.dpc_model.specs.Sessions.{Shown, given_items, stable_items, boundary_item, tentative_items, passed_item, item_if, first_batch, answer_to}
 use Rattle.dpc_model.specs.declared.sessions.Sub.{Sub}
 use Rattle.dpc_model.specs.declared.tuples.Tuple.{Tuple}
 use Rattle.dpc_model.specs.declared.tuples.Tagged.{Tagged}
@@ -16,15 +16,14 @@ use Rattle.dpc_model.specs.declared.tuples.Item.{Item}
 use Rattle.dpc_model.specs.declared.tuples.Item.TheVariants.{Undo, RecDone}
 use Rattle.dpc_model.specs.declared.messages.NodeState.TheVariants.{Stable, UpFailure, Stabilization}
 use Rattle.dpc_model.specs.declared.messages.NodeState.{NodeState}
-use Rattle.dpc_model.specs.declared.messages.Message.TheVariants as message
 use Rattle.dpc_model.specs.declared.messages.Subscribe.{Subscribe}
 use Rattle.dpc_model.specs.declared.plans.Plan.{Plan}
 use Rattle.dpc_model.specs.declared.plans.StreamRef.{StreamRef}
 use Rattle.dpc_model.specs.declared.plans.StreamRef.TheVariants.{Frag}
 use Rattle.node_model.specs.Mails.{mail, Stepped}
 use Rattle.dpc_model.specs.NodeStates.{is_stable, is_up_failure, is_stabilization}
-use Rattle.node_model.specs.Nodes.{Home, PlainNode, spec_of, own_readers, inputs_done, node_frontier, buckets_of, out_stable, out_with_closed, out_tentative, out_bound, out_passed, shown, complete_upto, ready, due_at}
-use Rattle.node_model.specs.NodeSteps.{stably, idle_step, give, given_by, given_stable, enter_step, after_stable_buckets, with_closed, with_failure, processing_upto, processing_step, after_last_correction, mill_step, on_subscribe}
+use Rattle.node_model.specs.Nodes.{Home, PlainNode, spec_of, own_readers, inputs_done, node_frontier, buckets_of, out_stable, out_with_closed, out_tentative, out_bound, out_passed, shown, complete_upto, ready}
+use Rattle.node_model.specs.NodeSteps.{stably, give, given_by, given_stable, enter_step, after_stable_buckets, with_closed, with_failure, processing_upto, processing_step, after_last_correction, mill_step, on_subscribe}
 use Rattle.world_model.specs.Safe.{AreTrueItems, IsSafeNode, has_done}
 use Rattle.world_model.specs.Orderly.{fits_stream, item_fits, has_state_of_closed}
 use Rattle.law_safety.proofs.Milling.{advanced-safe, IsSafeNode-same, upto-items-true}
@@ -41,6 +40,7 @@ use Rattle.law_safety.proofs.Numbering.{all-nth}
 use Rattle.law_safety.proofs.Dues.{due-range}
 use Rattle.law_safety.proofs.OutFits.{out_stable-fits, out_tentative-fits, drop-fits, cursor-within, view-within}
 use Rattle.law_safety.proofs.Mailing.{AreMails, IsActor, IsSender, node-sender, batches-mails, given-fit, given-done, IsBoundWithin, IsPassedWithin, stable-fit, tentative-fit, boundary-fit, passed-fit, done-fit, done-append, stable-done, tentative-done, boundary-done, passed-done}
+use Rattle.law_safety.proofs.StepCases.{by-processing, by-answer}
 
 -- a step leaves a good node, and sends mails
 pub record IsGoodStep (home : Home) (a most : ℕ) (done : Type 0) (s : Stepped PlainNode) : Type 0 where
@@ -92,6 +92,19 @@ given_by-fit home most n new any_stable any_closed place up g =
 
 -- ---- the step that processes buckets
 
+-- the node behind it
+pub processed-good : (home : Home) (most last : ℕ) (n : PlainNode) → IsPlace home → IsGood home most n → n.recovering ≡ false → is_stabilization n.state ≡ false →
+    node_frontier n ≤ last → last < buckets_of home.plan →
+    let r = stably home n (last + 1 - node_frontier n) in
+    IsGood home most (with_failure (with_closed home (last + 1 - node_frontier n - r) (after_stable_buckets home r n)))
+processed-good home most last n place g up calm low high =
+    let count = last + 1 - node_frontier n in
+    let r = stably home n count in
+    record {
+      safe = processed-safe home r (count - r) n place g.safe up (stably-complete home n count (cursor-complete home n place g.safe up));
+      orderly = processed-orderly home most r (count - r) n (node-columns home most n place.checked g.safe g.orderly) g.orderly up calm (stably-open home n count) (omega arith);
+    }
+
 pub processed_upto-good : (home : Home) (a most last : ℕ) (n : PlainNode) → IsActor home a → IsGood home most n → n.recovering ≡ false → is_stabilization n.state ≡ false →
     node_frontier n ≤ last → last < buckets_of home.plan → IsGoodStep home a most ⊥ (processing_upto home last n)
 processed_upto-good home a most last n actor g up calm low high =
@@ -100,10 +113,7 @@ processed_upto-good home a most last n actor g up calm low high =
     let r = stably home n count in
     let m = with_closed home (count - r) (after_stable_buckets home r n) in
     let new = with_failure m in
-    let good : IsGood home most new = record {
-      safe = processed-safe home r (count - r) n place g.safe up (stably-complete home n count (cursor-complete home n place g.safe up));
-      orderly = processed-orderly home most r (count - r) n (node-columns home most n place.checked g.safe g.orderly) g.orderly up calm (stably-open home n count) (omega arith);
-    } in
+    let good : IsGood home most new = processed-good home most last n place g up calm low high in
     let items = given_items (length (out_stable home n)) (given_by home n new (nat_lt 0 r) (nat_lt r count)) in
     give-good home a most ⊥ items new actor up good (given_by-true home n new (nat_lt 0 r) (nat_lt r count) place good.safe up)
     (given_by-fit home most n new (nat_lt 0 r) (nat_lt r count) place up good)
@@ -111,13 +121,8 @@ processed_upto-good home a most last n actor g up calm low high =
 
 pub processing-good : (home : Home) (a most : ℕ) (n : PlainNode) → IsActor home a → IsGood home most n → n.recovering ≡ false → IsGoodStep home a most ⊥ (processing_step home n)
 processing-good home a most n actor g up =
-    (elim (is_stabilization n.state) as (λ b. is_stabilization n.state ≡ b → IsGoodStep home a most ⊥ (cond b (idle_step n) (elim (due_at home n n.clock) [ None ↦ idle_step n | Some last ↦ processing_upto home last n ]))) [
-      | true ↦ λ e. record { after = g; mails = tt }
-      | false ↦ λ e. (elim (due_at home n n.clock) as (λ o. due_at home n n.clock ≡ o → IsGoodStep home a most ⊥ (elim o [ None ↦ idle_step n | Some last ↦ processing_upto home last n ])) [
-        | None ↦ λ f. record { after = g; mails = tt }
-        | Some last ↦ λ f. let range = due-range home n n.clock last f in processed_upto-good home a most last n actor g up e range.0 range.1
-      ]) refl
-    ]) refl
+    by-processing home n (IsGoodStep home a most ⊥) (record { after = g; mails = tt })
+    (λ last e due. let range = due-range home n n.clock last due in processed_upto-good home a most last n actor g up e range.0 range.1)
 
 -- ---- entering
 
@@ -375,24 +380,10 @@ pub answer-mails : (plan : Plan) (a : ℕ) (s : StreamRef) (done : Type 0) (k : 
     (x.is_stable ≡ true → done) → AreMails plan a done (elim (answer_to x sub asked).answer [ None ↦ [] | Some m ↦ mail (nth 0 (readers_of plan s) k) m ∷ [] ])
 answer-mails plan a s done k x sub asked sender shows low surely =
     let way = all-nth (λ b. reads_from plan (role_of plan b) (role_of plan a)) 0 (readers_of plan s) k low sender.readers in
-    elim (not (is_newer_than_kept asked.sess sub.kept)) as (λ b. AreMails plan a done (elim (cond {A = Answered} b (record { after = sub; answer = None })
-    (cond {A = Answered} (nat_lt asked.n x.base)
-    (record { after = record { kept = Some asked.sess; is_open = false; batches = 0 }; answer = Some (message.Truncated asked.sess x.base) })
-    (record { after = record { kept = Some asked.sess; is_open = true; batches = 1 }; answer = Some (message.Batch asked.sess 0 (first_batch x asked)) }))).answer
-    [ None ↦ [] | Some m ↦ mail (nth 0 (readers_of plan s) k) m ∷ [] ])) [
-      | true ↦ tt
-      | false ↦ elim (nat_lt asked.n x.base) as (λ b. AreMails plan a done (elim (cond {A = Answered} b
-          (record { after = record { kept = Some asked.sess; is_open = false; batches = 0 }; answer = Some (message.Truncated asked.sess x.base) })
-          (record { after = record { kept = Some asked.sess; is_open = true; batches = 1 }; answer = Some (message.Batch asked.sess 0 (first_batch x asked)) })).answer
-          [ None ↦ [] | Some m ↦ mail (nth 0 (readers_of plan s) k) m ∷ [] ])) [
-            | true ↦ (sender.truncated (nth 0 (readers_of plan s) k) asked.sess x.base done way, tt)
-            | false ↦ (
-              sender.batch (nth 0 (readers_of plan s) k) asked.sess 0 (first_batch x asked) done way (first-true plan s x asked shows) (first-fit plan s x asked shows)
-                  (λ e. surely (first-done x asked e)),
-              tt,
-            )
-          ]
-    ]
+    by-answer x sub asked (nth 0 (readers_of plan s) k) (AreMails plan a done) tt (sender.truncated (nth 0 (readers_of plan s) k) asked.sess x.base done way, tt) (
+      sender.batch (nth 0 (readers_of plan s) k) asked.sess 0 (first_batch x asked) done way (first-true plan s x asked shows) (first-fit plan s x asked shows) (λ e. surely (first-done x asked e)),
+      tt,
+    )
 
 pub on_subscribe-good : (home : Home) (a most : ℕ) (asked : Subscribe) (o : Option ℕ) (n : PlainNode) → IsActor home a → n.recovering ≡ false → IsGood home most n →
     ((k : ℕ) → o ≡ Some k → k < length (own_readers home)) → IsGoodStep home a most (IsDoneNode home (on_subscribe home asked o n).after) (on_subscribe home asked o n)

@@ -31,6 +31,13 @@ pub record HoldsSession (plan : Plan) (s : StreamRef) (x : Shown) (h : Sess → 
 abbrev pub AreDistinct : List ℕ → Type 0
 AreDistinct readers = (i j : ℕ) → i < length readers → j < length readers → nth 0 readers i ≡ nth 0 readers j → i ≡ j
 
+pub reader-apart : (readers : List ℕ) (j k : ℕ) → AreDistinct readers → j < length readers → k < length readers → (j ≡ k → ⊥) → (nth 0 readers j == nth 0 readers k) ≡ false
+reader-apart readers j k distinct here there other = by-test (nth 0 readers j == nth 0 readers k) refl
+  where
+    by-test : (b : Bool) → (nth 0 readers j == nth 0 readers k) ≡ b → b ≡ false
+    by-test false e = refl
+    by-test true e = absurd (other (distinct j k here there (eq-of (nth 0 readers j) (nth 0 readers k) e)))
+
 -- batches to other readers carry nothing to this one
 carried-others : (readers : List ℕ) (a k j : ℕ) (u : Sess) (items : List Item) (subs : List Sub) → AreDistinct readers → k < j → j + length subs ≤ length readers →
     carried (record { sender = a; reader = nth 0 readers k; sess = u }) (map (from a) (to_readers readers (batches_from j items subs))) ≡ []
@@ -41,16 +48,10 @@ carried-others readers a k j u items (sub ∷ subs) distinct less few =
     elim (tally_of sub) as (λ o. carried l (map (from a) (to_readers readers (elim o [ None ↦ batches_from (j + 1) items subs | Some v ↦ (j, message.Batch v.0 v.1 items) ∷ batches_from (j + 1) items subs ]))) ≡ []) [
       | None ↦ rest
       | Some v ↦
-          let other : (nth 0 readers j == nth 0 readers k) ≡ false = apart (nth 0 readers j == nth 0 readers k) refl in
+          let other : (nth 0 readers j == nth 0 readers k) ≡ false = reader-apart readers j k distinct (omega (arith, few)) (omega (arith, less, few)) (λ same. absurd (omega (arith, same, less))) in
           let mine : (a == a) ≡ true = eq-test a a refl in
           rw (mine, other) rest
     ]
-  where
-    apart : (b : Bool) → (nth 0 readers j == nth 0 readers k) ≡ b → (nth 0 readers j == nth 0 readers k) ≡ false
-    apart false e = e
-    apart true e =
-        let same = distinct j k (omega (arith, few)) (omega (arith, less, few)) (eq-of (nth 0 readers j) (nth 0 readers k) e) in
-        absurd (omega (arith, same, less))
 
 -- the items of an open session's batch
 abbrev pub given_in : Option (Sess × ℕ) → Sess → List Item → List Item
@@ -78,18 +79,12 @@ carried-given readers a j (suc i) u items (s ∷ subs) sub distinct few e =
     let rest : carried l (map (from a) (to_readers readers (batches_from (j + 1) items subs))) ≡ given_in (tally_of sub) u items =
     rw next (carried-given readers a (j + 1) i u items subs sub distinct (omega (arith, few)) e) in
     let within = slice_get_within subs i sub e in
-    let other : (nth 0 readers j == nth 0 readers (j + suc i)) ≡ false = apart within (nth 0 readers j == nth 0 readers (j + suc i)) refl in
+    let other : (nth 0 readers j == nth 0 readers (j + suc i)) ≡ false = reader-apart readers j (j + suc i) distinct (omega (arith, few)) (omega (arith, within, few)) (λ same. absurd (omega (arith, same))) in
     let mine : (a == a) ≡ true = eq-test a a refl in
     elim (tally_of s) as (λ o. carried l (map (from a) (to_readers readers (elim o [ None ↦ batches_from (j + 1) items subs | Some v ↦ (j, message.Batch v.0 v.1 items) ∷ batches_from (j + 1) items subs ]))) ≡ given_in (tally_of sub) u items) [
       | None ↦ rest
       | Some v ↦ rw (mine, other) rest
     ]
-  where
-    apart : i < length subs → (b : Bool) → (nth 0 readers j == nth 0 readers (j + suc i)) ≡ b → (nth 0 readers j == nth 0 readers (j + suc i)) ≡ false
-    apart within false f = f
-    apart within true f =
-        let same = distinct j (j + suc i) (omega (arith, few)) (omega (arith, within, few)) (eq-of (nth 0 readers j) (nth 0 readers (j + suc i)) f) in
-        absurd (omega (arith, same))
 
 -- ---- one event that gives
 

@@ -21,6 +21,7 @@ pub mod Starting
 pub mod Numbering
 pub mod OutFits
 pub mod Mailing
+pub mod StepCases
 pub mod Giving
 pub mod Delivered
 pub mod Ticked

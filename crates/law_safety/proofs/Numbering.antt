@@ -14,7 +14,7 @@ use Rattle.dpc_model.specs.declared.plans.StreamRef.TheVariants.{Source, Frag}
 use Rattle.node_model.specs.Nodes.{Home, no_fragment, streams_of}
 use Rattle.world_model.specs.Worlds.{node_place}
 use Rattle.dpc_lists.proofs.Truths.{both, both-of, eq-of, eq-test, or-right, any-same}
-use Rattle.dpc_model.proofs.Roles.{numbers_where}
+use Rattle.dpc_model.proofs.Roles.{numbers_where, node-past}
 
 -- ---- who passes a test
 
@@ -271,6 +271,13 @@ pub node-at : (plan : Plan) (a f r : ℕ) → role_of plan a ≡ IsNode f r → 
 node-at plan a f r e =
     node-among (nodes_of plan) (range_with_len 0 (length plan.clients)) (a - length plan.sources) f r
     (rw (length-range_with_len 0 (length plan.sources)) at (sources-skip (range_with_len 0 (length plan.sources)) (map (λ (n : ℕ × ℕ). IsNode n.0 n.1) (nodes_of plan) ++ map IsClient (range_with_len 0 (length plan.clients))) a f r (sym (role-split plan a) ∙ e)))
+
+-- two nodes at one place are one
+pub same-actor : (plan : Plan) (a b f q g p : ℕ) → role_of plan a ≡ IsNode f q → role_of plan b ≡ IsNode g p → node_place plan a ≡ node_place plan b → a ≡ b
+same-actor plan a b f q g p one other same =
+    let low = node-past plan a f q one in
+    let also = node-past plan b g p other in
+    omega (arith, low, also, same)
 
 -- ---- the place of a source
 

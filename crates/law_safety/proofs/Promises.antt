@@ -90,7 +90,7 @@ readers-right plan events checked h s r e =
 -- ---- outputs
 
 -- a node of a run, by the plan that the run was made for
-node-of-run : (plan : Plan) (events : List Event) (a f r : ℕ) (n : PlainNode) → IsCheckedPlan plan → role_of plan a ≡ IsNode f r → (slot_of (run plan events) a).node ≡ Some n → IsGood (home_of plan (f, r)) (1 + length events) n
+pub node-of-run : (plan : Plan) (events : List Event) (a f r : ℕ) (n : PlainNode) → IsCheckedPlan plan → role_of plan a ≡ IsNode f r → (slot_of (run plan events) a).node ≡ Some n → IsGood (home_of plan (f, r)) (1 + length events) n
 node-of-run plan events a f r n checked role up =
     let g = run-good plan events checked in
     subst (λ (p : Plan). IsGood (home_of p (f, r)) (1 + length events) n) g.of_plan

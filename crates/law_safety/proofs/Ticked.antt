@@ -1,11 +1,11 @@
 -- A tick of a node.
 use Rattle.std.proofs.Common.{◌≡◌, ℕ, suc, ◌+◌, ◌<◌, true, false, cond, not, ◌&&◌, ◌==◌, List, [], ◌∷◌, ◌++◌, map, length, refl, sym, ap, ◌∙◌, arith, Some, None, slice_get}
-use Rattle.std.specs.Prelude.{zip, is_none}
+use Rattle.std.specs.Prelude.{zip}
 use Rattle.std.proofs.lemmas.List.{length-map}
 use Rattle.std.specs.List.{filter}
 use Rattle.dpc_lists.specs.Lists.{nth, list_all}
 use Rattle.dpc_model.specs.Inlets.{with_next_session, asked_by}
-use Rattle.dpc_model.specs.Replicas.{rank_of, is_absent}
+use Rattle.dpc_model.specs.Replicas.{rank_of}
 use Rattle.dpc_model.specs.Granting.{with_ask, own_key}
 use Rattle.dpc_model.specs.Actors.{role_of, are_peers, reads_from, senders_of, replicas_of, is_replica_of}
 use Rattle.dpc_model.specs.declared.actors.Role.{Role}
@@ -19,8 +19,8 @@ use Rattle.dpc_model.specs.declared.plans.Plan.{Plan}
 use Rattle.dpc_model.specs.declared.plans.StreamRef.{StreamRef}
 use Rattle.dpc_model.specs.declared.plans.StreamRef.TheVariants.{Frag}
 use Rattle.node_model.specs.Mails.{mail, mails, in_actor_order, to_each, Stepped}
-use Rattle.node_model.specs.Nodes.{Home, PlainNode, streams_of, own_readers, held_by, out_stable, wants_to_reconcile}
-use Rattle.node_model.specs.NodeSteps.{idle_step, then_do, peers_of, peer_watches, after_clock, may_start_afresh, choice_step, ask_step, enter_step, processing_step, done_at, acks_from, beat_of, beats, announcing_step, serving_step, snapshot_ask_step, rest_of_tick, with_fresh_start, with_marks_ended, tick_step}
+use Rattle.node_model.specs.Nodes.{Home, PlainNode, streams_of, own_readers, held_by, out_stable}
+use Rattle.node_model.specs.NodeSteps.{then_do, peers_of, after_clock, may_start_afresh, choice_step, ask_step, enter_step, processing_step, done_at, acks_from, beat_of, beats, announcing_step, serving_step, snapshot_ask_step, rest_of_tick, with_fresh_start, with_marks_ended, tick_step}
 use Rattle.world_model.specs.Orderly.{is_port_sound, are_ports_sound}
 use Rattle.law_safety.proofs.Milling.{IsSafeNode-same}
 use Rattle.dpc_lists.proofs.Truths.{both, both-of, eq-of, eq-test, or-left, or-right}
@@ -32,6 +32,7 @@ use Rattle.law_safety.proofs.Starting.{fresh-good}
 use Rattle.law_safety.proofs.Numbering.{actors-pass, all-nth, replica-at, home-inputs, senders-read, readers-read, node-sends-it}
 use Rattle.law_safety.proofs.Mailing.{IsMail, AreMails, mails-append, mails-sorted, IsActor, node-mail}
 use Rattle.law_safety.proofs.Giving.{IsGoodStep, processing-good, entered-good}
+use Rattle.law_safety.proofs.StepCases.{by-asking}
 
 -- ---- the choice of a replica
 
@@ -196,36 +197,21 @@ choosing-good home me most n actor up g =
 pub reconciling-good : (home : Home) (me most : ℕ) (n : PlainNode) → IsActor home me → n.recovering ≡ false → IsGood home most n → IsGoodStep home me most ⊥ (ask_step home n)
 unfolding out_stable
 reconciling-good home me most n actor up g =
-    let m = record n { grants = with_ask n.grants } in
     let o = g.orderly in
-    let asks = to_each (message.Ask (own_key n.grants).0 (own_key n.grants).1) (peers_of home) in
-    elim (wants_to_reconcile home n && is_none n.grants.promise) as (λ b. IsGoodStep home me most ⊥ (cond b (cond (list_all is_absent (peer_watches home n)) (enter_step home n) (record { after = m; sends = asks })) (idle_step n))) [
-      | true ↦ elim (list_all is_absent (peer_watches home n)) as (λ b. IsGoodStep home me most ⊥ (cond b (enter_step home n) (record { after = m; sends = asks }))) [
-        | true ↦ entered-good home me most n actor up g
-        | false ↦ record {
-          after = record {
-            safe = IsSafeNode-same home n m refl refl refl refl g.safe;
-            orderly = record { ports = o.ports; state = o.state; recovering = rw up refl; closed = o.closed; stamps = o.stamps; base = o.base; shape = o.shape };
-          };
-          mails = to_peers-mails home me (message.Ask (own_key n.grants).0 (own_key n.grants).1) (peers_of home)
-              (λ to way. node-mail home me to (message.Ask (own_key n.grants).0 (own_key n.grants).1) ⊥ actor tt way refl (λ e. cc)) (peers-are home me actor);
-        }
-      ]
-      | false ↦ record { after = g; mails = tt }
-    ]
+    by-asking home n (IsGoodStep home me most ⊥) (entered-good home me most n actor up g)
+    (record {
+      after = record {
+        safe = IsSafeNode-same home n (record n { grants = with_ask n.grants }) refl refl refl refl g.safe;
+        orderly = record { ports = o.ports; state = o.state; recovering = rw up refl; closed = o.closed; stamps = o.stamps; base = o.base; shape = o.shape };
+      };
+      mails = to_peers-mails home me (message.Ask (own_key n.grants).0 (own_key n.grants).1) (peers_of home)
+          (λ to way. node-mail home me to (message.Ask (own_key n.grants).0 (own_key n.grants).1) ⊥ actor tt way refl (λ e. cc)) (peers-are home me actor);
+    }) (record { after = g; mails = tt })
 
 pub reconciling-recovering : (home : Home) (n : PlainNode) → (ask_step home n).after.recovering ≡ n.recovering
 unfolding enter_step
 reconciling-recovering home n =
-    elim (wants_to_reconcile home n && is_none n.grants.promise) as (λ b. (cond b (cond (list_all is_absent (peer_watches home n)) (enter_step home n)
-    (record { after = record n { grants = with_ask n.grants }; sends = to_each (message.Ask (own_key n.grants).0 (own_key n.grants).1) (peers_of home) })) (idle_step n)).after.recovering ≡ n.recovering) [
-      | true ↦ elim (list_all is_absent (peer_watches home n)) as (λ b. (cond b (enter_step home n)
-          (record { after = record n { grants = with_ask n.grants }; sends = to_each (message.Ask (own_key n.grants).0 (own_key n.grants).1) (peers_of home) })).after.recovering ≡ n.recovering) [
-            | true ↦ refl
-            | false ↦ refl
-          ]
-      | false ↦ refl
-    ]
+    by-asking home n (λ s. s.after.recovering ≡ n.recovering) refl refl refl
 
 pub then-good : (home : Home) (me most more : ℕ) (s : Stepped PlainNode) (f : PlainNode → Stepped PlainNode) → IsGoodStep home me most ⊥ s → IsGoodStep home me more ⊥ (f s.after) → IsGoodStep home me more ⊥ (then_do s f)
 then-good home me most more s f h k = record { after = k.after; mails = mails-append home.plan me ⊥ s.sends (f s.after).sends h.mails k.mails }

@@ -24,7 +24,8 @@ pub fn every_run_is_safe()
 
 /// And it is orderly, with the number of events plus 1 as the limit of its numbers.
 pub fn every_run_is_orderly()
-    ensures { (plan : Plan) (events : List Event) → IsCheckedPlan plan → IsOrderlyWorld (run plan events) (nodes_of plan) (1 + length events) }
+    ensures { (plan : Plan) (events : List Event) → IsCheckedPlan plan →
+        IsOrderlyWorld (run plan events) (nodes_of plan) (1 + length events) }
 {}
 
 /// One event keeps a world safe and orderly, whatever world it is.

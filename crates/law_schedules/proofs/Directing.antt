@@ -35,7 +35,7 @@ pub record IsDirected (script : Script) (p start : ℕ) (old : World) (ws : List
 
 -- ---- one directive
 
-next-is : (y : Progress) (d : Directive) (e : Event) (ds : List Directive) → y.todo ≡ d ∷ ds → event_of y.world d ≡ Some e → same_event e e ≡ true → is_next y e ≡ true
+pub next-is : (y : Progress) (d : Directive) (e : Event) (ds : List Directive) → y.todo ≡ d ∷ ds → event_of y.world d ≡ Some e → same_event e e ≡ true → is_next y e ≡ true
 next-is y d e ds h g k = rw h (found (event_of y.world d) g)
   where
     found : (o : Option Event) → o ≡ Some e → (elim o [ None ↦ false | Some f ↦ same_event f e ]) ≡ true
@@ -88,7 +88,7 @@ directed-next script p start old ws d ds y v h c =
     stand [] e = subst (λ (ts : List (ℕ × ℕ)). AllMet v (ready_at v) ts) (sym e) (targets-met v (node_actors v.plan))
     stand (x ∷ xs) e = e ∙ ap (λ (ts : List (ℕ × ℕ)). targets_left v ts) h.met
 
-two-same : (a b : ℕ) → (a == a && b == b) ≡ true
+pub two-same : (a b : ℕ) → (a == a && b == b) ≡ true
 two-same a b = both-of (a == a) (b == b) (eq-test a a refl) (eq-test b b refl)
 
 -- ---- all

@@ -24,7 +24,7 @@ new-zeroed : (home : Home) → IsZeroed (new_node home)
 unfolding new_node
 new-zeroed home e = refl
 
-slots-zeroed : (plan : Plan) (ns : List (ℕ × ℕ)) (i : ℕ) → IsZeroedAt (node_in (map (λ (n : ℕ × ℕ). record { last_inc = 1; node = Some (new_node (home_of plan n)) }) ns) i)
+pub slots-zeroed : (plan : Plan) (ns : List (ℕ × ℕ)) (i : ℕ) → IsZeroedAt (node_in (map (λ (n : ℕ × ℕ). record { last_inc = 1; node = Some (new_node (home_of plan n)) }) ns) i)
 slots-zeroed plan [] i = tt
 slots-zeroed plan (n ∷ ns) zero = new-zeroed (home_of plan n)
 slots-zeroed plan (n ∷ ns) (suc i) = slots-zeroed plan ns i

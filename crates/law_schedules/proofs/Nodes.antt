@@ -1,11 +1,10 @@
 -- What a node's steps make of its cursor, and of whether it recovers.
-use Rattle.std.proofs.Common.{◌≡◌, ℕ, ◌+◌, ◌≤◌, true, false, not, cond, ◌&&◌, ◌==◌, List, [], ◌∷◌, refl, sym, ◌∙◌, arith, Option, Some, None, is_none}
-use Rattle.dpc_lists.specs.Lists.{nth, list_all}
+use Rattle.std.proofs.Common.{◌≡◌, ℕ, ◌+◌, ◌≤◌, true, false, not, cond, ◌&&◌, ◌==◌, List, [], ◌∷◌, refl, sym, ◌∙◌, arith, Option, Some, None}
+use Rattle.dpc_lists.specs.Lists.{nth}
 use Rattle.dpc_model.specs.Inlets.{same_sess, AfterBatch, take_batch}
-use Rattle.dpc_model.specs.Granting.{own_key, grants, with_promise, may_enter_by, with_ask}
+use Rattle.dpc_model.specs.Granting.{grants, with_promise, may_enter_by}
 use Rattle.dpc_model.specs.Actors.{replicas_of}
 use Rattle.dpc_model.specs.Ports.{no_port, sender_at, on_truncated, all_truncated}
-use Rattle.dpc_model.specs.Replicas.{is_absent}
 use Rattle.dpc_model.specs.declared.tuples.Item.{Item}
 use Rattle.dpc_model.specs.declared.batches.Taken.{Taken}
 use Rattle.dpc_model.specs.declared.batches.Taken.TheVariants.{Used, Old, Broken}
@@ -14,11 +13,12 @@ use Rattle.dpc_model.specs.declared.messages.Subscribe.{Subscribe}
 use Rattle.dpc_model.specs.declared.messages.Beat.{Beat}
 use Rattle.dpc_model.specs.declared.messages.Message.{Message}
 use Rattle.dpc_model.specs.declared.messages.Message.TheVariants as message
-use Rattle.node_model.specs.Mails.{Snap, Packet, Plain, SnapFor, mail, to_each, Stepped}
-use Rattle.dpc_model.specs.NodeStates.{is_up_failure, is_stabilization}
-use Rattle.node_model.specs.Nodes.{Home, streams_of, PlainNode, due_at, wants_to_reconcile}
-use Rattle.node_model.specs.NodeSteps.{idle_step, then_do, on_snap_ask, snapshot_ask_step, announcing_step, peers_of, enter_step, after_loss, after_adoption, with_fresh_start, with_stamps_of, after_taking, on_batch, on_subscribe, with_port, on_truncation, on_upstream_beat, on_peer_beat, on_ack, on_ask, on_grant, on_message, on_snap, on_packet, with_marks_ended, packet_step, replica_number, reader_place, mill_step, after_clock, may_start_afresh, peer_watches, choice_step, ask_step, processing_upto, processing_step, serving_step, rest_of_tick, tick_step}
+use Rattle.node_model.specs.Mails.{Snap, Packet, Plain, SnapFor, mail, Stepped}
+use Rattle.dpc_model.specs.NodeStates.{is_up_failure}
+use Rattle.node_model.specs.Nodes.{Home, streams_of, PlainNode}
+use Rattle.node_model.specs.NodeSteps.{idle_step, then_do, on_snap_ask, snapshot_ask_step, announcing_step, enter_step, after_loss, after_adoption, with_fresh_start, with_stamps_of, after_taking, on_batch, on_subscribe, with_port, on_truncation, on_upstream_beat, on_peer_beat, on_ack, on_ask, on_grant, on_message, on_snap, on_packet, with_marks_ended, packet_step, replica_number, reader_place, mill_step, after_clock, may_start_afresh, choice_step, ask_step, processing_upto, processing_step, serving_step, rest_of_tick, tick_step}
 use Rattle.dpc_lists.proofs.Truths.{both, true-not-false}
+use Rattle.law_safety.proofs.StepCases.{by-asking, by-processing}
 
 -- a node that recovers has no bucket done
 abbrev pub IsZeroed : PlainNode → Type 0
@@ -168,32 +168,14 @@ delivered-calm home a p n = let c = packet-calm home a p (with_marks_ended n) in
 
 reconciling-still : (home : Home) (n : PlainNode) → IsStill n (ask_step home n).after
 reconciling-still home n =
-    elim (wants_to_reconcile home n && is_none n.grants.promise) as (λ b. IsStill n (Stepped.after (cond b (cond (list_all is_absent (peer_watches home n)) (enter_step home n) (record {
-      after = record n { grants = with_ask n.grants };
-      sends = to_each (message.Ask (own_key n.grants).0 (own_key n.grants).1) (peers_of home);
-    })) (idle_step n)))) [
-      | true ↦ elim (list_all is_absent (peer_watches home n)) as (λ b. IsStill n (Stepped.after (cond b (enter_step home n) (record {
-        after = record n { grants = with_ask n.grants };
-        sends = to_each (message.Ask (own_key n.grants).0 (own_key n.grants).1) (peers_of home);
-      })))) [
-        | true ↦ entered-still home n
-        | false ↦ record { same = refl; also = refl; clock = refl }
-      ]
-      | false ↦ itself n
-    ]
+    by-asking home n (λ s. IsStill n s.after) (entered-still home n) (record { same = refl; also = refl; clock = refl }) (itself n)
 
 processed-onward : (home : Home) (last : ℕ) (n : PlainNode) → IsOnward n (processing_upto home last n).after
 processed-onward home last n = record { grown = omega arith; also = refl; clock = refl }
 
 processing-onward : (home : Home) (n : PlainNode) → IsOnward n (processing_step home n).after
 processing-onward home n =
-    elim (is_stabilization n.state) as (λ b. IsOnward n (Stepped.after (cond b (idle_step n) (elim (due_at home n n.clock) [ None ↦ idle_step n | Some last ↦ processing_upto home last n ])))) [
-      | true ↦ record { grown = omega arith; also = refl; clock = refl }
-      | false ↦ elim (due_at home n n.clock) as (λ o. IsOnward n (Stepped.after (elim o [ None ↦ idle_step n | Some last ↦ processing_upto home last n ]))) [
-        | None ↦ record { grown = omega arith; also = refl; clock = refl }
-        | Some last ↦ processed-onward home last n
-      ]
-    ]
+    by-processing home n (λ s. IsOnward n s.after) (record { grown = omega arith; also = refl; clock = refl }) (λ last e due. processed-onward home last n)
 
 serving-onward : (home : Home) (n : PlainNode) → IsOnward n (serving_step home n).after
 serving-onward home n =

@@ -12,10 +12,10 @@ use Rattle.dpc_model.specs.declared.scripts.Directive.{Directive}
 use Rattle.dpc_model.specs.declared.scripts.Script.{Script}
 use Rattle.node_model.specs.Nodes.{PlainNode}
 use Rattle.world_model.specs.Worlds.{World, node_at, ready_at, is_up}
-use Rattle.world_model.specs.Schedules.{Undelivered, Progress, Told, tell_all, tell_directive, tell_phase, phase_events, mill_events, deliveries_of, next_progress, may_come, all_ticked, all_delivered, all_milled, phase_left, phase_of, pending_in, actors_of}
+use Rattle.world_model.specs.Schedules.{Undelivered, Progress, Told, tell_all, tell_directive, tell_phase, phase_events, mill_events, deliveries_of, next_progress, may_come, all_ticked, all_delivered, all_milled, is_phase_complete, phase_left, phase_of, pending_in, actors_of}
 use Rattle.dpc_lists.proofs.Truths.{both-of, le-test, lt-of, not-lt, or-right}
 use Rattle.law_schedules.proofs.Stages.{at, Follows, Reached, reached, reached-then}
-use Rattle.law_schedules.proofs.Calm.{like-itself}
+use Rattle.law_schedules.proofs.Calm.{IsLike, like-itself}
 use Rattle.law_schedules.proofs.Targets.{Meets, AllMet}
 use Rattle.law_schedules.proofs.Waits.{fresh_from, blocked-done, fresh-done, blocked-pending}
 use Rattle.law_schedules.proofs.Doing.{IsGoing, IsMilledUpto, mills-all, tell-append}
@@ -52,21 +52,27 @@ range-all : (test : ℕ → Bool) (k n : ℕ) → ((b : ℕ) → b < k + n → t
 range-all test k zero h = refl
 range-all test k (suc n) h = both-of (test k) _ (h k (omega arith)) (range-all test (k + 1) n (λ b less. h b (omega (arith, less))))
 
+-- all that are up have ticked
+pub all-tick : (base : World) (y : Progress) → IsLike base y.world → ((b : ℕ) → b < 0 + length (roles_of base.plan) → (not (is_up base b) || has y.ticked b) ≡ true) → all_ticked y ≡ true
+all-tick base y like done =
+    subst (λ (plan : Plan). list_all (λ a. not (is_up y.world a) || has y.ticked a) (actors_of plan) ≡ true) (sym like.plan)
+    (range-all (λ a. not (is_up y.world a) || has y.ticked a) 0 (length (roles_of base.plan)) (λ b less. ap (λ (up : Bool). not up || has y.ticked b) (like.up b) ∙ done b less))
+
+pub is-complete : (y : Progress) → y.todo ≡ [] → all_ticked y ≡ true → all_delivered y ≡ true → AllMet y.world (λ _. 0) y.targets → is_phase_complete y ≡ true
+is-complete y todo ticks delivers met =
+    let done : is_nil y.todo ≡ true = ap (λ (ds : List Directive). is_nil ds) todo in
+    or-right (y.phase == 0) (is_nil y.todo && all_ticked y && all_delivered y && all_milled y)
+    (both-of (is_nil y.todo && all_ticked y && all_delivered y) (all_milled y) (both-of (is_nil y.todo && all_ticked y) (all_delivered y) (both-of (is_nil y.todo) (all_ticked y) done ticks) delivers) (met-milled y.world y.targets met))
+
 phase-closed : (script : Script) (p start : ℕ) (base : World) (y : Progress) → IsTicking script p start base (0 + length (roles_of base.plan)) y → IsBetween script (p + 1) start y
 phase-closed script p start base y t =
     let d = t.going.doing in
-    let ticks : all_ticked y ≡ true =
-    subst (λ (plan : Plan). list_all (λ a. not (is_up y.world a) || has y.ticked a) (actors_of plan) ≡ true) (sym d.like.plan)
-    (range-all (λ a. not (is_up y.world a) || has y.ticked a) 0 (length (roles_of base.plan)) (λ b less. ap (λ (up : Bool). not up || has y.ticked b) (d.like.up b) ∙ t.done b less)) in
     let delivers : all_delivered y ≡ true =
     subst (λ (ws : List Undelivered). list_all (λ (x : Undelivered). not x.pending || not (may_come y.world (slice_get y.world.envelopes x.number))) ws ≡ true) (sym d.waiting)
     (blocked-done y.world start t.others (fresh_from start (length y.world.envelopes - start)) t.blocked (fresh-done y.world start (length y.world.envelopes - start))) in
-    let mills : all_milled y ≡ true = met-milled y.world y.targets t.going.met in
-    let done : is_nil y.todo ≡ true = ap (λ (ds : List Directive). is_nil ds) d.todo in
     record {
       phase = ap (λ (i : ℕ). i + 1) d.phase;
-      complete = or-right (y.phase == 0) (is_nil y.todo && all_ticked y && all_delivered y && all_milled y)
-          (both-of (is_nil y.todo && all_ticked y && all_delivered y) (all_milled y) (both-of (is_nil y.todo && all_ticked y) (all_delivered y) (both-of (is_nil y.todo) (all_ticked y) done ticks) delivers) mills);
+      complete = is-complete y d.todo (all-tick base y d.like t.done) delivers t.going.met;
       others = t.others;
       gone = blocked-pending y.world start t.others t.blocked;
       grown = d.grown;

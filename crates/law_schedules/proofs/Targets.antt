@@ -8,12 +8,14 @@ use Rattle.dpc_model.specs.Ports.{Port, held_at}
 use Rattle.dpc_model.specs.Reading.{Reader}
 use Rattle.dpc_model.specs.declared.messages.Event.TheVariants.{Mill}
 use Rattle.dpc_model.specs.declared.plans.Plan.{Plan}
+use Rattle.node_model.specs.Mails.{Stepped}
 use Rattle.node_model.specs.Nodes.{Home, PlainNode, complete_upto, ready}
 use Rattle.node_model.specs.NodeSteps.{mill_step}
 use Rattle.world_model.specs.Worlds.{World, Slot, home_of, node_place, slot_of, node_role, node_at, node_stepped, node_mills, mills, ready_in, ready_role, ready_at, happens}
 use Rattle.world_model.specs.Schedules.{target_of, is_recovering, targets_left, may_mill}
 use Rattle.dpc_lists.proofs.Truths.{both, le-of, eq-of, eq-test, true-not-false}
-use Rattle.dpc_model.proofs.Roles.{node-past}
+use Rattle.dpc_lists.proofs.Elements.{get-changed}
+use Rattle.law_safety.proofs.Numbering.{same-actor}
 use Rattle.law_schedules.proofs.Nodes.{IsMilled, milled-moves}
 use Rattle.law_schedules.proofs.Calm.{no_slot, node_in, IsZeroedAt, AreZeroed, IsCalmAt, IsCalm, mill-calm}
 
@@ -77,17 +79,23 @@ calm-meets w v z c b goal up h = by-nodes (node_at w b) (node_at v b) (calm-at w
 
 -- ---- places
 
-changed-here : (k : ℕ) (f : Slot → Slot) (xs : List Slot) (x : Slot) → slice_get xs k ≡ Some x → nth no_slot (changed k f xs) k ≡ f x
-changed-here k f [] x e = cc
-changed-here zero f (y ∷ xs) x e = let same : y ≡ x = cc in ap f same
-changed-here (suc k) f (y ∷ xs) x e = changed-here k f xs x e
-
 changed-apart : (k i : ℕ) (f : Slot → Slot) (xs : List Slot) → (k ≡ i → ⊥) → nth no_slot (changed k f xs) i ≡ nth no_slot xs i
 changed-apart k i f [] h = refl
 changed-apart zero zero f (x ∷ xs) h = absurd (h refl)
 changed-apart zero (suc i) f (x ∷ xs) h = refl
 changed-apart (suc k) zero f (x ∷ xs) h = refl
 changed-apart (suc k) (suc i) f (x ∷ xs) h = changed-apart k i f xs (λ e. h (ap suc e))
+
+-- a step of one node: its own slot and the others
+pub stepped-here : (w : World) (a : ℕ) (n : PlainNode) (s : Stepped PlainNode) → (slot_of w a).node ≡ Some n → (slot_of (node_stepped a s w) a).node ≡ Some s.after
+stepped-here w a n s up = by-slot (slice_get w.nodes (node_place w.plan a)) refl
+  where
+    by-slot : (o : Option Slot) → slice_get w.nodes (node_place w.plan a) ≡ o → (slot_of (node_stepped a s w) a).node ≡ Some s.after
+    by-slot None e = let none = sym (ap (λ (o : Option Slot). Slot.node (unwrap_or o no_slot)) e) ∙ up in cc
+    by-slot (Some x) e = ap (λ (o : Option Slot). Slot.node (unwrap_or o no_slot)) (get-changed (node_place w.plan a) (λ (slot : Slot). record slot { node = Some s.after }) w.nodes x e)
+
+pub stepped-apart : (w : World) (a b : ℕ) (s : Stepped PlainNode) → (node_place w.plan a ≡ node_place w.plan b → ⊥) → slot_of (node_stepped a s w) b ≡ slot_of w b
+stepped-apart w a b s h = changed-apart (node_place w.plan a) (node_place w.plan b) (λ (slot : Slot). record slot { node = Some s.after }) w.nodes h
 
 -- ---- milling
 
@@ -131,14 +139,10 @@ stepped-at w a f q r n role up calm = record { calm = calm; own = own; others = 
     v = node_stepped a (mill_step home r n) w
 
     here : (slot_of v a).node ≡ Some m
-    here = by-get (slice_get w.nodes (node_place w.plan a)) refl
-      where
-        by-get : (o : Option Slot) → slice_get w.nodes (node_place w.plan a) ≡ o → (slot_of v a).node ≡ Some m
-        by-get None e = let none = sym (ap (λ (o : Option Slot). Slot.node (unwrap_or o no_slot)) e) ∙ up in cc
-        by-get (Some x) e = ap (λ (s : Slot). s.node) (changed-here (node_place w.plan a) (λ (slot : Slot). record slot { node = Some m }) w.nodes x e)
+    here = stepped-here w a n (mill_step home r n) up
 
     apart : (b : ℕ) → (node_place w.plan a ≡ node_place w.plan b → ⊥) → slot_of v b ≡ slot_of w b
-    apart b h = changed-apart (node_place w.plan a) (node_place w.plan b) (λ (slot : Slot). record slot { node = Some m }) w.nodes h
+    apart b h = stepped-apart w a b (mill_step home r n) h
 
     own : ready_at v a ≡ ready_at w a - r
     own = rw (role, here, up) (milled-ready home r n m (milled-moves home r n))
@@ -148,10 +152,7 @@ stepped-at w a f q r n role up calm = record { calm = calm; own = own; others = 
       where
         by-role : (x : Role) → role_of w.plan b ≡ x → ready_role v b x ≡ ready_role w b x
         by-role (IsSource s) e = refl
-        by-role (IsNode g p) e =
-            let low = node-past w.plan a f q role in
-            let also = node-past w.plan b g p e in
-            ap (λ (s : Slot). ready_in (home_of w.plan (g, p)) s.node) (apart b (λ same. h (omega (arith, low, also, same))))
+        by-role (IsNode g p) e = ap (λ (s : Slot). ready_in (home_of w.plan (g, p)) s.node) (apart b (λ same. h (same-actor w.plan b a g p f q e role (sym same))))
         by-role (IsClient c) e = refl
         by-role Nobody e = refl
 

@@ -24,8 +24,10 @@ pub fn live_journals_grow()
     ensures none { (script : Script) → is_live_so_far script [] ≡ true }
     ensures so_far { (script : Script) (es : List Event) → is_live script es ≡ true → is_live_so_far script es ≡ true }
     ensures prefix { (script : Script) (es fs : List Event) → is_live_so_far script (es ++ fs) ≡ true → is_live_so_far script es ≡ true }
-    ensures each { (script : Script) (es : List Event) (e : Event) (fs : List Event) → is_live_so_far script (es ++ e ∷ fs) ≡ true → may script es e ≡ true }
-    ensures more { (script : Script) (es : List Event) (e : Event) → is_live_so_far script es ≡ true → may script es e ≡ true → is_live_so_far script (es ++ e ∷ []) ≡ true }
+    ensures each { (script : Script) (es : List Event) (e : Event) (fs : List Event) →
+        is_live_so_far script (es ++ e ∷ fs) ≡ true → may script es e ≡ true }
+    ensures more { (script : Script) (es : List Event) (e : Event) →
+        is_live_so_far script es ≡ true → may script es e ≡ true → is_live_so_far script (es ++ e ∷ []) ≡ true }
     ensures world { (script : Script) (es : List Event) → (progress script es).world ≡ run script.plan es }
 {}
 
@@ -39,19 +41,24 @@ pub fn live_phases_are_few()
 pub fn live_journals_end()
     ensures complete { (script : Script) (es : List Event) → is_live script es ≡ true → is_phase_complete (progress script es) ≡ true }
     ensures whole { (script : Script) (es : List Event) → is_live script es ≡ true →
-        (length script.phases ≤ phases_in es) × (script.settle ≡ true → (all_settled (run script.plan es) ≡ true) ⊎ (phases_in es ≡ length script.phases + quiet_limit script.plan)) }
+        (length script.phases ≤ phases_in es) × (script.settle ≡ true →
+        (all_settled (run script.plan es) ≡ true) ⊎ (phases_in es ≡ length script.phases + quiet_limit script.plan)) }
 {}
 
 /// A tick has its phase's clock. Where a script's clocks don't fall, those of its phases don't, the quiet ones included, and none passes the script's last clock by more than the number of quiet phases up to it.
 pub fn live_clocks_are_the_phases()
-    ensures tick { (script : Script) (es : List Event) (a now : ℕ) → is_live_so_far script es ≡ true → may script es (Tick a now) ≡ true → now ≡ (phase_of script (phases_in es)).now }
-    ensures rises { (script : Script) (p : ℕ) → are_rising 0 script.phases ≡ true → (phase_of script p).now ≤ (phase_of script (p + 1)).now }
-    ensures within { (script : Script) (p : ℕ) → are_rising 0 script.phases ≡ true → (phase_of script p).now ≤ last_clock script + (p - length script.phases) }
+    ensures tick { (script : Script) (es : List Event) (a now : ℕ) →
+        is_live_so_far script es ≡ true → may script es (Tick a now) ≡ true → now ≡ (phase_of script (phases_in es)).now }
+    ensures rises { (script : Script) (p : ℕ) → are_rising 0 script.phases ≡ true →
+        (phase_of script p).now ≤ (phase_of script (p + 1)).now }
+    ensures within { (script : Script) (p : ℕ) → are_rising 0 script.phases ≡ true →
+        (phase_of script p).now ≤ last_clock script + (p - length script.phases) }
 {}
 
 /// A delivery or milling that may come next is not void. Nor is a tick, where the script's clocks don't fall and stay in range through all phases that may come.
 pub fn live_events_are_not_void()
     ensures delivers { (script : Script) (es : List Event) (k : ℕ) → may script es (Deliver k) ≡ true → Comes (run script.plan es) k }
     ensures mills { (script : Script) (es : List Event) (a r : ℕ) → may script es (Mill a r) ≡ true → Mills (run script.plan es) a r }
-    ensures ticks { (script : Script) (es : List Event) (a now : ℕ) → IsClocked script → is_live_so_far script es ≡ true → may script es (Tick a now) ≡ true → Ticks (run script.plan es) a now }
+    ensures ticks { (script : Script) (es : List Event) (a now : ℕ) → IsClocked script →
+        is_live_so_far script es ≡ true → may script es (Tick a now) ≡ true → Ticks (run script.plan es) a now }
 {}

@@ -5,6 +5,7 @@ use Rattle.dpc_model.specs.Inlets.{same_sess}
 use Rattle.dpc_model.specs.declared.messages.Event.{Event}
 use Rattle.dpc_model.specs.declared.messages.Event.TheVariants.{Deliver}
 use Rattle.dpc_model.specs.declared.messages.Message.TheVariants as message
+use Rattle.dpc_model.specs.declared.messages.Sess.{Sess}
 use Rattle.dpc_model.specs.declared.messages.Subscribe.{Subscribe}
 use Rattle.node_model.specs.Mails.{Packet, Plain, SnapFor}
 use Rattle.world_model.specs.Worlds.{World, Envelope, happens}
@@ -67,16 +68,22 @@ first-there l (x ∷ es) e =
 abbrev pub Brings : Channel → World → Event → Type 0
 Brings l w e = (asked : Subscribe) × (brings l w e ≡ Some asked)
 
+-- the packet of a subscription to the session
+pub sub-of : (u : Sess) (packet : Packet) → subscribes_packet u packet ≡ true → (asked : Subscribe) × (packet ≡ Plain (message.Subscribe asked)) × (same_sess asked.sess u ≡ true)
+sub-of u (Plain (message.Subscribe asked)) h = (asked, refl, h)
+sub-of u (Plain (message.Batch v index items)) h = cc
+sub-of u (Plain (message.Truncated v base)) h = cc
+sub-of u (Plain (message.Beat b)) h = cc
+sub-of u (Plain (message.Ack i n)) h = cc
+sub-of u (Plain (message.Ask i n)) h = cc
+sub-of u (Plain (message.Grant i n)) h = cc
+sub-of u (Plain (message.SnapAsk i n)) h = cc
+sub-of u (SnapFor i try snap) h = cc
+
 packet-brings : (l : Channel) (p : Packet) → subscribes_packet l.sess p ≡ true → (asked : Subscribe) × (packet_asks l p ≡ Some asked)
-packet-brings l (Plain (message.Subscribe asked)) e = (asked, rw e refl)
-packet-brings l (Plain (message.Batch u index items)) e = cc
-packet-brings l (Plain (message.Truncated u base)) e = cc
-packet-brings l (Plain (message.Beat b)) e = cc
-packet-brings l (Plain (message.Ack i n)) e = cc
-packet-brings l (Plain (message.Ask i n)) e = cc
-packet-brings l (Plain (message.Grant i n)) e = cc
-packet-brings l (Plain (message.SnapAsk i n)) e = cc
-packet-brings l (SnapFor i try s) e = cc
+packet-brings l p e =
+    let s = sub-of l.sess p e in
+    let here : packet_asks l (Plain (message.Subscribe s.0)) ≡ Some s.0 = rw s.2 refl in (s.0, ap (λ (q : Packet). packet_asks l q) s.1 ∙ here)
 
 pub delivery-brings : (l : Channel) (w : World) (k : ℕ) (e : Envelope) → slice_get w.envelopes k ≡ Some e → (e.sender == l.reader) ≡ true → (e.to == l.sender) ≡ true → subscribes_packet l.sess e.packet ≡ true → Brings l w (Deliver k)
 delivery-brings l w k e there from to packet =

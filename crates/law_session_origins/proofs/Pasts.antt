@@ -1,15 +1,14 @@
 -- No step of an actor sends a subscription to session (1, 1): its ports' sessions are it or past it.
 use Rattle.std.proofs.Common.{◌≡◌, ℕ, suc, ◌+◌, ◌-◌, Bool, true, false, cond, not, ◌&&◌, ◌==◌, nat_lt, max, min, List, [], ◌∷◌, ◌++◌, map, length, refl, ap, ◌∙◌, arith, Option, Some, None, slice_get, inl, inr}
-use Rattle.std.specs.Prelude.{is_none, zip}
+use Rattle.std.specs.Prelude.{zip}
 use Rattle.std.proofs.lemmas.Grind.{common_steps}
 use Rattle.dpc_lists.specs.Lists.{nth, list_all}
 use Rattle.dpc_model.specs.Inlets.{same_sess, sess_of, new_inlet, restarted_inlet, with_next_session, asked_by}
 use Rattle.dpc_model.specs.Reading.{stable_reader}
-use Rattle.dpc_model.specs.Replicas.{is_absent}
 use Rattle.dpc_model.specs.Granting.{own_key, with_ask, may_enter_by, grants, with_promise}
 use Rattle.dpc_model.specs.Actors.{replicas_of, senders_of}
 use Rattle.dpc_model.specs.Ports.{Port, port_at, choice_at, must_reopen, subscriptions, acks_to, without_ended_marks, port_after_tick}
-use Rattle.dpc_model.specs.Sessions.{Shown, Answered, answer_to, is_newer_than_kept, first_batch, given_items, tally_of}
+use Rattle.dpc_model.specs.Sessions.{Shown, answer_to, given_items, tally_of}
 use Rattle.dpc_model.specs.declared.sessions.Sub.{Sub}
 use Rattle.dpc_model.specs.declared.tuples.Item.{Item}
 use Rattle.dpc_model.specs.declared.tuples.Item.TheVariants as item
@@ -20,14 +19,15 @@ use Rattle.dpc_model.specs.declared.messages.Message.{Message}
 use Rattle.dpc_model.specs.declared.messages.Message.TheVariants as message
 use Rattle.dpc_model.specs.declared.plans.Plan.{Plan}
 use Rattle.dpc_model.specs.declared.plans.StreamRef.{StreamRef}
-use Rattle.node_model.specs.Mails.{Packet, Plain, SnapFor, Mail, mail, mails, in_actor_order, to_each, Stepped}
+use Rattle.node_model.specs.Mails.{Packet, Plain, SnapFor, Mail, mail, mails, in_actor_order, Stepped}
 use Rattle.dpc_model.specs.NodeStates.{is_up_failure, is_stabilization}
-use Rattle.node_model.specs.Nodes.{Home, PlainNode, streams_of, own_readers, node_frontier, out_stable, shown, complete_buckets, ready, due_at, wants_to_reconcile, new_node, restarted_node}
-use Rattle.node_model.specs.NodeSteps.{idle_step, then_do, peers_of, peer_watches, replica_number, give, given_by, given_stable, enter_step, on_subscribe, on_ask, on_snap_ask, reader_place, on_message, on_packet, with_marks_ended, packet_step, after_stable_buckets, after_last_correction, mill_step, after_clock, may_start_afresh, choice_step, ask_step, with_closed, with_failure, processing_upto, processing_step, acks_from, beats, announcing_step, serving_step, snapshot_ask_step, rest_of_tick, with_fresh_start, tick_step}
+use Rattle.node_model.specs.Nodes.{Home, PlainNode, streams_of, own_readers, node_frontier, out_stable, shown, complete_buckets, ready, new_node, restarted_node}
+use Rattle.node_model.specs.NodeSteps.{idle_step, then_do, peers_of, replica_number, give, given_by, given_stable, enter_step, on_subscribe, on_ask, on_snap_ask, reader_place, on_message, on_packet, with_marks_ended, packet_step, after_stable_buckets, after_last_correction, mill_step, after_clock, may_start_afresh, choice_step, ask_step, with_closed, with_failure, processing_upto, processing_step, acks_from, beats, announcing_step, serving_step, snapshot_ask_step, rest_of_tick, with_fresh_start, tick_step}
 use Rattle.node_model.specs.Sources.{SourceState, source_readers, source_shown, source_given, source_gives, source_emits, source_releases, source_subscribed, source_packet_step, source_beat, source_tick_step, bound_at}
 use Rattle.node_model.specs.Clients.{ClientState, client_stream, client_tick_step}
 use Rattle.dpc_lists.proofs.Truths.{both, both-of}
 use Rattle.law_safety.proofs.Numbering.{all-at}
+use Rattle.law_safety.proofs.StepCases.{by-asking, by-processing, by-answer}
 use Rattle.dpc_lists.proofs.Each.{Each, each-append}
 use Rattle.law_granting.specs.Taken.{subscribes_packet}
 use Rattle.law_granting.proofs.Each.{each-sorted, each-to, each-batches, each-acks, each-beats}
@@ -110,18 +110,7 @@ subscriptions-later plan (p ∷ ports) (s ∷ ss) h =
 
 answer-later : (x : Shown) (sub : Sub) (asked : Subscribe) (to : ℕ) → Each IsLater (elim (answer_to x sub asked).answer [ None ↦ [] | Some m ↦ mail to m ∷ [] ])
 answer-later x sub asked to =
-    elim (not (is_newer_than_kept asked.sess sub.kept)) as (λ b. Each IsLater (elim (cond {A = Answered} b (record { after = sub; answer = None })
-    (cond {A = Answered} (nat_lt asked.n x.base)
-    (record { after = record { kept = Some asked.sess; is_open = false; batches = 0 }; answer = Some (message.Truncated asked.sess x.base) })
-    (record { after = record { kept = Some asked.sess; is_open = true; batches = 1 }; answer = Some (message.Batch asked.sess 0 (first_batch x asked)) }))).answer [ None ↦ [] | Some m ↦ mail to m ∷ [] ])) [
-      | true ↦ tt
-      | false ↦ elim (nat_lt asked.n x.base) as (λ b. Each IsLater (elim (cond {A = Answered} b
-          (record { after = record { kept = Some asked.sess; is_open = false; batches = 0 }; answer = Some (message.Truncated asked.sess x.base) })
-          (record { after = record { kept = Some asked.sess; is_open = true; batches = 1 }; answer = Some (message.Batch asked.sess 0 (first_batch x asked)) })).answer [ None ↦ [] | Some m ↦ mail to m ∷ [] ])) [
-            | true ↦ (refl, tt)
-            | false ↦ (refl, tt)
-          ]
-    ]
+    by-answer x sub asked to (Each IsLater) tt (refl, tt) (refl, tt)
 
 -- ---- a node
 
@@ -175,13 +164,7 @@ milled-later home r n =
 
 processing-later : (home : Home) (n : PlainNode) → SendsLater (processing_step home n)
 processing-later home n =
-    elim (is_stabilization n.state) as (λ b. SendsLater (cond b (idle_step n) (elim (due_at home n n.clock) [ None ↦ idle_step n | Some last ↦ processing_upto home last n ]))) [
-      | true ↦ tt
-      | false ↦ elim (due_at home n n.clock) as (λ o. SendsLater (elim o [ None ↦ idle_step n | Some last ↦ processing_upto home last n ])) [
-        | None ↦ tt
-        | Some last ↦ processed last
-      ]
-    ]
+    by-processing home n SendsLater tt (λ last e due. processed last)
   where
     processed : (last : ℕ) → SendsLater (processing_upto home last n)
     processed last =
@@ -192,14 +175,7 @@ processing-later home n =
 
 reconciling-later : (home : Home) (n : PlainNode) → SendsLater (ask_step home n)
 reconciling-later home n =
-    let asks : Stepped PlainNode = record { after = record n { grants = with_ask n.grants }; sends = to_each (message.Ask (own_key n.grants).0 (own_key n.grants).1) (peers_of home) } in
-    elim (wants_to_reconcile home n && is_none n.grants.promise) as (λ b. SendsLater (cond b (cond (list_all is_absent (peer_watches home n)) (enter_step home n) asks) (idle_step n))) [
-      | true ↦ elim (list_all is_absent (peer_watches home n)) as (λ b. SendsLater (cond b (enter_step home n) asks)) [
-        | true ↦ entered-later home n
-        | false ↦ each-to IsLater (message.Ask (own_key n.grants).0 (own_key n.grants).1) (peers_of home) (λ to. refl)
-      ]
-      | false ↦ tt
-    ]
+    by-asking home n SendsLater (entered-later home n) (each-to IsLater (message.Ask (own_key n.grants).0 (own_key n.grants).1) (peers_of home) (λ to. refl)) tt
 
 announcing-later : (home : Home) (n : PlainNode) → SendsLater (announcing_step home n)
 announcing-later home n =

@@ -1,10 +1,9 @@
 -- What each step of a node leaves of its readers' sessions.
 use Rattle.std.proofs.Common.{◌≡◌, ℕ, suc, ◌+◌, ◌-◌, ◌*◌, ◌≤◌, true, false, cond, not, ◌&&◌, ◌==◌, nat_lt, List, [], ◌∷◌, ◌++◌, map, length, refl, sym, ap, subst, ◌∙◌, arith, Some, None, slice_get, ◌⊎◌, inl, inr}
-use Rattle.std.specs.Prelude.{zip, is_none}
+use Rattle.std.specs.Prelude.{zip}
 use Rattle.dpc_lists.specs.Lists.{nth, list_all}
 use Rattle.dpc_model.specs.Fragments.{serial, fragment_value, ideal_upto}
 use Rattle.dpc_model.specs.Operators.{all_of}
-use Rattle.dpc_model.specs.Replicas.{is_absent}
 use Rattle.dpc_model.specs.Granting.{with_ask, own_key}
 use Rattle.dpc_model.specs.Ports.{Port, must_reopen, choice_at, subscriptions, acks_to}
 use Rattle.dpc_model.specs.Inlets.{with_next_session, asked_by}
@@ -23,8 +22,8 @@ use Rattle.dpc_model.specs.declared.plans.StreamRef.{StreamRef}
 use Rattle.dpc_model.specs.declared.plans.StreamRef.TheVariants.{Frag}
 use Rattle.node_model.specs.Mails.{Mail, mail, mails, in_actor_order, to_each, Stepped}
 use Rattle.dpc_model.specs.NodeStates.{is_stabilization}
-use Rattle.node_model.specs.Nodes.{Home, PlainNode, spec_of, streams_of, own_readers, inputs_done, node_frontier, out_stable, out_with_closed, out_tentative, shown, ready, complete_upto, due_at, wants_to_reconcile, buckets_of}
-use Rattle.node_model.specs.NodeSteps.{idle_step, then_do, give, given_by, given_stable, enter_step, after_stable_buckets, with_closed, with_failure, stably, processing_upto, processing_step, after_last_correction, mill_step, peers_of, peer_watches, after_clock, may_start_afresh, choice_step, ask_step, done_at, acks_from, beat_of, beats, announcing_step, serving_step, snapshot_ask_step, rest_of_tick, with_fresh_start, with_marks_ended, tick_step}
+use Rattle.node_model.specs.Nodes.{Home, PlainNode, spec_of, streams_of, own_readers, inputs_done, node_frontier, out_stable, out_with_closed, out_tentative, shown, ready, complete_upto, buckets_of}
+use Rattle.node_model.specs.NodeSteps.{idle_step, then_do, give, given_by, given_stable, enter_step, after_stable_buckets, with_closed, with_failure, stably, processing_upto, processing_step, after_last_correction, mill_step, peers_of, after_clock, may_start_afresh, choice_step, ask_step, done_at, acks_from, beat_of, beats, announcing_step, serving_step, snapshot_ask_step, rest_of_tick, with_fresh_start, with_marks_ended, tick_step}
 use Rattle.law_safety.proofs.Outputs.{inputs-held}
 use Rattle.law_safety.specs.Plans.{IsPlace}
 use Rattle.dpc_lists.proofs.Truths.{all-append, all-sort, all-map, not-of}
@@ -33,15 +32,14 @@ use Rattle.law_safety.proofs.Emptied.{shape-of, is_shut, emptied-of, later-good}
 use Rattle.law_safety.proofs.Starting.{fresh-good}
 use Rattle.law_safety.proofs.Numbering.{all-at}
 use Rattle.law_safety.proofs.Mailing.{IsActor}
-use Rattle.law_safety.proofs.SoundPorts.{node-columns}
-use Rattle.law_safety.proofs.Processing.{stably-open, stably-complete, cursor-complete, processed-orderly, processed-safe}
 use Rattle.law_safety.proofs.Dues.{due-range}
-use Rattle.law_safety.proofs.Giving.{advanced-good, reconciled-good}
+use Rattle.law_safety.proofs.Giving.{advanced-good, processed-good, reconciled-good}
 use Rattle.law_safety.proofs.Ticked.{choosing-good, reconciling-good, reconciling-recovering}
 use Rattle.law_safety.proofs.Delivered.{recovers-or}
 use Rattle.law_safety.proofs.Views.{given-law, undo-law}
 use Rattle.law_safety.proofs.NodeViews.{clear-shown, shown-subs, processed-step, milled-step}
 use Rattle.law_safety.proofs.Histories.{AreDistinct, Carries}
+use Rattle.law_safety.proofs.StepCases.{by-asking, by-processing}
 use Rattle.law_sessions.proofs.Keeping.{Keeps, SameShown, is_bare, keeps-then, keeps-same, keeps-shut, keeps-gave, mapped}
 
 -- a step of a node leaves what is held
@@ -159,23 +157,15 @@ processed_upto-goes home a most last n place server g up calm low high =
     let r = stably home n count in
     let m = with_closed home (count - r) (after_stable_buckets home r n) in
     let new = with_failure m in
-    let good : IsGood home most new = record {
-      safe = processed-safe home r (count - r) n place g.safe up (stably-complete home n count (cursor-complete home n place g.safe up));
-      orderly = processed-orderly home most r (count - r) n (node-columns home most n place.checked g.safe g.orderly) g.orderly up calm (stably-open home n count) (omega arith);
-    } in
+    let good : IsGood home most new = processed-good home most last n place g up calm low high in
     let step = processed-step home most last n place up g good in
     give-goes home a (given_items (length (out_stable home n)) (given_by home n new (nat_lt 0 r) (nat_lt r count))) n new server (with_failure-subs m)
     (λ asked before law. given-law home.plan (Frag home.frag) asked (shown home n) (shown home new) (given_by home n new (nat_lt 0 r) (nat_lt r count)) before step law)
 
 processing-goes : (home : Home) (a most : ℕ) (n : PlainNode) → IsPlace home → IsServer home n → IsGood home most n → n.recovering ≡ false → Goes home a n (processing_step home n)
 processing-goes home a most n place server g up =
-    (elim (is_stabilization n.state) as (λ b. is_stabilization n.state ≡ b → Goes home a n (cond b (idle_step n) (elim (due_at home n n.clock) [ None ↦ idle_step n | Some last ↦ processing_upto home last n ]))) [
-      | true ↦ λ e. silent-goes home a n [] refl
-      | false ↦ λ e. (elim (due_at home n n.clock) as (λ o. due_at home n n.clock ≡ o → Goes home a n (elim o [ None ↦ idle_step n | Some last ↦ processing_upto home last n ])) [
-        | None ↦ λ f. silent-goes home a n [] refl
-        | Some last ↦ λ f. let range = due-range home n n.clock last f in processed_upto-goes home a most last n place server g up e range.0 range.1
-      ]) refl
-    ]) refl
+    by-processing home n (Goes home a n) (silent-goes home a n [] refl)
+    (λ last e due. let range = due-range home n n.clock last due in processed_upto-goes home a most last n place server g up e range.0 range.1)
 
 -- milling
 pub milled-goes : (home : Home) (a most r : ℕ) (n : PlainNode) → IsPlace home → IsServer home n → n.recovering ≡ false → n.closed ≡ [] → n.cursor + r ≤ complete_upto home n → IsGood home most n → Goes home a n (mill_step home r n)
@@ -233,14 +223,9 @@ reconciling-goes : (home : Home) (a most : ℕ) (n : PlainNode) → IsActor home
 reconciling-goes home a most n actor server up g =
     let m = record n { grants = with_ask n.grants } in
     let asks = to_each (message.Ask (own_key n.grants).0 (own_key n.grants).1) (peers_of home) in
-    (elim (wants_to_reconcile home n && is_none n.grants.promise) as (λ b. IsGood home most (cond b (cond (list_all is_absent (peer_watches home n)) (enter_step home n) (record { after = m; sends = asks })) (idle_step n)).after →
-    Goes home a n (cond b (cond (list_all is_absent (peer_watches home n)) (enter_step home n) (record { after = m; sends = asks })) (idle_step n))) [
-      | true ↦ elim (list_all is_absent (peer_watches home n)) as (λ b. IsGood home most (cond b (enter_step home n) (record { after = m; sends = asks })).after → Goes home a n (cond b (enter_step home n) (record { after = m; sends = asks }))) [
-        | true ↦ λ k. entered-goes home a n server
-        | false ↦ λ k. rest-goes home a most most n m asks actor.place g k (record { recovering = refl; cursor = refl; closed = refl; subs = refl }) (each-bare (message.Ask (own_key n.grants).0 (own_key n.grants).1) (peers_of home) (λ b. refl))
-      ]
-      | false ↦ λ k. silent-goes home a n [] refl
-    ]) (reconciling-good home a most n actor up g).after
+    by-asking home n (λ s. IsGood home most s.after → Goes home a n s) (λ k. entered-goes home a n server)
+    (λ k. rest-goes home a most most n m asks actor.place g k (record { recovering = refl; cursor = refl; closed = refl; subs = refl }) (each-bare (message.Ask (own_key n.grants).0 (own_key n.grants).1) (peers_of home) (λ b. refl)))
+    (λ k. silent-goes home a n [] refl) (reconciling-good home a most n actor up g).after
 
 pub announcing-bare : (home : Home) (n : PlainNode) → list_all is_bare (announcing_step home n).sends ≡ true
 announcing-bare home n =

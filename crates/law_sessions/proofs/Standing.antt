@@ -1,11 +1,10 @@
 -- No tentative tuple is invented: each stands in its sender's tentative output after the event that sent it.
 use Rattle.std.proofs.Common.{◌≡◌, ℕ, zero, suc, ◌+◌, ◌-◌, max, Bool, true, false, cond, not, ◌&&◌, ◌==◌, nat_lt, List, [], ◌∷◌, ◌++◌, length, drop, refl, sym, subst, arith, Option, Some, None}
-use Rattle.std.specs.Prelude.{Contains, is_none}
+use Rattle.std.specs.Prelude.{Contains}
 use Rattle.dpc_lists.specs.Lists.{nth, changed, list_all}
-use Rattle.dpc_model.specs.Replicas.{is_absent}
-use Rattle.dpc_model.specs.Granting.{may_enter_by, own_key, with_ask, grants, with_promise}
+use Rattle.dpc_model.specs.Granting.{may_enter_by, own_key, grants, with_promise}
 use Rattle.dpc_model.specs.Actors.{replicas_of}
-use Rattle.dpc_model.specs.Sessions.{Shown, Given, Answered, answer_to, is_newer_than_kept, tally_of, first_batch, batches_from, batches_of, given_items, stable_items, boundary_item, tentative_items, passed_item, item_if, with_batches}
+use Rattle.dpc_model.specs.Sessions.{Shown, Given, answer_to, tally_of, first_batch, batches_from, batches_of, given_items, stable_items, boundary_item, tentative_items, passed_item, item_if, with_batches}
 use Rattle.dpc_model.specs.declared.sessions.Sub.{Sub}
 use Rattle.dpc_model.specs.declared.tuples.Tuple.{Tuple}
 use Rattle.dpc_model.specs.declared.tuples.Item.{Item}
@@ -16,11 +15,12 @@ use Rattle.dpc_model.specs.declared.messages.Message.TheVariants as message
 use Rattle.dpc_model.specs.declared.plans.Plan.{Plan}
 use Rattle.node_model.specs.Mails.{Packet, Plain, SnapFor, Mail, mail, to_readers, to_each, Stepped}
 use Rattle.dpc_model.specs.NodeStates.{is_up_failure, is_stabilization}
-use Rattle.node_model.specs.Nodes.{Home, PlainNode, own_readers, out_stable, out_with_closed, out_tentative, shown, due_at, node_frontier, ready, wants_to_reconcile}
-use Rattle.node_model.specs.NodeSteps.{idle_step, then_do, give, given_by, given_stable, enter_step, after_stable_buckets, with_closed, with_failure, stably, processing_upto, processing_step, after_last_correction, mill_step, peers_of, peer_watches, choice_step, ask_step, announcing_step, serving_step, snapshot_ask_step, rest_of_tick, with_fresh_start, after_clock, with_marks_ended, may_start_afresh, tick_step, on_subscribe, on_ask, on_snap_ask, on_message, on_packet, reader_place, replica_number, packet_step}
+use Rattle.node_model.specs.Nodes.{Home, PlainNode, own_readers, out_stable, out_with_closed, out_tentative, shown, node_frontier, ready}
+use Rattle.node_model.specs.NodeSteps.{idle_step, then_do, give, given_by, given_stable, enter_step, after_stable_buckets, with_closed, with_failure, stably, processing_upto, processing_step, after_last_correction, mill_step, peers_of, choice_step, ask_step, announcing_step, serving_step, snapshot_ask_step, rest_of_tick, with_fresh_start, after_clock, with_marks_ended, may_start_afresh, tick_step, on_subscribe, on_ask, on_snap_ask, on_message, on_packet, reader_place, replica_number, packet_step}
 use Rattle.node_model.specs.Sources.{SourceState, bound_at, source_readers, source_shown, source_given, source_gives, source_emits, source_releases, source_subscribed, source_message, source_packet_step, source_tick_step}
 use Rattle.world_model.specs.Orderly.{items_carried}
 use Rattle.law_safety.proofs.Carried.{here, there}
+use Rattle.law_safety.proofs.StepCases.{by-asking, by-processing, by-answer}
 use Rattle.dpc_lists.proofs.Truths.{both}
 use Rattle.law_sessions.specs.Laws.{TentativesStand}
 use Rattle.law_sessions.proofs.Keeping.{is_bare, is_bare_packet, no_batch}
@@ -135,18 +135,7 @@ batches-standing out readers (i ∷ items) subs h = batches_from-standing out re
 
 pub answer-standing : (x : Shown) (sub : Sub) (asked : Subscribe) (to : ℕ) → AreStanding x.tentative (elim (answer_to x sub asked).answer [ None ↦ [] | Some m ↦ mail to m ∷ [] ])
 answer-standing x sub asked to =
-    elim (not (is_newer_than_kept asked.sess sub.kept)) as (λ b. AreStanding x.tentative (elim (cond {A = Answered} b (record { after = sub; answer = None })
-    (cond {A = Answered} (nat_lt asked.n x.base)
-    (record { after = record { kept = Some asked.sess; is_open = false; batches = 0 }; answer = Some (message.Truncated asked.sess x.base) })
-    (record { after = record { kept = Some asked.sess; is_open = true; batches = 1 }; answer = Some (message.Batch asked.sess 0 (first_batch x asked)) }))).answer [ None ↦ [] | Some m ↦ mail to m ∷ [] ])) [
-      | true ↦ tt
-      | false ↦ elim (nat_lt asked.n x.base) as (λ b. AreStanding x.tentative (elim (cond {A = Answered} b
-          (record { after = record { kept = Some asked.sess; is_open = false; batches = 0 }; answer = Some (message.Truncated asked.sess x.base) })
-          (record { after = record { kept = Some asked.sess; is_open = true; batches = 1 }; answer = Some (message.Batch asked.sess 0 (first_batch x asked)) })).answer [ None ↦ [] | Some m ↦ mail to m ∷ [] ])) [
-            | true ↦ (tt, tt)
-            | false ↦ (first-stand x asked, tt)
-          ]
-    ]
+    by-answer x sub asked to (AreStanding x.tentative) tt (tt, tt) (first-stand x asked, tt)
 
 -- ---- the steps of a node
 
@@ -176,13 +165,7 @@ processed-stands home last n =
 
 processing-stands : (home : Home) (n : PlainNode) → Stands home (processing_step home n)
 processing-stands home n =
-    elim (is_stabilization n.state) as (λ b. Stands home (cond b (idle_step n) (elim (due_at home n n.clock) [ None ↦ idle_step n | Some last ↦ processing_upto home last n ]))) [
-      | true ↦ tt
-      | false ↦ elim (due_at home n n.clock) as (λ o. Stands home (elim o [ None ↦ idle_step n | Some last ↦ processing_upto home last n ])) [
-        | None ↦ tt
-        | Some last ↦ processed-stands home last n
-      ]
-    ]
+    by-processing home n (Stands home) tt (λ last e due. processed-stands home last n)
 
 pub milled-stands : (home : Home) (r : ℕ) (n : PlainNode) → Stands home (mill_step home r n)
 unfolding mill_step
@@ -199,14 +182,9 @@ milled-stands home r n =
 
 reconciling-standing : (home : Home) (out : List Tuple) (n : PlainNode) → AreStanding out (ask_step home n).sends
 reconciling-standing home out n =
-    let asks : Stepped PlainNode = record { after = record n { grants = with_ask n.grants }; sends = to_each (message.Ask (own_key n.grants).0 (own_key n.grants).1) (peers_of home) } in
-    elim (wants_to_reconcile home n && is_none n.grants.promise) as (λ b. AreStanding out (cond b (cond (list_all is_absent (peer_watches home n)) (enter_step home n) asks) (idle_step n)).sends) [
-      | true ↦ elim (list_all is_absent (peer_watches home n)) as (λ b. AreStanding out (cond b (enter_step home n) asks).sends) [
-        | true ↦ entered-standing home out n
-        | false ↦ bare-standing out asks.sends (each-bare (message.Ask (own_key n.grants).0 (own_key n.grants).1) (peers_of home) (λ a. refl))
-      ]
-      | false ↦ tt
-    ]
+    let asks = to_each (message.Ask (own_key n.grants).0 (own_key n.grants).1) (peers_of home) in
+    by-asking home n (λ s. AreStanding out s.sends) (entered-standing home out n)
+    (bare-standing out asks (each-bare (message.Ask (own_key n.grants).0 (own_key n.grants).1) (peers_of home) (λ a. refl))) tt
 
 serving-stands : (home : Home) (n : PlainNode) → Stands home (serving_step home n)
 serving-stands home n =

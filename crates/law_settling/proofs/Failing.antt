@@ -23,12 +23,13 @@ use Rattle.dpc_model.specs.declared.messages.NodeState.{NodeState}
 use Rattle.dpc_model.specs.declared.messages.NodeState.TheVariants.{Stable, UpFailure, Stabilization}
 use Rattle.dpc_lists.proofs.Truths.{not-both}
 use Rattle.node_model.specs.Mails.{mail, Snap, Packet, Plain, SnapFor, to_each, Stepped}
-use Rattle.node_model.specs.Nodes.{Home, PlainNode, streams_of, held_by, buckets_of, node_frontier, bucket_of, complete_upto, complete_buckets, ready, due_at, wants_to_reconcile}
+use Rattle.node_model.specs.Nodes.{Home, PlainNode, streams_of, held_by, buckets_of, node_frontier, bucket_of, complete_upto, complete_buckets, ready}
 use Rattle.node_model.specs.NodeSteps.{idle_step, then_do, peers_of, peer_watches, replica_number, reader_place, with_port, enter_step, after_loss, after_adoption, after_taking, with_stamps_of, on_batch, on_subscribe, on_truncation, on_upstream_beat, on_peer_beat, on_ack, on_ask, on_grant, on_snap_ask, on_message, on_packet, on_snap, with_marks_ended, packet_step, after_stable_buckets, mill_step, after_clock, may_start_afresh, choice_step, ask_step, count_upto, stably, processing_upto, processing_step, announcing_step, serving_step, snapshot_ask_step, rest_of_tick, with_fresh_start, tick_step}
 use Rattle.law_safety.specs.Plans.{IsPlace}
 use Rattle.law_safety.proofs.Frames.{IsGood, held-map}
 use Rattle.law_safety.proofs.Ticked.{chosen-held}
 use Rattle.law_safety.proofs.Dues.{due-range}
+use Rattle.law_safety.proofs.StepCases.{by-asking, by-processing}
 use Rattle.law_settling.specs.Finished.{has_whole_inputs}
 use Rattle.law_settling.proofs.Finishing.{closed-none, upto-all}
 
@@ -151,19 +152,11 @@ module _ (home : Home) where
   asking-over : (n : PlainNode) → (ask_step home n).after.grants.over ≡ n.grants.over
   unfolding enter_step
   asking-over n =
-      elim (wants_to_reconcile home n && is_none n.grants.promise) as (λ b. (cond {A = Stepped PlainNode} b (cond (list_all is_absent (peer_watches home n)) (enter_step home n)
-      (record { after = record n { grants = with_ask n.grants }; sends = to_each (message.Ask (own_key n.grants).0 (own_key n.grants).1) (peers_of home) })) (idle_step n)).after.grants.over ≡ n.grants.over) [
-        | true ↦ elim (list_all is_absent (peer_watches home n)) as (λ b. (cond {A = Stepped PlainNode} b (enter_step home n)
-            (record { after = record n { grants = with_ask n.grants }; sends = to_each (message.Ask (own_key n.grants).0 (own_key n.grants).1) (peers_of home) })).after.grants.over ≡ n.grants.over) [ true ↦ refl | false ↦ refl ]
-        | false ↦ refl
-      ]
+      by-asking home n (λ s. s.after.grants.over ≡ n.grants.over) refl refl refl
 
   pub processing-grants : (n : PlainNode) → (processing_step home n).after.grants ≡ n.grants
   processing-grants n =
-      elim (is_stabilization n.state) as (λ b. (cond {A = Stepped PlainNode} b (idle_step n) (elim (due_at home n n.clock) as (λ _. Stepped PlainNode) [ None ↦ idle_step n | Some last ↦ processing_upto home last n ])).after.grants ≡ n.grants) [
-        | true ↦ refl
-        | false ↦ elim (due_at home n n.clock) as (λ o. (elim o as (λ _. Stepped PlainNode) [ None ↦ idle_step n | Some last ↦ processing_upto home last n ]).after.grants ≡ n.grants) [ None ↦ refl | Some last ↦ refl ]
-      ]
+      by-processing home n (λ s. s.after.grants ≡ n.grants) refl (λ last e due. refl)
 
   -- no bucket is closed where all are complete
   processed-fine : (last : ℕ) (n : PlainNode) → n.closed ≡ [] → complete_upto home n ≡ buckets_of home.plan → last < buckets_of home.plan → is_up_failure n.state ≡ false → is_up_failure (processing_upto home last n).after.state ≡ false
@@ -182,13 +175,7 @@ module _ (home : Home) where
 
   processing-fine : (n : PlainNode) → n.closed ≡ [] → complete_upto home n ≡ buckets_of home.plan → is_up_failure n.state ≡ false → is_up_failure (processing_step home n).after.state ≡ false
   processing-fine n empty upto fine =
-      elim (is_stabilization n.state) as (λ b. is_up_failure (cond {A = Stepped PlainNode} b (idle_step n) (elim (due_at home n n.clock) as (λ _. Stepped PlainNode) [ None ↦ idle_step n | Some last ↦ processing_upto home last n ])).after.state ≡ false) [
-        | true ↦ fine
-        | false ↦ (elim (due_at home n n.clock) as (λ o. due_at home n n.clock ≡ o → is_up_failure (elim o as (λ _. Stepped PlainNode) [ None ↦ idle_step n | Some last ↦ processing_upto home last n ]).after.state ≡ false) [
-          | None ↦ λ e. fine
-          | Some last ↦ λ e. processed-fine last n empty upto (due-range home n n.clock last e).1 fine
-        ]) refl
-      ]
+      by-processing home n (λ s. is_up_failure s.after.state ≡ false) fine (λ last e due. processed-fine last n empty upto (due-range home n n.clock last due).1 fine)
 
   asking-silent : (n : PlainNode) → is_up_failure n.state ≡ false → (ask_step home n).after ≡ n
   asking-silent n fine =

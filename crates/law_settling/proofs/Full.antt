@@ -84,7 +84,7 @@ took-whole plan events x p s k checked line q there first whole m tally all low 
     let holds = run-holds plan events x p s q checked line.port there in
     let within = holds.within in
     let top : bound_of (bound_at plan s (source_at w s).bound) ≡ plan.end = bound-is plan s (source_at w s).bound ∙ ended in
-    let bound : q.inlet.held.bound ≡ max view.start.bound (bound_of (bound_at plan s (source_at w s).bound)) = ap (λ (r : Reader). r.bound) view.view in
+    let bound : q.inlet.held.bound ≡ max view.read.start.bound (bound_of (bound_at plan s (source_at w s).bound)) = ap (λ (r : Reader). r.bound) view.view in
     (omega (arith, bound, top, within), ap is_sure view.view)
 
 -- ---- the answer

@@ -1,10 +1,9 @@
 -- What a node heard of the asks that are over: it only grows, a beat adds to it, and a tick tells it.
 use Rattle.std.proofs.Common.{◌≡◌, ℕ, zero, suc, ◌<◌, Bool, true, false, cond, not, ◌&&◌, ◌==◌, List, [], ◌∷◌, ◌++◌, length, refl, sym, ap, subst, ◌∙◌, arith, Option, Some, None, inl, inr}
-use Rattle.std.specs.Prelude.{is_none, filter}
-use Rattle.dpc_lists.specs.Lists.{nth, changed, list_all}
+use Rattle.std.specs.Prelude.{filter}
+use Rattle.dpc_lists.specs.Lists.{nth, changed}
 use Rattle.dpc_model.specs.Inlets.{same_sess, take_batch, AfterBatch}
-use Rattle.dpc_model.specs.Replicas.{is_absent}
-use Rattle.dpc_model.specs.Granting.{Key, key_le, greater_key, own_key, Grants, grants, with_promise, may_enter_by, later_key, with_ask, with_ask_over}
+use Rattle.dpc_model.specs.Granting.{Key, key_le, greater_key, Grants, grants, with_promise, may_enter_by, later_key, with_ask_over}
 use Rattle.dpc_model.specs.Actors.{replicas_of}
 use Rattle.dpc_model.specs.NodeStates.{is_up_failure, is_stabilization}
 use Rattle.dpc_model.specs.Ports.{no_port, sender_at, on_truncated, all_truncated}
@@ -17,10 +16,11 @@ use Rattle.dpc_model.specs.declared.messages.Subscribe.{Subscribe}
 use Rattle.dpc_model.specs.declared.messages.Message.{Message}
 use Rattle.dpc_model.specs.declared.messages.Message.TheVariants as message
 use Rattle.node_model.specs.Mails.{mail, Snap, Packet, Plain, SnapFor, in_actor_order, to_each, Stepped}
-use Rattle.node_model.specs.Nodes.{Home, PlainNode, streams_of, ready, due_at, wants_to_reconcile}
-use Rattle.node_model.specs.NodeSteps.{idle_step, then_do, peers_of, peer_watches, replica_number, reader_place, with_port, enter_step, after_loss, after_adoption, after_taking, with_stamps_of, on_batch, on_subscribe, on_truncation, on_upstream_beat, on_peer_beat, on_ack, on_ask, on_grant, on_snap_ask, on_message, on_packet, on_snap, with_marks_ended, packet_step, after_stable_buckets, mill_step, after_clock, may_start_afresh, choice_step, ask_step, processing_upto, processing_step, acks_from, beat_of, beats, announcing_step, serving_step, snapshot_ask_step, rest_of_tick, with_fresh_start, tick_step}
+use Rattle.node_model.specs.Nodes.{Home, PlainNode, streams_of, ready}
+use Rattle.node_model.specs.NodeSteps.{idle_step, then_do, peers_of, replica_number, reader_place, with_port, enter_step, after_loss, after_adoption, after_taking, with_stamps_of, on_batch, on_subscribe, on_truncation, on_upstream_beat, on_peer_beat, on_ack, on_ask, on_grant, on_snap_ask, on_message, on_packet, on_snap, with_marks_ended, packet_step, after_stable_buckets, mill_step, after_clock, may_start_afresh, choice_step, ask_step, processing_step, acks_from, beat_of, beats, announcing_step, serving_step, snapshot_ask_step, rest_of_tick, with_fresh_start, tick_step}
 use Rattle.law_settling.proofs.Exact.{IsIn, in-left, in-right, in-sorted}
 use Rattle.law_granting.proofs.Keys.{key-refl, key-trans, greater-first, greater-second, nth-changed}
+use Rattle.law_safety.proofs.StepCases.{by-asking, by-processing}
 
 -- a later ask of the replica is known to be over
 abbrev pub Knows : ℕ → Key → Grants → Type 0
@@ -133,25 +133,11 @@ module _ (home : Home) where
 
   asking-heard : (n : PlainNode) → HasHeard n.grants.heard (ask_step home n).after
   asking-heard n =
-      elim (wants_to_reconcile home n && is_none n.grants.promise) as (λ b. (cond {A = Stepped PlainNode} b (cond (list_all is_absent (peer_watches home n)) (enter_step home n)
-      (record { after = record n { grants = with_ask n.grants }; sends = to_each (message.Ask (own_key n.grants).0 (own_key n.grants).1) (peers_of home) })) (idle_step n)).after.grants.heard ≡ n.grants.heard) [
-        | true ↦ elim (list_all is_absent (peer_watches home n)) as (λ b. (cond {A = Stepped PlainNode} b (enter_step home n)
-            (record { after = record n { grants = with_ask n.grants }; sends = to_each (message.Ask (own_key n.grants).0 (own_key n.grants).1) (peers_of home) })).after.grants.heard ≡ n.grants.heard) [
-              | true ↦ entered-heard n
-              | false ↦ refl
-            ]
-        | false ↦ refl
-      ]
+      by-asking home n (λ s. s.after.grants.heard ≡ n.grants.heard) (entered-heard n) refl refl
 
   processing-heard : (n : PlainNode) → HasHeard n.grants.heard (processing_step home n).after
   processing-heard n =
-      elim (is_stabilization n.state) as (λ b. (cond {A = Stepped PlainNode} b (idle_step n) (elim (due_at home n n.clock) as (λ _. Stepped PlainNode) [ None ↦ idle_step n | Some last ↦ processing_upto home last n ])).after.grants.heard ≡ n.grants.heard) [
-        | true ↦ refl
-        | false ↦ elim (due_at home n n.clock) as (λ o. (elim o as (λ _. Stepped PlainNode) [ None ↦ idle_step n | Some last ↦ processing_upto home last n ]).after.grants.heard ≡ n.grants.heard) [
-          | None ↦ refl
-          | Some last ↦ refl
-        ]
-      ]
+      by-processing home n (λ s. s.after.grants.heard ≡ n.grants.heard) refl (λ last e due. refl)
 
   serving-heard : (n : PlainNode) → HasHeard n.grants.heard (serving_step home n).after
   serving-heard n =

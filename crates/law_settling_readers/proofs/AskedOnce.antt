@@ -1,10 +1,10 @@
 -- A step of a reader asks the senders of a stream for a session at most once, and only a tick does.
-use Rattle.std.proofs.Common.{◌≡◌, ℕ, zero, suc, ◌+◌, ◌≤◌, Bool, true, false, cond, not, ◌&&◌, nat_lt, List, [], ◌∷◌, ◌++◌, map, length, refl, sym, ap, ◌∙◌, arith, Some, None, slice_get}
+use Rattle.std.proofs.Common.{◌≡◌, ℕ, zero, suc, ◌+◌, ◌≤◌, Bool, true, false, cond, not, ◌&&◌, List, [], ◌∷◌, ◌++◌, map, length, refl, sym, ap, ◌∙◌, arith, Some, None, slice_get}
 use Rattle.dpc_lists.specs.Lists.{nth}
 use Rattle.dpc_model.specs.Inlets.{with_next_session, asked_by}
 use Rattle.dpc_model.specs.Actors.{senders_of}
 use Rattle.dpc_model.specs.Ports.{Port, without_ended_marks, port_after_tick, choice_at, must_reopen, subscriptions, acks_to}
-use Rattle.dpc_model.specs.Sessions.{Shown, Acked, no_session, Answered, answer_to, first_batch, is_newer_than_kept}
+use Rattle.dpc_model.specs.Sessions.{Shown, Acked, no_session, answer_to}
 use Rattle.dpc_model.specs.declared.sessions.Sub.{Sub}
 use Rattle.dpc_model.specs.declared.messages.Sess.{Sess}
 use Rattle.dpc_model.specs.declared.messages.Subscribe.{Subscribe}
@@ -18,6 +18,7 @@ use Rattle.node_model.specs.Nodes.{Home, PlainNode, streams_of, own_readers, sho
 use Rattle.node_model.specs.NodeSteps.{packet_step, mill_step, tick_step, then_do, after_clock, with_marks_ended, may_start_afresh, with_fresh_start, choice_step, ask_step, processing_step, announcing_step, serving_step, snapshot_ask_step, rest_of_tick}
 use Rattle.node_model.specs.Clients.{ClientState, client_stream, client_tick_step}
 use Rattle.dpc_lists.proofs.Each.{Each}
+use Rattle.law_safety.proofs.StepCases.{by-answer}
 use Rattle.law_granting.specs.Taken.{subscribes_packet}
 use Rattle.law_readers.proofs.Passing.{Obliges, Takes, is_told, packet-passed, mill-passed, asking-passed, processing-passed, announcing-passed, recovering-passed}
 use Rattle.law_readers.proofs.Sessions.{each-acked, ticked-port}
@@ -113,17 +114,7 @@ module _ (home : Home) (a : ℕ → Bool) (u : Sess) where
     where
       answer : (k : ℕ) (shows : Shown) (sub : Sub) (asked : Subscribe) → Each Quiet (elim (answer_to shows sub asked).answer as (λ _. List Mail) [ None ↦ [] | Some m ↦ mail (nth 0 (own_readers home) k) m ∷ [] ])
       answer k shows sub asked =
-          elim (is_newer_than_kept asked.sess sub.kept) as (λ b. Each Quiet (elim (cond {A = Answered} (not b) (record { after = sub; answer = None }) (cond (nat_lt asked.n shows.base)
-          (record { after = record { kept = Some asked.sess; is_open = false; batches = 0 }; answer = Some (message.Truncated asked.sess shows.base) })
-          (record { after = record { kept = Some asked.sess; is_open = true; batches = 1 }; answer = Some (message.Batch asked.sess 0 (first_batch shows asked)) }))).answer as (λ _. List Mail) [ None ↦ [] | Some m ↦ mail (nth 0 (own_readers home) k) m ∷ [] ])) [
-            | false ↦ tt
-            | true ↦ elim (nat_lt asked.n shows.base) as (λ b. Each Quiet (elim (cond {A = Answered} b
-                (record { after = record { kept = Some asked.sess; is_open = false; batches = 0 }; answer = Some (message.Truncated asked.sess shows.base) })
-                (record { after = record { kept = Some asked.sess; is_open = true; batches = 1 }; answer = Some (message.Batch asked.sess 0 (first_batch shows asked)) })).answer as (λ _. List Mail) [ None ↦ [] | Some m ↦ mail (nth 0 (own_readers home) k) m ∷ [] ])) [
-                  | true ↦ (and-none (a (nth 0 (own_readers home) k)), tt)
-                  | false ↦ (and-none (a (nth 0 (own_readers home) k)), tt)
-                ]
-          ]
+          by-answer shows sub asked (nth 0 (own_readers home) k) (Each Quiet) tt (and-none (a (nth 0 (own_readers home) k)), tt) (and-none (a (nth 0 (own_readers home) k)), tt)
 
   pub took-quiet : (b : ℕ) (packet : Packet) (n : PlainNode) → Each Quiet (packet_step home b packet n).sends
   took-quiet b packet n = (packet-passed home Any Quiet quiet-obliges b packet (quiet-takes b packet) n tt).sends

@@ -1,13 +1,11 @@
 -- The beats that an event sends: a node's tick alone sends any, and each says the state that the tick leaves.
 use Rattle.std.proofs.Common.{◌≡◌, ℕ, Bool, true, false, cond, not, ◌&&◌, ◌==◌, nat_lt, List, [], ◌∷◌, ◌++◌, map, length, refl, sym, ap, ◌∙◌, Option, Some, None, slice_get, ◌⊎◌, inl, inr}
-use Rattle.std.specs.Prelude.{is_none}
-use Rattle.dpc_lists.specs.Lists.{nth, list_all}
-use Rattle.dpc_model.specs.Replicas.{is_absent}
+use Rattle.dpc_lists.specs.Lists.{nth}
 use Rattle.dpc_model.specs.Granting.{own_key, grants, with_promise, may_enter_by, with_ask}
 use Rattle.dpc_model.specs.NodeStates.{is_up_failure, is_stabilization}
 use Rattle.dpc_model.specs.Actors.{role_of, replicas_of}
 use Rattle.dpc_model.specs.Ports.{subscriptions}
-use Rattle.dpc_model.specs.Sessions.{Shown, Answered, given_items, answer_to, first_batch, is_newer_than_kept, no_session}
+use Rattle.dpc_model.specs.Sessions.{Shown, given_items, answer_to, no_session}
 use Rattle.dpc_model.specs.declared.sessions.Sub.{Sub}
 use Rattle.dpc_model.specs.declared.tuples.Item.{Item}
 use Rattle.dpc_model.specs.declared.tuples.Item.TheVariants as item
@@ -20,14 +18,15 @@ use Rattle.dpc_model.specs.declared.messages.Message.{Message}
 use Rattle.dpc_model.specs.declared.messages.Message.TheVariants as message
 use Rattle.dpc_model.specs.declared.messages.NodeState.TheVariants.{Stabilization}
 use Rattle.node_model.specs.Mails.{Packet, Plain, SnapFor, Mail, mail, mails, in_actor_order, to_each, Stepped}
-use Rattle.node_model.specs.Nodes.{Home, PlainNode, streams_of, own_readers, out_stable, ready, due_at, shown, wants_to_reconcile}
-use Rattle.node_model.specs.NodeSteps.{idle_step, then_do, peers_of, peer_watches, replica_number, reader_place, give, given_by, given_stable, enter_step, on_subscribe, on_ask, on_snap_ask, on_message, with_marks_ended, packet_step, after_stable_buckets, after_last_correction, mill_step, after_clock, may_start_afresh, choice_step, ask_step, count_upto, stably, after_buckets, processing_upto, processing_step, acks_from, beat_of, beats, announcing_step, serving_step, snapshot_ask_step, with_fresh_start, rest_of_tick, tick_step}
+use Rattle.node_model.specs.Nodes.{Home, PlainNode, streams_of, own_readers, out_stable, ready, shown}
+use Rattle.node_model.specs.NodeSteps.{idle_step, then_do, peers_of, replica_number, reader_place, give, given_by, given_stable, enter_step, on_subscribe, on_ask, on_snap_ask, on_message, with_marks_ended, packet_step, after_stable_buckets, after_last_correction, mill_step, after_clock, may_start_afresh, choice_step, ask_step, count_upto, stably, after_buckets, processing_upto, processing_step, acks_from, beat_of, beats, announcing_step, serving_step, snapshot_ask_step, with_fresh_start, rest_of_tick, tick_step}
 use Rattle.node_model.specs.Sources.{source_emits, source_releases, source_packet_step, source_tick_step}
 use Rattle.node_model.specs.Clients.{client_tick_step}
 use Rattle.world_model.specs.Worlds.{World, Envelope, Slot, home_of, slot_of, source_at, client_at, from, node_stepped, source_stepped, client_stepped, happens}
 use Rattle.law_safety.proofs.EventCases.{AreCases, by-event}
 use Rattle.law_safety.proofs.Happening.{IsFine}
 use Rattle.law_safety.proofs.Promises.{slot-here}
+use Rattle.law_safety.proofs.StepCases.{by-asking, by-processing, by-answer}
 use Rattle.dpc_lists.proofs.Each.{Each, each-append, each-weaker}
 use Rattle.law_granting.proofs.Each.{each-sorted, each-to, each-batches, each-subscription, each-acks, each-beats}
 use Rattle.law_granting.proofs.Slots.{got-sent}
@@ -74,17 +73,7 @@ module _ (home : Home) where
 
   answer-none : (k : ℕ) (shows : Shown) (sub : Sub) (asked : Subscribe) → Each NoBeat (elim (answer_to shows sub asked).answer as (λ _. List Mail) [ None ↦ [] | Some m ↦ mail (nth 0 (own_readers home) k) m ∷ [] ])
   answer-none k shows sub asked =
-      elim (is_newer_than_kept asked.sess sub.kept) as (λ b. Each NoBeat (elim (cond {A = Answered} (not b) (record { after = sub; answer = None }) (cond (nat_lt asked.n shows.base)
-      (record { after = record { kept = Some asked.sess; is_open = false; batches = 0 }; answer = Some (message.Truncated asked.sess shows.base) })
-      (record { after = record { kept = Some asked.sess; is_open = true; batches = 1 }; answer = Some (message.Batch asked.sess 0 (first_batch shows asked)) }))).answer as (λ _. List Mail) [ None ↦ [] | Some m ↦ mail (nth 0 (own_readers home) k) m ∷ [] ])) [
-        | false ↦ tt
-        | true ↦ elim (nat_lt asked.n shows.base) as (λ b. Each NoBeat (elim (cond {A = Answered} b
-            (record { after = record { kept = Some asked.sess; is_open = false; batches = 0 }; answer = Some (message.Truncated asked.sess shows.base) })
-            (record { after = record { kept = Some asked.sess; is_open = true; batches = 1 }; answer = Some (message.Batch asked.sess 0 (first_batch shows asked)) })).answer as (λ _. List Mail) [ None ↦ [] | Some m ↦ mail (nth 0 (own_readers home) k) m ∷ [] ])) [
-              | true ↦ (refl, tt)
-              | false ↦ (refl, tt)
-            ]
-      ]
+      by-answer shows sub asked (nth 0 (own_readers home) k) (Each NoBeat) tt (refl, tt) (refl, tt)
 
   subscribe-none : (asked : Subscribe) (k : Option ℕ) (n : PlainNode) → Each NoBeat (on_subscribe home asked k n).sends
   subscribe-none asked None n = tt
@@ -130,15 +119,7 @@ module _ (home : Home) where
 
   asking-none : (n : PlainNode) → Each NoBeat (ask_step home n).sends
   asking-none n =
-      elim (wants_to_reconcile home n && is_none n.grants.promise) as (λ b. Each NoBeat (cond {A = Stepped PlainNode} b (cond (list_all is_absent (peer_watches home n)) (enter_step home n)
-      (record { after = record n { grants = with_ask n.grants }; sends = to_each (message.Ask (own_key n.grants).0 (own_key n.grants).1) (peers_of home) })) (idle_step n)).sends) [
-        | false ↦ tt
-        | true ↦ elim (list_all is_absent (peer_watches home n)) as (λ b. Each NoBeat (cond {A = Stepped PlainNode} b (enter_step home n)
-            (record { after = record n { grants = with_ask n.grants }; sends = to_each (message.Ask (own_key n.grants).0 (own_key n.grants).1) (peers_of home) })).sends) [
-              | true ↦ enter-none n
-              | false ↦ each-to NoBeat (message.Ask (own_key n.grants).0 (own_key n.grants).1) (peers_of home) (λ to. refl)
-            ]
-      ]
+      by-asking home n (λ s. Each NoBeat s.sends) (enter-none n) (each-to NoBeat (message.Ask (own_key n.grants).0 (own_key n.grants).1) (peers_of home) (λ to. refl)) tt
 
   upto-none : (last : ℕ) (n : PlainNode) → Each NoBeat (processing_upto home last n).sends
   upto-none last n =
@@ -149,13 +130,7 @@ module _ (home : Home) where
 
   processing-none : (n : PlainNode) → Each NoBeat (processing_step home n).sends
   processing-none n =
-      elim (is_stabilization n.state) as (λ b. Each NoBeat (cond {A = Stepped PlainNode} b (idle_step n) (elim (due_at home n n.clock) as (λ _. Stepped PlainNode) [ None ↦ idle_step n | Some last ↦ processing_upto home last n ])).sends) [
-        | true ↦ tt
-        | false ↦ elim (due_at home n n.clock) as (λ o. Each NoBeat (elim o as (λ _. Stepped PlainNode) [ None ↦ idle_step n | Some last ↦ processing_upto home last n ]).sends) [
-          | None ↦ tt
-          | Some last ↦ upto-none last n
-        ]
-      ]
+      by-processing home n (λ s. Each NoBeat s.sends) tt (λ last e due. upto-none last n)
 
   abbrev Saying : PlainNode → Mail → Type 0
   Saying n m = Says n m.packet

@@ -14,7 +14,7 @@ use Rattle.dpc_model.specs.declared.messages.Subscribe.{Subscribe}
 use Rattle.dpc_model.specs.declared.messages.Message.TheVariants as message
 use Rattle.dpc_model.specs.declared.plans.Plan.{Plan}
 use Rattle.dpc_model.specs.declared.plans.StreamRef.{StreamRef}
-use Rattle.node_model.specs.Mails.{Packet, Plain, SnapFor, Mail}
+use Rattle.node_model.specs.Mails.{Plain, Mail}
 use Rattle.node_model.specs.Nodes.{PlainNode}
 use Rattle.node_model.specs.NodeSteps.{packet_step, mill_step, tick_step}
 use Rattle.node_model.specs.Sources.{source_emits, source_releases, source_packet_step, source_tick_step}
@@ -33,6 +33,7 @@ use Rattle.dpc_lists.proofs.Each.{Each}
 use Rattle.world_model.proofs.Running.{new_world-none}
 use Rattle.law_granting.specs.Taken.{subscribes_packet, role_port}
 use Rattle.law_granting.proofs.Asked.{same-or}
+use Rattle.law_session_origins.proofs.Firsts.{sub-of}
 use Rattle.law_readers.specs.Newest.{IsPortOf}
 use Rattle.law_readers.proofs.Running.{every-run}
 use Rattle.law_readers.proofs.Known.{asks-place, none-newer, run-clients}
@@ -55,17 +56,6 @@ pub record AsksOf (to : ℕ → Bool) (x : ℕ) (u : Sess) (e : Envelope) : Type
   pub asked : Subscribe
   pub packet : e.packet ≡ Plain (message.Subscribe asked)
   pub session : same_sess asked.sess u ≡ true
-
-sub-of : (u : Sess) (packet : Packet) → subscribes_packet u packet ≡ true → (asked : Subscribe) × (packet ≡ Plain (message.Subscribe asked)) × (same_sess asked.sess u ≡ true)
-sub-of u (Plain (message.Subscribe asked)) h = (asked, refl, h)
-sub-of u (Plain (message.Batch v index items)) h = cc
-sub-of u (Plain (message.Truncated v base)) h = cc
-sub-of u (Plain (message.Beat b)) h = cc
-sub-of u (Plain (message.Ack i n)) h = cc
-sub-of u (Plain (message.Ask i n)) h = cc
-sub-of u (Plain (message.Grant i n)) h = cc
-sub-of u (Plain (message.SnapAsk i n)) h = cc
-sub-of u (SnapFor i try snap) h = cc
 
 pub asks-parts : (to : ℕ → Bool) (x : ℕ) (u : Sess) (e : Envelope) → asks_of to x u e ≡ true → AsksOf to x u e
 asks-parts to x u e h =

@@ -9,7 +9,6 @@ use Rattle.dpc_model.specs.Inlets.{same_sess}
 use Rattle.dpc_model.specs.Sessions.{Shown, Answered, first_batch, is_newer_than_kept, no_session}
 use Rattle.dpc_model.specs.declared.sessions.Sub.{Sub}
 use Rattle.dpc_model.specs.declared.messages.Sess.{Sess}
-use Rattle.dpc_model.specs.declared.messages.Beat.{Beat}
 use Rattle.dpc_model.specs.declared.messages.Subscribe.{Subscribe}
 use Rattle.dpc_model.specs.declared.messages.Message.{Message}
 use Rattle.dpc_model.specs.declared.messages.Message.TheVariants as message

@@ -1,5 +1,5 @@
 -- At a tick a finished replica tells each reader that it is STABLE, and its session; it gives nothing.
-use Rattle.std.proofs.Common.{◌≡◌, ℕ, zero, suc, ◌+◌, ◌-◌, ◌<◌, min, Bool, true, false, cond, ◌&&◌, nat_lt, List, [], ◌∷◌, ◌++◌, map, length, refl, sym, ap, subst, ◌∙◌, arith, Some, None, inl, inr}
+use Rattle.std.proofs.Common.{◌≡◌, ℕ, zero, suc, ◌+◌, ◌-◌, ◌<◌, min, Bool, false, cond, ◌&&◌, nat_lt, List, [], ◌∷◌, ◌++◌, map, length, refl, sym, ap, subst, ◌∙◌, arith, None, inl, inr}
 use Rattle.std.specs.Prelude.{is_none, drop, zip}
 use Rattle.std.proofs.lemmas.List.{append-nil}
 use Rattle.std.proofs.Math.Seq.{drop-length}
@@ -7,7 +7,7 @@ use Rattle.dpc_lists.specs.Lists.{nth, list_all, range_with_len}
 use Rattle.dpc_model.specs.Replicas.{is_absent}
 use Rattle.dpc_model.specs.Granting.{own_key, with_ask}
 use Rattle.dpc_model.specs.Due.{is_complete}
-use Rattle.dpc_model.specs.NodeStates.{is_up_failure, is_stabilization}
+use Rattle.dpc_model.specs.NodeStates.{is_up_failure}
 use Rattle.dpc_model.specs.Ports.{subscriptions}
 use Rattle.dpc_model.specs.Sessions.{Given, given_items, tally_of, no_session}
 use Rattle.dpc_model.specs.declared.sessions.Sub.{Sub}
@@ -15,11 +15,12 @@ use Rattle.dpc_model.specs.declared.tuples.Item.{Item}
 use Rattle.dpc_model.specs.declared.tuples.Tuple.{Tuple}
 use Rattle.dpc_model.specs.declared.messages.Message.TheVariants as message
 use Rattle.node_model.specs.Mails.{Mail, mail, mails, in_actor_order, to_each, Stepped}
-use Rattle.node_model.specs.Nodes.{Home, PlainNode, streams_of, own_readers, buckets_of, held_by, node_frontier, out_stable, out_tentative, complete_buckets, due_at, bucket_of}
+use Rattle.node_model.specs.Nodes.{Home, PlainNode, streams_of, own_readers, buckets_of, held_by, node_frontier, out_stable, out_tentative, complete_buckets, bucket_of}
 use Rattle.node_model.specs.NodeSteps.{idle_step, peers_of, peer_watches, with_marks_ended, enter_step, give, given_by, processing_upto, processing_step, count_upto, stably, after_buckets, after_stable_buckets, choice_step, ask_step, announcing_step, serving_step, acks_from, beats, beat_of, after_clock, tick_step}
 use Rattle.law_safety.proofs.Dues.{due-range}
 use Rattle.law_safety.proofs.Frames.{out_stable-held}
 use Rattle.law_safety.proofs.Giving.{none-tentative}
+use Rattle.law_safety.proofs.StepCases.{by-processing}
 use Rattle.dpc_lists.proofs.Each.{Each, each-append}
 use Rattle.law_granting.proofs.Each.{each-sorted, each-subscription, each-acks, each-beats}
 use Rattle.law_settling.specs.Finished.{IsFinished}
@@ -74,14 +75,8 @@ module _ (home : Home) where
 
   processing-none : (n : PlainNode) → n.closed ≡ [] → n.cursor ≡ buckets_of home.plan → ((processing_step home n).sends ≡ []) × ((processing_step home n).after.subs ≡ n.subs)
   processing-none n empty cursor =
-      elim (is_stabilization n.state) as (λ b. ((cond {A = Stepped PlainNode} b (idle_step n) (elim (due_at home n n.clock) as (λ _. Stepped PlainNode) [ None ↦ idle_step n | Some last ↦ processing_upto home last n ])).sends ≡ [])
-      × ((cond {A = Stepped PlainNode} b (idle_step n) (elim (due_at home n n.clock) as (λ _. Stepped PlainNode) [ None ↦ idle_step n | Some last ↦ processing_upto home last n ])).after.subs ≡ n.subs)) [
-        | true ↦ (refl, refl)
-        | false ↦ (elim (due_at home n n.clock) as (λ o. due_at home n n.clock ≡ o → ((elim o as (λ _. Stepped PlainNode) [ None ↦ idle_step n | Some last ↦ processing_upto home last n ]).sends ≡ []) × ((elim o as (λ _. Stepped PlainNode) [ None ↦ idle_step n | Some last ↦ processing_upto home last n ]).after.subs ≡ n.subs)) [
-          | None ↦ λ e. (refl, refl)
-          | Some last ↦ λ e. upto-none last n empty cursor (due-range home n n.clock last e).1
-        ]) refl
-      ]
+      by-processing home n (λ s. (s.sends ≡ []) × (s.after.subs ≡ n.subs)) (refl, refl)
+      (λ last e due. upto-none last n empty cursor (due-range home n n.clock last due).1)
 
   -- its beats
   pub in-zip : (m : PlainNode) (readers : List ℕ) (subs : List Sub) (i : ℕ) → i < length readers → i < length subs → IsIn (mail (nth 0 readers i) (beat_of m (tally_of (nth no_session subs i)))) (map (λ (x : ℕ × Sub). mail x.0 (beat_of m (tally_of x.1))) (zip readers subs))

@@ -32,7 +32,7 @@ use Rattle.law_granting.specs.Taken.{index_of, port_of, line_of, IsAnsweredIn}
 use Rattle.law_granting.proofs.Sending.{indexes}
 use Rattle.law_granting.proofs.Sent.{SentOrder}
 use Rattle.law_readers.specs.Newest.{IsPortOf, subs_of, node_subs}
-use Rattle.law_readers.specs.Held.{HasRead, TookAll, shown_by, node_shown}
+use Rattle.law_readers.specs.Held.{HasRead, TookAll, shown_by, node_shown, opening_of}
 use Rattle.law_readers.proofs.Steps.{ports-have-read, port-holds}
 use Rattle.law_readers.proofs.Known.{run-clients}
 use Rattle.law_readers.proofs.Viewed.{views-held, node-order, counted}
@@ -143,6 +143,6 @@ module _ (plan : Plan) (events : List Event) (x p f r a k i : ℕ) (checked : Is
       (ap (λ (z : Role). shown_by plan w a z) role ∙ ap (λ (o : Option PlainNode). node_shown plan f r o) up) in
       let holds = run-holds plan events x p (Frag f) q checked port there in
       let low_held = holds.within in
-      let grows : view.start.bound ≤ q.inlet.held.bound = let same = ap (λ (z : Reader). z.bound) view.view in omega (arith, same) in
-      let full = whole-view plan (Frag f) view.asked (shown home n) view.start (shows-whole home n checked.checked done) (omega (arith, grows, low_held)) in
+      let grows : view.read.start.bound ≤ q.inlet.held.bound = let same = ap (λ (z : Reader). z.bound) view.view in omega (arith, same) in
+      let full = whole-view plan (Frag f) (opening_of plan events view.read.start (line_of plan x (Frag f) q)) (shown home n) view.read.start (shows-whole home n checked.checked done) (omega (arith, grows, low_held)) in
       (ap (λ (z : Reader). z.bound) view.view ∙ full.0, ap is_sure view.view ∙ full.1)

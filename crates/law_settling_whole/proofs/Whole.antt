@@ -141,18 +141,21 @@ all-done script events checked serves lives well steady full =
     client-done script.plan w a c x g.of_plan role there has)
 
 -- whatever was lost, cut or crashed before: every client is settled at the end
-pub settles : (script : Script) (events : List Event) → IsChecked script → ReadersHaveStreams script events → Settles script events
+settles : (script : Script) (events : List Event) → IsChecked script → ReadersHaveStreams script events → Settles script events
 settles script events checked serves on lives well steady =
     elim ((live-ends script events lives).1 on) [
       | inl done ↦ done
       | inr full ↦ all-done script events checked serves lives well steady full
     ]
 
+pub checked-settles : (script : Script) (events : List Event) → IsChecked script → Settles script events
+checked-settles script events checked = settles script events checked (readers-law script events)
+
 -- so it is of the one-thread journal of a script that heals, where recoveries end
 pub healed-settles : (script : Script) → IsChecked script → IsTrue script.settle → heals script ≡ true → IsCalm script (lockstep_journal script) → IsTrue (all_settled (run script.plan (lockstep_journal script)))
 healed-settles script checked on healed calm =
     let well = opens-well script (lockstep_journal script) healed (lock-live script) in
-    settles script (lockstep_journal script) checked (readers-law script (lockstep_journal script)) on (lock-live script) well (lock-steady script (can_settle script checked) well calm)
+    checked-settles script (lockstep_journal script) checked on (lock-live script) well (lock-steady script (can_settle script checked) well calm)
 
 pub crashless-settles : (script : Script) → IsChecked script → IsTrue script.settle → heals script ≡ true → has_no_crash script ≡ true → IsTrue (all_settled (run script.plan (lockstep_journal script)))
 crashless-settles script checked on healed none = healed-settles script checked on healed (script-calm script (lockstep_journal script) (can_settle script checked).plan none (lock-live script))

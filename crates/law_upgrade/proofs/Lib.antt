@@ -4,3 +4,5 @@ pub mod Runs
 pub mod Journals
 pub mod Telling
 pub mod Checked
+pub mod Said
+pub mod Ranged

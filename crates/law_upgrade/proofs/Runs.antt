@@ -6,6 +6,7 @@ use Rattle.dpc_model.specs.declared.plans.Plan.{Plan}
 use Rattle.world_model.specs.Worlds.{World, run}
 use Rattle.law_safety.proofs.Growing.{run-plan}
 use Rattle.report.specs.Text.{report_text, report_short, ideal_text}
+use Rattle.client_reports.specs.Json.{report_json}
 use Rattle.law_upgrade.specs.Upgrading.{upgraded_plan, upgraded_world}
 use Rattle.law_upgrade.proofs.Events.{run-same}
 
@@ -44,6 +45,13 @@ report-same plan es = ap report_text (run-same plan es) ∙ text-same (run plan 
 
 pub short-same : (plan : Plan) (es : List Event) → report_short (run (upgraded_plan plan) es) ≡ report_short (run plan es)
 short-same plan es = ap report_short (run-same plan es) ∙ short-text-same (run plan es)
+
+json-text-same : (w : World) → report_json (upgraded_world w) ≡ report_json w
+unfolding report_json
+json-text-same w = refl
+
+pub json-same : (plan : Plan) (es : List Event) → report_json (run (upgraded_plan plan) es) ≡ report_json (run plan es)
+json-same plan es = ap report_json (run-same plan es) ∙ json-text-same (run plan es)
 
 pub ideal-same : (plan : Plan) → ideal_text (upgraded_plan plan) ≡ ideal_text plan
 unfolding ideal_text ideal ideal_upto

@@ -8,8 +8,10 @@ ghost use Rattle.dpc_model.specs.declared.scripts.Script.{Script};
 ghost use Rattle.dpc_model.specs.ScriptText.{upgraded};
 ghost use Rattle.world_model.specs.Worlds.{World, happens, run};
 ghost use Rattle.world_model.specs.Schedules.{progress, may, is_live_so_far, is_live, lockstep_journal};
+ghost use Rattle.script_rules.specs.Checking.{IsChecked};
 ghost use Rattle.law_safety.specs.Plans.{IsCheckedPlan};
 ghost use Rattle.report.specs.Text.{report_text, report_short, ideal_text};
+ghost use Rattle.client_reports.specs.Json.{report_json};
 ghost use Rattle.law_upgrade.specs.Upgrading.{upgraded_plan, upgraded_world, upgraded_progress};
 
 /// Any event makes the same of any world, whatever version its plan has.
@@ -39,10 +41,11 @@ pub fn upgraded_scripts_have_the_same_journals()
     ensures stands { (s : Script) (es : List Event) → progress (upgraded s) es ≡ upgraded_progress (progress s es) }
 {}
 
-/// And a report of a run is the same text, as the failure-free streams are.
+/// And a report of a run is the same text, also in JSON, as the failure-free streams are.
 pub fn upgraded_reports_are_the_same()
     ensures report { (plan : Plan) (events : List Event) → report_text (run (upgraded_plan plan) events) ≡ report_text (run plan events) }
     ensures short { (plan : Plan) (events : List Event) → report_short (run (upgraded_plan plan) events) ≡ report_short (run plan events) }
+    ensures json { (plan : Plan) (events : List Event) → report_json (run (upgraded_plan plan) events) ≡ report_json (run plan events) }
     ensures ideal { (plan : Plan) → ideal_text (upgraded_plan plan) ≡ ideal_text plan }
 {}
 
@@ -50,4 +53,9 @@ pub fn upgraded_reports_are_the_same()
 pub fn upgraded_plans_are_checked_as_before()
     ensures stays { (plan : Plan) → IsCheckedPlan plan → IsCheckedPlan (upgraded_plan plan) }
     ensures was { (plan : Plan) → IsCheckedPlan (upgraded_plan plan) → IsCheckedPlan plan }
+{}
+
+/// A checked script, of whatever version, is checked once it is upgraded.
+pub fn upgraded_scripts_are_checked()
+    ensures { (s : Script) → IsChecked s → IsChecked (upgraded s) }
 {}

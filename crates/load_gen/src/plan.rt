@@ -175,7 +175,8 @@ fn client(alloc: Global, bytes: &[u8], frag: u64) -> Result<ClientSpec, NoMemory
 
 /// The three clients.
 fn clients(alloc: Global) -> Result<Listed<ClientSpec>, NoMemory>
-    ensures { IfOk result (λ cs. cs ≡ client_of (codes "x") (Frag 2) ∷ client_of (codes "y") (Frag 4) ∷ client_of (codes "z") (Frag 5) ∷ []) }
+    ensures { IfOk result (λ cs. cs ≡ client_of (codes "x") (Frag 2) ∷ client_of (codes "y") (Frag 4) ∷
+        client_of (codes "z") (Frag 5) ∷ []) }
 {
     let mut clients = Vec::with_capacity(alloc, 3)?;
     clients.push(client(alloc, b"x", 2)?)?;

@@ -1,8 +1,7 @@
 -- Which event of a longer journal would pass a limit first.
 use Rattle.std.proofs.Common.{◌≡◌, true, false, cond, List, [], ◌∷◌, ◌++◌, Some, None, refl}
 use Rattle.dpc_model.specs.declared.messages.Event.{Event}
-use Rattle.world_model.specs.Worlds.{World, Sums, happens, run_from, sums_after, passes_limit}
-use Rattle.world_core.specs.Runs.{excess_from}
+use Rattle.world_model.specs.Worlds.{World, Sums, happens, run_from, sums_after, passes_limit, excess_from}
 
 -- where there was one, it is the same of more events
 pub excess-more : (w : World) (es fs : List Event) (s : Sums) → excess_from w es ≡ Some s → excess_from w (es ++ fs) ≡ Some s

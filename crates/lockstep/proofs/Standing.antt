@@ -8,10 +8,10 @@ use Rattle.std.proofs.lemmas.List.Sums.{fold-append}
 use Rattle.std.proofs.lemmas.Result.{err_from_is_err_and}
 use Rattle.dpc_model.specs.declared.messages.Event.{Event}
 use Rattle.dpc_model.specs.declared.plans.Plan.{Plan}
-use Rattle.world_model.specs.Worlds.{World, Sums, new_world, happens, run, passes_limit}
+use Rattle.world_model.specs.Worlds.{World, Sums, new_world, happens, run, passes_limit, WouldReach, excess}
 use Rattle.world_model.specs.Schedules.{Told, tell}
 use Rattle.world_model.proofs.Running.{run-push}
-use Rattle.world_core.specs.Runs.{RunOf, world_of, WouldReach, excess}
+use Rattle.world_core.specs.Runs.{RunOf, world_of}
 use Rattle.world_core.specs.declared.faults.ApplyFault.{ApplyFault}
 use Rattle.world_core.specs.declared.faults.ApplyFault.TheVariants as of_apply
 use Rattle.lockstep.specs.Faults.{fault_of}

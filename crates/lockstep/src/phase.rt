@@ -1,8 +1,9 @@
 //! A run so far, and its phases.
-ghost use Rattle.std.specs.Prelude.{◌≡◌, ◌+◌, false, fold, length, map, max, IfOk, OnOk, IfErr};
+ghost use Rattle.std.specs.Prelude.{◌≡◌, ◌+◌, true, false, [], fold, length, map, max, IfOk, OnOk, IfErr};
+ghost use Rattle.dpc_model.specs.declared.scripts.Script.{Script};
 ghost use Rattle.world_model.specs.Schedules.{quiet_limit, tell_phase, tell_phases, tell_quiet, Told};
 ghost use Rattle.world_core.specs.Runs.{world_of};
-ghost use Rattle.lockstep.specs.Locking.{IsAt, Follows, Exceeds};
+ghost use Rattle.lockstep.specs.Locking.{IsAt, Follows, Exceeds, StandsBehind, IsWhole};
 
 use crate::events::phase_events;
 use crate::faults::RunFault;
@@ -45,8 +46,9 @@ pub struct RunSoFar {
 }
 
 impl RunSoFar {
-    /// Before the first phase.
+    /// Before the first phase, of a world in which nothing happened yet.
     pub fn new(world: World) -> RunSoFar
+        requires { world.events ≡ [] }
         ensures { result ≡ record { world = world; phase = 1; first = 0; now = 0 } }
     {
         RunSoFar {
@@ -116,11 +118,12 @@ impl RunSoFar {
     }
 
     /// The end of a run: quiet phases, at most as many as the plan lets there be, until every client is
-    /// settled.
+    /// settled. Behind all phases of a script the run is then whole, and its journal live.
     pub fn settle(self, alloc: Global) -> Result<World, RunFault>
         requires { self.world.spent ≡ false }
         ensures ok { IfOk result (λ w. Follows (tell_quiet (quiet_limit self.world.plan) self.phase self.first
             (self.now + 1)) self.world w) }
+        ensures whole { IfOk result (λ w. (script : Script) → script.settle ≡ true → StandsBehind script self → IsWhole script w) }
         ensures long { IfErr result (Exceeds (tell_quiet (quiet_limit self.world.plan) self.phase self.first (self.now + 1)) self.world) }
     {
         let most = quiet_limit(self.world.plan());

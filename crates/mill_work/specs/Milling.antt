@@ -2,11 +2,11 @@
 use Rattle.std.specs.Prelude.{◌≡◌, ℕ, ◌+◌, ◌^◌, ◌<◌, ◌≤◌, Bool, false, List, ◌++◌, length, Option, unwrap_or}
 use Rattle.dpc_model.specs.Limits.{most_milled}
 use Rattle.dpc_model.specs.Operators.{all_of}
-use Rattle.dpc_model.specs.Engines.{engine_value}
+use Rattle.dpc_model.specs.Engines.{engine_value, AcceptsAll}
 use Rattle.dpc_model.specs.declared.operators.OpSpec.{OpSpec}
 use Rattle.dpc_model.specs.declared.tuples.Tuple.{Tuple}
 use Rattle.dpc_model.specs.declared.tuples.Tagged.{Tagged}
-use Rattle.checkpoint_redo.specs.Keeping.{AcceptsAll, added_by}
+use Rattle.checkpoint_redo.specs.Keeping.{added_by}
 
 -- the node and its incarnation, the bucket where it begins, the engine before it, and the buckets
 pub record OrderValue (M : Type 0) : Type 0 where

@@ -3,9 +3,9 @@ use Rattle.std.proofs.Common.{◌≡◌, ℕ, zero, suc, ◌+◌, ◌*◌, ◌<�
 use Rattle.std.proofs.lemmas.List.{map-append, take_all}
 use Rattle.std.specs.Prelude.{if◌then◌else◌}
 use Rattle.dpc_model.specs.Actors.{senders_of}
-use Rattle.dpc_model.specs.Inlets.{InletState}
+use Rattle.dpc_model.specs.Inlets.{InletState, no_inlet}
 use Rattle.dpc_lists.specs.Lists.{nth, sort_by}
-use Rattle.dpc_model.specs.Parts.{Inputs, Outputs, Neighbours}
+use Rattle.dpc_model.specs.Parts.{Inputs, Outputs, Neighbours, AreInOrder}
 use Rattle.dpc_model.specs.Ports.{Port, no_port, acks_to}
 use Rattle.dpc_model.specs.Sessions.{no_session, tally_of}
 use Rattle.dpc_model.specs.Streams.{count_below}
@@ -17,15 +17,14 @@ use Rattle.dpc_model.specs.declared.operators.OpSpec.{OpSpec}
 use Rattle.dpc_model.specs.declared.plans.StreamRef.{StreamRef}
 use Rattle.dpc_model.specs.declared.plans.StreamRef.TheVariants.{Source}
 use Rattle.dpc_model.specs.declared.sessions.Sub.{Sub}
-use Rattle.sunion.specs.Unions.{AreInOrder, no_inlet}
 use Rattle.node_links.specs.Linking.{peers_in}
 use Rattle.pipeline.specs.Flowing.{StandsForData}
 use Rattle.node_model.specs.Mails.{Plain, Mail, mail, mails, in_actor_order, to_each}
 use Rattle.node_model.specs.Nodes.{Home, spec_of, streams_of, own_readers, PlainNode}
 use Rattle.node_model.specs.NodeSteps.{peers_of, done_at, acks_from, beat_of, beats, announcing_step}
 use Rattle.node_model.specs.NodeParts.{inputs_of, outputs_of}
-use Rattle.law_node.specs.Fitting.{IsFit}
-use Rattle.law_node.proofs.Viewed.{inlet-at}
+use Rattle.node_model.specs.Fitting.{IsFit}
+use Rattle.node_model.proofs.Viewed.{inlet-at}
 use Rattle.node_core.specs.declared.packets.Mail as code_mail
 use Rattle.node_core.specs.Standing.{NodeValue, StandsForNode, AreMails}
 use Rattle.node_core.specs.Stepping.{IsSound, Steps, plain_mail, beat_with}

@@ -25,8 +25,8 @@ use Rattle.node_model.specs.NodeParts.{inputs_of, outputs_of}
 use Rattle.pipeline.specs.Flowing.{PipelineValue, StandsForData, IsSetAs, stream_at}
 use Rattle.pipeline.specs.Messages.{HasAnswered, answer_in}
 use Rattle.pipeline.specs.Recovery.{StandsForSnapshot, snap_of}
-use Rattle.law_node.specs.Fitting.{IsFit}
-use Rattle.law_node.proofs.Viewed.{made_of, done-is, stable-is, shown-is}
+use Rattle.node_model.specs.Fitting.{IsFit}
+use Rattle.node_model.proofs.Viewed.{made_of, done-is, stable-is, shown-is}
 use Rattle.node_core.specs.declared.packets.Mail as code_mail
 use Rattle.node_core.specs.declared.packets.Packet.TheVariants as packet
 use Rattle.node_core.specs.Standing.{NodeValue, StandsForNode, AreMails}

@@ -14,7 +14,7 @@ use Rattle.node_model.specs.Mails.{Stepped, to_each}
 use Rattle.node_model.specs.Nodes.{Home, PlainNode, out_stable, wants_to_reconcile}
 use Rattle.node_model.specs.NodeSteps.{idle_step, peers_of, peer_watches, enter_step, ask_step, snapshot_ask_step}
 use Rattle.node_model.specs.NodeParts.{neighbours_of}
-use Rattle.law_node.specs.Fitting.{IsFit}
+use Rattle.node_model.specs.Fitting.{IsFit}
 use Rattle.node_core.specs.declared.packets.Mail as code_mail
 use Rattle.node_core.specs.Standing.{NodeValue, StandsForNode, AreMails}
 use Rattle.node_core.specs.Stepping.{IsSound, Steps, taken_back, plain_mail}

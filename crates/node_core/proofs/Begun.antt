@@ -1,29 +1,28 @@
 -- A new node, and one that restarted.
-use Rattle.std.proofs.Common.{◌≡◌, ℕ, zero, suc, ◌<◌, Bool, true, false, ◌==◌, List, [], ◌∷◌, map, length, refl, sym, ap, subst, ◌∙◌, arith, Some, slice_get, replicate}
-use Rattle.std.specs.Prelude.{if◌then◌else◌}
+use Rattle.std.proofs.Common.{◌≡◌, ℕ, zero, suc, ◌<◌, true, false, ◌==◌, List, [], ◌∷◌, map, length, refl, sym, ap, subst, ◌∙◌, arith, Some, slice_get, replicate}
 use Rattle.dpc_lists.specs.Lists.{nth}
 use Rattle.dpc_model.specs.Inlets.{InletState, new_inlet, restarted_inlet, sess_of}
-use Rattle.dpc_model.specs.Ports.{Port, port_at}
+use Rattle.dpc_model.specs.Ports.{port_at}
 use Rattle.dpc_model.specs.Parts.{Inputs, Outputs}
 use Rattle.dpc_model.specs.Reading.{stable_reader}
-use Rattle.dpc_model.specs.Sessions.{Acked, no_session, opening_session}
+use Rattle.dpc_model.specs.Sessions.{Acked, no_session}
 use Rattle.dpc_model.specs.declared.sessions.Sub.{Sub}
 use Rattle.dpc_model.specs.declared.messages.NodeState.TheVariants.{Stable, Stabilization}
 use Rattle.dpc_model.specs.declared.plans.FragSpec.{FragSpec}
 use Rattle.dpc_model.specs.declared.plans.Plan.{Plan}
 use Rattle.dpc_model.specs.declared.plans.StreamRef.{StreamRef}
 use Rattle.dpc_lists.proofs.Places.{same-each}
-use Rattle.node_model.specs.Nodes.{Home, no_fragment, spec_of, streams_of, own_readers, PlainNode, new_node, restarted_node, first_session}
-use Rattle.node_model.specs.NodeParts.{inputs_of, outputs_of, neighbours_of}
+use Rattle.node_model.specs.Nodes.{Home, no_fragment, spec_of, streams_of, own_readers, new_node, restarted_node, first_session}
+use Rattle.node_model.specs.NodeParts.{inputs_of, outputs_of}
 use Rattle.node_links.specs.Linking.{LinksValue, new_links}
 use Rattle.node_links.specs.Laws.{KnowsNeighbours}
 use Rattle.node_links.proofs.Lawful.{new-links-stand}
 use Rattle.sunion.specs.Laws.{new_inputs}
 use Rattle.pipeline.specs.Flowing.{PipelineValue, StandsForData}
 use Rattle.pipeline.specs.Recovery.{IsSetFor, opened_outputs, restarted_inputs, restarted_outputs}
-use Rattle.law_node.proofs.Viewed.{inlets}
+use Rattle.node_model.proofs.Viewed.{inlets}
 use Rattle.node_model.specs.Making.{IsReplica}
-use Rattle.node_core.specs.Standing.{NodeValue, StandsForNode}
+use Rattle.node_core.specs.Standing.{StandsForNode}
 
 there : {X : Type 0} (d : X) (xs : List X) (i : ℕ) → i < length xs → slice_get xs i ≡ Some (nth d xs i)
 there d [] i h = absurd (omega (arith, h))

@@ -25,9 +25,9 @@ use Rattle.node_model.specs.Mails.{Plain, mails}
 use Rattle.node_model.specs.Nodes.{Home, spec_of, streams_of, PlainNode}
 use Rattle.node_model.specs.NodeSteps.{with_port}
 use Rattle.node_model.specs.NodeParts.{inputs_of, outputs_of, upstream_of, neighbours_of}
-use Rattle.law_node.specs.Fitting.{IsFit}
+use Rattle.node_model.specs.Fitting.{IsFit}
 use Rattle.law_node.proofs.Messages.{choice-inputs, choice-neighbours}
-use Rattle.law_node.proofs.Viewed.{inlet-at}
+use Rattle.node_model.proofs.Viewed.{inlet-at}
 use Rattle.node_core.specs.Standing.{NodeValue, StandsForNode, AreMails}
 use Rattle.node_core.specs.Stepping.{IsSound, Steps, plain_mail, choice_at_port}
 use Rattle.node_core.proofs.Frames.{set-later, inlets-many, upstreams-many}

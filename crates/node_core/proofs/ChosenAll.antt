@@ -11,7 +11,7 @@ use Rattle.dpc_lists.proofs.Mapped.{mapped_to}
 use Rattle.node_model.specs.Mails.{Mail, mail, mails}
 use Rattle.node_model.specs.Nodes.{Home, streams_of, PlainNode}
 use Rattle.node_model.specs.NodeSteps.{with_port, choice_step}
-use Rattle.law_node.specs.Fitting.{IsFit}
+use Rattle.node_model.specs.Fitting.{IsFit}
 use Rattle.law_node.proofs.FitNodes.{fit-choice-at}
 use Rattle.node_core.specs.declared.packets.Mail as code_mail
 use Rattle.node_core.specs.Standing.{NodeValue, StandsForNode, AreMails}

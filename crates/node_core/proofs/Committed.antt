@@ -1,15 +1,13 @@
 -- Work that was done apart: whether the node still stands where it was taken, and what it is to be put back.
-use Rattle.std.proofs.Common.{◌≡◌, ◌↔◌, ℕ, ◌-◌, ◌<◌, ◌≤◌, Bool, true, false, not, ◌||◌, ◌==◌, nat_lt, List, length, refl, sym, ap, subst, ◌∙◌, arith, IsTrue, Result, Ok, Err}
-use Rattle.dpc_model.specs.PartStands.{at_cursor}
+use Rattle.std.proofs.Common.{◌≡◌, ℕ, ◌<◌, ◌≤◌, Bool, true, false, not, ◌||◌, ◌==◌, nat_lt, List, length, refl, sym, ap, subst, ◌∙◌, arith, IsTrue, Result, Ok, Err}
 use Rattle.dpc_model.specs.declared.tuples.Tuple.{Tuple}
-use Rattle.dpc_model.specs.declared.tuples.Tagged.{Tagged}
 use Rattle.law_buckets.specs.Series.{buckets_from, AreReady}
 use Rattle.fragment_mill.specs.Mills.{MillState}
 use Rattle.mill_work.specs.Milling.{OrderValue}
 use Rattle.pipeline.specs.Committing.{ready_in, CanMillReady, IsAt, IsDone, CanPut}
-use Rattle.node_model.specs.Nodes.{Home, spec_of, buckets_of, PlainNode, ready}
+use Rattle.node_model.specs.Nodes.{Home, spec_of, buckets_of, PlainNode}
 use Rattle.node_model.specs.NodeParts.{inputs_of, outputs_of}
-use Rattle.law_node.specs.Fitting.{IsFit}
+use Rattle.node_model.specs.Fitting.{IsFit}
 use Rattle.law_node.proofs.Buckets.{buckets-are}
 use Rattle.law_node.proofs.Fits.{are-ready, some-ready}
 use Rattle.dpc_model.specs.Limits.{most_milled}
@@ -17,9 +15,10 @@ use Rattle.dpc_lists.proofs.Truths.{eq-of, not-false, neither}
 use Rattle.node_core.specs.declared.faults.Point.{Point}
 use Rattle.node_core.specs.declared.faults.CommitFault.{CommitFault}
 use Rattle.node_core.specs.declared.faults.CommitFault.TheVariants.{Stale}
-use Rattle.node_core.specs.Milling.{CanMill, CanMillNode, next_buckets, Fits, IsBeside, needed_by, is_stale, WasStale}
+use Rattle.node_core.specs.Milling.{CanMill, CanMillNode, Fits, IsWorkAt, IsBeside, needed_by, is_stale, WasStale}
 use Rattle.node_core.specs.Standing.{NodeValue, StandsForNode}
 use Rattle.node_core.proofs.Milled.{can-mill-path}
+use Rattle.node_core.proofs.Orders.{engine-at}
 use Rattle.node_core.proofs.Readying.{none-ready, all-ready}
 
 -- all ready buckets can be processed
@@ -36,24 +35,24 @@ can-ready home v p h fit =
 
 -- ---- whether it fits
 
-pub fits-at : (home : Home) (v : NodeValue) (p : PlainNode) (o : OrderValue MillState) → StandsForNode home v p → v.recovering ≡ false → IsAt v.path (inputs_of p) o → Fits home v p o
+pub fits-at : (home : Home) (v : NodeValue) (p : PlainNode) (o : OrderValue MillState) → StandsForNode home v p → v.recovering ≡ false → IsAt (spec_of home).ops v.path (inputs_of p) o → Fits home p o
 fits-at home v p o h up at =
     record {
-      engine = at.engine;
+      engine = (engine-at home v p o.before h).0 at.engine;
       ready = subst (λ (k : ℕ). length o.buckets ≤ k) (sym (all-ready home v p h up)) at.few;
       buckets = at.buckets ∙ ap (λ (w : ℕ). buckets_from w (inputs_of p) p.cursor (length o.buckets)) h.setting.width ∙ sym (buckets-are home p p.cursor (length o.buckets));
     }
 
-pub at-fits : (home : Home) (v : NodeValue) (p : PlainNode) (o : OrderValue MillState) → StandsForNode home v p → v.recovering ≡ false → Fits home v p o → IsAt v.path (inputs_of p) o
+pub at-fits : (home : Home) (v : NodeValue) (p : PlainNode) (o : OrderValue MillState) → StandsForNode home v p → v.recovering ≡ false → Fits home p o → IsAt (spec_of home).ops v.path (inputs_of p) o
 at-fits home v p o h up fits =
     record {
-      engine = fits.engine;
+      engine = (engine-at home v p o.before h).1 fits.engine;
       few = subst (λ (k : ℕ). length o.buckets ≤ k) (all-ready home v p h up) fits.ready;
       buckets = fits.buckets ∙ buckets-are home p p.cursor (length o.buckets) ∙ ap (λ (w : ℕ). buckets_from w (inputs_of p) p.cursor (length o.buckets)) (sym h.setting.width);
     }
 
 -- a node that recovers has no ready bucket, and an order has some
-pub none-fits : (home : Home) (v : NodeValue) (p : PlainNode) (o : OrderValue MillState) → StandsForNode home v p → v.recovering ≡ true → 1 ≤ length o.buckets → Fits home v p o → IsTrue false
+pub none-fits : (home : Home) (v : NodeValue) (p : PlainNode) (o : OrderValue MillState) → StandsForNode home v p → v.recovering ≡ true → 1 ≤ length o.buckets → Fits home p o → IsTrue false
 none-fits home v p o h e some fits = let none = none-ready home v p h e in let few = fits.ready in absurd (omega (arith, none, few, some))
 
 -- ---- whether it is stale
@@ -77,31 +76,30 @@ not-stale had needed e =
 -- ---- what is put back
 
 pub can-put : (home : Home) (v : NodeValue) (p : PlainNode) (o : OrderValue MillState) (after : MillState) (outputs : List Tuple) → 1 ≤ length o.buckets → IsDone o after outputs →
-    Fits home v p o → CanMill (length o.buckets) home v p → CanPut (spec_of home).ops v.path (inputs_of p) (outputs_of p) (length o.buckets) after outputs
+    Fits home p o → CanMill (length o.buckets) home v p → CanPut (spec_of home).ops v.path (inputs_of p) (outputs_of p) (length o.buckets) after outputs
 can-put home v p o after outputs some done fits can =
     record {
       can = can-mill-path home v p (length o.buckets) some can;
       order = o;
-      engine = sym fits.engine;
+      engine = (engine-at home v p o.before can.stands).1 fits.engine;
       buckets = fits.buckets ∙ buckets-are home p p.cursor (length o.buckets) ∙ ap (λ (w : ℕ). buckets_from w (inputs_of p) p.cursor (length o.buckets)) (sym can.stands.setting.width);
       milled = done;
     }
 
 -- what a point beside an order that is not stale says
-pub stands-there : (home : Home) (v : NodeValue) (p : PlainNode) (o : OrderValue MillState) (had needed : Point) → needed ≡ needed_by o → is_stale had needed ≡ false → IsBeside home v p o had →
-    (o.inc ≡ v.links.known.grants.inc) × (o.cursor ≡ v.path.union.union.cursor) × Fits home v p o
-stands-there home v p o had needed same e beside =
+pub stands-there : (home : Home) (p : PlainNode) (o : OrderValue MillState) (had needed : Point) → needed ≡ needed_by o → is_stale had needed ≡ false → IsBeside home p o had → IsWorkAt home p o
+stands-there home p o had needed same e beside =
     let there = not-stale had (needed_by o) (subst (λ (n : Point). is_stale had n ≡ false) same e) in
-    (sym there.inc ∙ beside.inc, sym there.cursor ∙ beside.cursor, beside.fits.0 (subst (λ (b : Bool). IsTrue b) (sym there.fits) refl))
+    record { inc = sym there.inc ∙ beside.inc; cursor = sym there.cursor ∙ beside.cursor; fits = beside.fits.0 (subst (λ (b : Bool). IsTrue b) (sym there.fits) refl) }
 
 -- so many buckets may be processed then
 pub can-mill-there : (home : Home) (v : NodeValue) (p : PlainNode) (o : OrderValue MillState) → StandsForNode home v p → IsFit home p → 1 ≤ length o.buckets → length o.buckets ≤ most_milled →
-    Fits home v p o → CanMillNode (length o.buckets) v
+    Fits home p o → CanMillNode (length o.buckets) v
 can-mill-there home v p o h fit some few fits = record { some = some; few = few; node = (home, p, record { stands = h; fit = fit; ready = fits.ready }) }
 
 -- where it is stale nothing changed
 pub was-stale : (v : NodeValue) (o : OrderValue MillState) (had needed : Point) → needed ≡ needed_by o → is_stale had needed ≡ true →
-    ((home : Home) (p : PlainNode) → StandsForNode home v p → IsFit home p → IsBeside home v p o had) → WasStale o v v had needed
+    ((home : Home) (p : PlainNode) → StandsForNode home v p → IsFit home p → IsBeside home p o had) → WasStale o v v had needed
 was-stale v o had needed same e beside = record { stays = refl; asked = same; stale = e; beside = beside }
 
 abbrev stale-of : {X : Type 0} → Result X CommitFault → CommitFault → CommitFault

@@ -25,8 +25,8 @@ use Rattle.node_model.specs.NodeSteps.{after_taking, on_batch, on_upstream_beat,
 use Rattle.node_model.specs.NodeParts.{inputs_of, outputs_of, upstream_of, neighbours_of}
 use Rattle.pipeline.specs.Flowing.{PipelineValue, StandsForData, IsSetAs}
 use Rattle.pipeline.specs.Messages.{IsTakenAt}
-use Rattle.law_node.specs.Fitting.{IsFit, IsFitMessage}
-use Rattle.law_node.proofs.Viewed.{inlet-at}
+use Rattle.node_model.specs.Fitting.{IsFit, IsFitMessage}
+use Rattle.node_model.proofs.Viewed.{inlet-at}
 use Rattle.law_node.proofs.Messages.{taking-inputs, taking-neighbours, beat-inputs}
 use Rattle.node_core.specs.Standing.{NodeValue, StandsForNode}
 use Rattle.node_core.proofs.Frames.{set-later, stand-path, inlets-many, upstreams-many}

@@ -1,22 +1,19 @@
 -- A node goes on to stand for a plain one where its parts do.
-use Rattle.std.proofs.Common.{◌≡◌, ℕ, ◌*◌, Bool, List, map, length, sym, ap, subst, ◌∙◌}
+use Rattle.std.proofs.Common.{◌≡◌, ℕ, ◌*◌, Bool, length, sym, ap, subst, ◌∙◌}
 use Rattle.std.proofs.lemmas.Slice.Zip.{AllZip-long}
 use Rattle.std.proofs.lemmas.List.{length-map}
 use Rattle.dpc_model.specs.Fragments.{fragment_value}
-use Rattle.dpc_model.specs.Inlets.{InletState}
 use Rattle.dpc_model.specs.Ports.{Port}
-use Rattle.dpc_model.specs.Parts.{Inputs, Stream, stream_by, Outputs, Upstream, Neighbours}
-use Rattle.dpc_model.specs.PartStands.{InletValue, StandsForInlet}
+use Rattle.dpc_model.specs.Parts.{Inputs, Stream, stream_by, Outputs, Neighbours}
+use Rattle.dpc_model.specs.PartStands.{StandsForInlet}
 use Rattle.dpc_model.specs.declared.plans.FragSpec.{FragSpec}
 use Rattle.dpc_model.specs.declared.plans.Plan.{Plan}
 use Rattle.node_model.specs.Nodes.{Home, spec_of, PlainNode, out_stable}
 use Rattle.node_model.specs.NodeParts.{inputs_of, outputs_of, upstream_of, neighbours_of}
-use Rattle.node_links.specs.Linking.{LinksValue}
-use Rattle.node_links.specs.Laws.{KnowsNeighbours}
 use Rattle.pipeline.specs.Flowing.{PipelineValue, StandsForData, IsSetAs, stream_at}
 use Rattle.pipeline.specs.Recovery.{IsSetFor}
 use Rattle.law_node.proofs.Stepped.{made_by}
-use Rattle.law_node.proofs.Viewed.{made_of, stable-is}
+use Rattle.node_model.proofs.Viewed.{made_of, stable-is}
 use Rattle.node_core.specs.Standing.{NodeValue, StandsForNode}
 
 -- ---- what is set

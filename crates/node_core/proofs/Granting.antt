@@ -1,5 +1,5 @@
 -- What a node leaves and sends that is granted its ask, or gets a snapshot, and how it takes a packet.
-use Rattle.std.proofs.Common.{◌≡◌, ℕ, Bool, true, false, ◌==◌, ◌&&◌, List, [], ◌∷◌, length, refl, sym, ap, subst, ◌∙◌, arith, Option, Some, None, Box, Global}
+use Rattle.std.proofs.Common.{◌≡◌, ℕ, Bool, true, ◌&&◌, List, [], refl, sym, ap, subst, ◌∙◌, Box, Global}
 use Rattle.std.specs.Prelude.{if◌then◌else◌}
 use Rattle.dpc_model.specs.Parts.{Neighbours}
 use Rattle.dpc_model.specs.Granting.{with_ask, may_enter_by}
@@ -7,17 +7,15 @@ use Rattle.dpc_model.specs.NodeStates.{is_up_failure}
 use Rattle.dpc_model.specs.declared.messages.Message.{Message}
 use Rattle.dpc_model.specs.declared.messages.NodeState.{NodeState}
 use Rattle.node_links.specs.Linking.{LinksValue}
-use Rattle.node_model.specs.Mails.{Snap, Packet, Plain, SnapFor, Stepped}
+use Rattle.node_model.specs.Mails.{Packet, Stepped}
 use Rattle.pipeline.specs.declared.snapshots.Snapshot.{Snapshot}
 use Rattle.node_model.specs.Nodes.{Home, PlainNode, out_stable}
-use Rattle.node_model.specs.NodeSteps.{idle_step, enter_step, after_adoption, on_grant, on_snap, on_message, packet_step, with_marks_ended}
-use Rattle.node_model.specs.NodeParts.{neighbours_of}
-use Rattle.law_node.specs.Fitting.{IsFit, IsFitPacket}
+use Rattle.node_model.specs.NodeSteps.{idle_step, enter_step, on_grant, on_snap, on_message, packet_step, with_marks_ended}
+use Rattle.node_model.specs.Fitting.{IsFit, IsFitPacket}
 use Rattle.law_node.proofs.FitNodes.{fit-marks}
 use Rattle.node_core.specs.declared.packets.Mail as code_mail
-use Rattle.node_core.specs.declared.packets.Packet as code
 use Rattle.node_core.specs.declared.packets.Packet.TheVariants as packet
-use Rattle.node_core.specs.Standing.{NodeValue, StandsForNode, AreMails}
+use Rattle.node_core.specs.Standing.{NodeValue, StandsForNode}
 use Rattle.node_core.specs.Stepping.{Follows, Steps, IsTakenAs, IsTaken, CanTake, CanTakeMessage, CanAdopt, taken_back}
 use Rattle.node_core.proofs.Frames.{stand-links}
 use Rattle.node_core.proofs.Answering.{silently}

@@ -2,14 +2,10 @@
 use Rattle.std.proofs.Common.{◌≡◌, ℕ, List, [], ◌∷◌, ◌++◌, ◌∙◌, map, refl, ap, append_assoc}
 use Rattle.dpc_lists.specs.Lists.{nth}
 use Rattle.dpc_model.specs.declared.messages.Message.{Message}
-use Rattle.dpc_model.specs.declared.messages.Message.TheVariants as message
-use Rattle.dpc_model.specs.declared.messages.Sess.{Sess}
-use Rattle.dpc_model.specs.declared.sessions.Sub.{Sub}
-use Rattle.dpc_model.specs.declared.tuples.Item.{Item}
 use Rattle.node_model.specs.Mails.{Mail, to_readers}
 use Rattle.node_model.specs.Nodes.{Home}
 use Rattle.node_core.specs.declared.packets.Mail as code_mail
-use Rattle.node_core.specs.Standing.{StandsForMail, AreMails}
+use Rattle.node_core.specs.Standing.{AreMails}
 use Rattle.node_core.specs.Stepping.{plain_mail}
 
 -- mails to readers stand for the plain ones

@@ -1,5 +1,5 @@
 -- Ready buckets are processed: where the node stands then, and what it sends.
-use Rattle.std.proofs.Common.{◌≡◌, ℕ, ◌+◌, ◌<◌, ◌≤◌, Bool, true, false, List, [], ◌∷◌, map, refl, sym, ap, subst, ◌∙◌, arith}
+use Rattle.std.proofs.Common.{◌≡◌, ℕ, ◌<◌, ◌≤◌, Bool, true, false, List, [], map, refl, sym, ap, subst, ◌∙◌}
 use Rattle.dpc_lists.specs.Lists.{nth}
 use Rattle.dpc_model.specs.Granting.{with_ask_over}
 use Rattle.dpc_model.specs.Parts.{Inputs, Outputs, Stream, Neighbours}
@@ -17,7 +17,7 @@ use Rattle.node_model.specs.NodeSteps.{mill_step}
 use Rattle.node_model.specs.NodeParts.{inputs_of, outputs_of, neighbours_of}
 use Rattle.law_node.proofs.FitNodes.{node-ready}
 use Rattle.law_node.proofs.Stepped.{made_by, ends_by, mill_items, mill-inputs, mill-sends, mill-outputs}
-use Rattle.law_node.proofs.Viewed.{made_of}
+use Rattle.node_model.proofs.Viewed.{made_of}
 use Rattle.node_core.specs.declared.packets.Mail as code_mail
 use Rattle.node_core.specs.Milling.{CanMill, MillSteps, corrected}
 use Rattle.node_core.specs.Standing.{NodeValue, StandsForNode, AreMails}

@@ -20,11 +20,11 @@ use Rattle.node_model.specs.Mails.{Stepped, Mail, to_readers}
 use Rattle.node_model.specs.Nodes.{Home, spec_of, own_readers, buckets_of, PlainNode, due_at, due_inputs}
 use Rattle.node_model.specs.NodeSteps.{idle_step, processing_upto, processing_step}
 use Rattle.node_model.specs.NodeParts.{inputs_of, outputs_of}
-use Rattle.law_node.specs.Fitting.{IsFit}
+use Rattle.node_model.specs.Fitting.{IsFit}
 use Rattle.law_node.proofs.Buckets.{held-in-is}
 use Rattle.law_node.proofs.Fits.{due-lies, can-close, can-advance}
 use Rattle.law_node.proofs.Stepped.{made_by, upto_items, upto-inputs, upto-sends, upto-outputs}
-use Rattle.law_node.proofs.Viewed.{made_of}
+use Rattle.node_model.proofs.Viewed.{made_of}
 use Rattle.node_core.specs.declared.packets.Mail as code_mail
 use Rattle.node_core.specs.Standing.{NodeValue, StandsForNode, AreMails}
 use Rattle.node_core.specs.Stepping.{IsSound, Steps, plain_mail}

@@ -1,13 +1,10 @@
 -- How many buckets are ready, and which are the last corrections.
-use Rattle.std.proofs.Common.{◌≡◌, ℕ, ◌+◌, ◌-◌, ◌≤◌, Bool, true, false, ◌&&◌, ◌==◌, List, [], ◌∷◌, refl, sym, ap, subst, ◌∙◌, arith}
+use Rattle.std.proofs.Common.{◌≡◌, ℕ, ◌+◌, ◌-◌, ◌≤◌, Bool, true, false, ◌==◌, List, refl, sym, ap, subst, ◌∙◌, arith}
 use Rattle.std.proofs.lemmas.Grind.{common_steps}
 use Rattle.std.specs.Prelude.{if◌then◌else◌}
 use Rattle.dpc_lists.specs.Lists.{is_nil}
-use Rattle.dpc_model.specs.NodeStates.{is_stabilization}
 use Rattle.dpc_model.specs.Parts.{Inputs, Outputs}
 use Rattle.dpc_model.specs.declared.operators.OpSpec.{OpSpec}
-use Rattle.dpc_model.specs.declared.tuples.Tagged.{Tagged}
-use Rattle.sunion.specs.Unions.{complete_upto_in}
 use Rattle.pipeline.specs.Committing.{ready_in}
 use Rattle.pipeline.specs.Flowing.{PipelineValue, StandsForData}
 use Rattle.node_model.specs.Nodes.{Home, spec_of, PlainNode, complete_buckets, ready}

@@ -2,13 +2,12 @@
 use Rattle.std.proofs.Common.{◌≡◌, ℕ, ◌*◌, ◌<◌, ◌^◌, true, false, List, [], ◌∷◌, map, length, refl, sym, ap, subst, ◌∙◌, arith, All}
 use Rattle.dpc_model.specs.Inlets.{InletState, restarted_inlet}
 use Rattle.dpc_model.specs.Ports.{Port}
-use Rattle.dpc_model.specs.Parts.{Inputs, Outputs, Upstream, Neighbours}
+use Rattle.dpc_model.specs.Parts.{Inputs, Upstream}
 use Rattle.dpc_model.specs.Reading.{stable_reader}
 use Rattle.dpc_lists.specs.Lists.{nth}
 use Rattle.dpc_model.specs.Sessions.{batches_of, with_batches}
 use Rattle.dpc_model.specs.declared.messages.Message.{Message}
 use Rattle.dpc_model.specs.declared.tuples.Item.TheVariants.{Undo}
-use Rattle.law_node.specs.Fitting.{IsFit}
 use Rattle.dpc_model.specs.declared.messages.NodeState.TheVariants.{Stable, Stabilization}
 use Rattle.dpc_model.specs.declared.tuples.Tuple.{Tuple}
 use Rattle.node_model.specs.Mails.{Snap}
@@ -24,7 +23,7 @@ use Rattle.sunion.specs.Laws.{inlets_anew}
 use Rattle.node_model.specs.Stands.{SnapValue}
 use Rattle.pipeline.specs.Flowing.{PipelineValue, StandsForData, IsSetAs, IsUndone, stream_at}
 use Rattle.pipeline.specs.Recovery.{StandsForSnapshot, snap_of, CanAdopt as CanAdoptPath, lost_inputs, lost_outputs, adopted_inputs, adopted_outputs}
-use Rattle.law_node.proofs.Viewed.{inlets, mapped-inlets, done-is}
+use Rattle.node_model.proofs.Viewed.{inlets, mapped-inlets, done-is}
 use Rattle.node_core.specs.Standing.{NodeValue, StandsForNode, AreMails}
 use Rattle.node_core.specs.Stepping.{CanAdopt, taken_back, plain_mail}
 use Rattle.node_core.proofs.Mailing.{readers-mails}

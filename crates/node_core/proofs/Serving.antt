@@ -1,23 +1,15 @@
 -- The steps of a tick, one behind another.
-use Rattle.std.proofs.Common.{◌≡◌, ℕ, ◌<◌, Bool, true, false, not, List, [], ◌∷◌, ◌++◌, length, refl, sym, ap, subst, ◌∙◌, nat_lt, Option, Some, None}
-use Rattle.std.proofs.lemmas.List.{length-map}
+use Rattle.std.proofs.Common.{◌≡◌, ℕ, ◌<◌, Bool, true, false, not, List, ◌++◌, refl, sym, ap, subst, ◌∙◌}
 use Rattle.std.specs.Prelude.{if◌then◌else◌}
-use Rattle.dpc_model.specs.NodeStates.{is_stabilization}
-use Rattle.dpc_model.specs.Parts.{Inputs}
-use Rattle.dpc_model.specs.Sessions.{with_batch, with_batches, given_items}
-use Rattle.dpc_model.specs.declared.sessions.Sub.{Sub}
-use Rattle.dpc_model.specs.declared.tuples.Item.{Item}
 use Rattle.node_links.specs.Linking.{nobody_can_help}
 use Rattle.dpc_model.specs.Parts.{Neighbours}
 use Rattle.node_links.proofs.Lawful.{ticks-stand}
 use Rattle.node_model.specs.Mails.{Stepped}
-use Rattle.node_model.specs.Nodes.{Home, buckets_of, PlainNode, out_stable, due_at, due_inputs}
-use Rattle.node_model.specs.NodeSteps.{idle_step, then_do, after_clock, may_start_afresh, with_fresh_start, choice_step, ask_step, count_upto, stably, after_buckets, given_by, processing_upto, processing_step, announcing_step, serving_step, snapshot_ask_step, rest_of_tick, tick_step, with_marks_ended}
+use Rattle.node_model.specs.Nodes.{Home, PlainNode}
+use Rattle.node_model.specs.NodeSteps.{then_do, after_clock, may_start_afresh, with_fresh_start, choice_step, ask_step, processing_step, announcing_step, serving_step, snapshot_ask_step, rest_of_tick, tick_step, with_marks_ended}
 use Rattle.node_model.specs.NodeParts.{neighbours_of}
-use Rattle.law_node.specs.Fitting.{AreFitInputs, IsFit}
-use Rattle.law_node.proofs.Buckets.{processed-inputs}
+use Rattle.node_model.specs.Fitting.{IsFit}
 use Rattle.law_node.proofs.FitNodes.{fit-marks, fit-clock, fit-afresh, fit-choice, fit-ask, fit-process}
-use Rattle.node_model.specs.NodeParts.{inputs_of}
 use Rattle.node_core.specs.declared.packets.Mail as code_mail
 use Rattle.node_core.specs.Standing.{NodeValue, StandsForNode, AreMails}
 use Rattle.node_core.specs.Stepping.{IsSound, Follows, Steps}

@@ -16,7 +16,7 @@ use Rattle.node_model.specs.Nodes.{Home, spec_of, PlainNode, held_by}
 use Rattle.node_model.specs.NodeSteps.{after_clock}
 use Rattle.node_model.specs.NodeParts.{inputs_of, outputs_of, neighbours_of}
 use Rattle.law_node.proofs.Buckets.{held-in-is}
-use Rattle.law_node.proofs.Viewed.{same-inlets}
+use Rattle.node_model.proofs.Viewed.{same-inlets}
 use Rattle.node_core.specs.Standing.{NodeValue, StandsForNode}
 use Rattle.node_core.proofs.Frames.{upstreams-many}
 

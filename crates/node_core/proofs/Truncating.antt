@@ -21,8 +21,8 @@ use Rattle.node_model.specs.NodeSteps.{with_port, after_loss, on_truncation}
 use Rattle.node_model.specs.NodeSteps.{with_marks_ended as with_ended_marks}
 use Rattle.node_model.specs.NodeParts.{inputs_of, outputs_of, upstream_of, neighbours_of}
 use Rattle.pipeline.proofs.Plainly.{sess-shown}
-use Rattle.law_node.specs.Fitting.{AreFitInputs, IsFit}
-use Rattle.law_node.proofs.Viewed.{inlets, inlet-at}
+use Rattle.node_model.specs.Fitting.{AreFitInputs, IsFit}
+use Rattle.node_model.proofs.Viewed.{inlets, inlet-at}
 use Rattle.law_node.proofs.Messages.{marks-inputs, truncated-inputs, changed-there}
 use Rattle.node_core.specs.Standing.{NodeValue, StandsForNode}
 use Rattle.node_core.proofs.Frames.{stand-links, upstreams-many}

@@ -1,18 +1,19 @@
 -- Processing ready buckets in the node, or apart from it.
-use Rattle.std.specs.Prelude.{◌≡◌, ◌↔◌, ℕ, ◌≤◌, ◌&&◌, ◌||◌, ◌==◌, Bool, true, false, not, nat_lt, if◌then◌else◌, IsTrue, List, length, map, Some}
+use Rattle.std.specs.Prelude.{◌≡◌, ◌↔◌, ℕ, ◌≤◌, ◌||◌, ◌==◌, Bool, true, not, nat_lt, if◌then◌else◌, IsTrue, List, length, map, Some}
 use Rattle.dpc_model.specs.Granting.{with_ask_over}
 use Rattle.dpc_model.specs.declared.messages.NodeState.TheVariants.{Stable}
 use Rattle.dpc_model.specs.Limits.{most_milled}
 use Rattle.dpc_lists.specs.Lists.{nth, range_with_len}
-use Rattle.dpc_model.specs.PartStands.{at_cursor}
 use Rattle.dpc_model.specs.declared.tuples.Tagged.{Tagged}
 use Rattle.fragment_mill.specs.Mills.{MillState}
 use Rattle.mill_work.specs.Milling.{OrderValue, IsOrder}
-use Rattle.node_model.specs.Nodes.{Home, PlainNode, bucket_of, ready}
+use Rattle.node_model.specs.Nodes.{Home, spec_of, PlainNode, bucket_of, ready}
+use Rattle.node_model.specs.NodeParts.{inputs_of}
 use Rattle.node_model.specs.NodeSteps.{mill_step}
+use Rattle.pipeline.specs.Flowing.{IsEngineOf}
 use Rattle.node_core.specs.declared.faults.Point.{Point}
 use Rattle.node_core.specs.declared.packets.Mail as code_mail
-use Rattle.law_node.specs.Fitting.{IsFit}
+use Rattle.node_model.specs.Fitting.{IsFit}
 use Rattle.node_core.specs.Standing.{NodeValue, StandsForNode, AreMails}
 
 -- so many buckets may be processed at a fit plain node that is stood for
@@ -46,28 +47,36 @@ next_buckets home p count = map (bucket_of home p) (range_with_len p.cursor coun
 abbrev pub CanBeMilled : OrderValue MillState → Type 0
 CanBeMilled o = IsOrder (λ (m : MillState). m.next) (λ (m : MillState). Some m.width) (λ (m : MillState). m.spent) o
 
--- an order for so many buckets of this node
-pub record IsOrderOf (v : NodeValue) (count : ℕ) (o : OrderValue MillState) : Type 0 where
-  pub node : o.node ≡ nth 0 v.links.replicas v.links.me
-  pub inc : o.inc ≡ v.links.known.grants.inc
-  pub cursor : o.cursor ≡ v.path.union.union.cursor
-  pub before : o.before ≡ at_cursor v.path.keeper.keeper
-  pub buckets : (home : Home) (p : PlainNode) → CanMill count home v p → o.buckets ≡ next_buckets home p count
-  pub can : CanBeMilled o
+-- the engine at the plain node's cursor: the operators of its fragment at the plan's width, unspent, after exactly what it processed
+abbrev pub IsEngineAt : Home → PlainNode → MillState → Type 0
+IsEngineAt home p m = IsEngineOf (spec_of home).ops home.plan.width (inputs_of p) m
 
--- the engine at the cursor is the order's, and the next ready buckets begin with the order's
-pub record Fits (home : Home) (v : NodeValue) (p : PlainNode) (o : OrderValue MillState) : Type 0 where
-  pub engine : at_cursor v.path.keeper.keeper ≡ o.before
+-- an order's engine is the one at the plain node's cursor, and its buckets are the next ready ones
+pub record Fits (home : Home) (p : PlainNode) (o : OrderValue MillState) : Type 0 where
+  pub engine : IsEngineAt home p o.before
   pub ready : length o.buckets ≤ ready home p
   pub buckets : o.buckets ≡ next_buckets home p (length o.buckets)
 
--- where the node stands beside an order
-pub record IsBeside (home : Home) (v : NodeValue) (p : PlainNode) (o : OrderValue MillState) (had : Point) : Type 0 where
+-- it is work for the plain node where that stands now
+pub record IsWorkAt (home : Home) (p : PlainNode) (o : OrderValue MillState) : Type 0 where
+  pub inc : o.inc ≡ p.grants.inc
+  pub cursor : o.cursor ≡ p.cursor
+  pub fits : Fits home p o
+
+-- an order for so many buckets of this node
+pub record IsOrderOf (v : NodeValue) (count : ℕ) (o : OrderValue MillState) : Type 0 where
+  pub node : o.node ≡ nth 0 v.links.replicas v.links.me
+  pub many : length o.buckets ≡ count
+  pub work : (home : Home) (p : PlainNode) → CanMill count home v p → IsWorkAt home p o
+  pub can : CanBeMilled o
+
+-- where the plain node stands beside an order
+pub record IsBeside (home : Home) (p : PlainNode) (o : OrderValue MillState) (had : Point) : Type 0 where
   pub up : had.up ≡ true
-  pub inc : had.inc ≡ v.links.known.grants.inc
-  pub cursor : had.cursor ≡ v.path.union.union.cursor
+  pub inc : had.inc ≡ p.grants.inc
+  pub cursor : had.cursor ≡ p.cursor
   pub ready : had.ready ≡ ready home p
-  pub fits : IsTrue had.fits ↔ Fits home v p o
+  pub fits : IsTrue had.fits ↔ Fits home p o
 
 -- and where it would have to stand
 abbrev pub needed_by : OrderValue MillState → Point
@@ -79,9 +88,7 @@ is_stale had needed = not (had.inc == needed.inc) || not (had.cursor == needed.c
 
 -- an order was put back where it was not stale, by exactly the step of processing its buckets
 pub record IsCommitted (o : OrderValue MillState) (old new : NodeValue) (sends : List code_mail.Mail) : Type 0 where
-  pub inc : o.inc ≡ old.links.known.grants.inc
-  pub cursor : o.cursor ≡ old.path.union.union.cursor
-  pub fits : (home : Home) (p : PlainNode) → StandsForNode home old p → IsFit home p → Fits home old p o
+  pub work : (home : Home) (p : PlainNode) → StandsForNode home old p → IsFit home p → IsWorkAt home p o
   pub steps : MillSteps (length o.buckets) old new sends
 
 -- it is stale, and nothing changed
@@ -89,4 +96,4 @@ pub record WasStale (o : OrderValue MillState) (old new : NodeValue) (had needed
   pub stays : new ≡ old
   pub asked : needed ≡ needed_by o
   pub stale : is_stale had needed ≡ true
-  pub beside : (home : Home) (p : PlainNode) → StandsForNode home old p → IsFit home p → IsBeside home old p o had
+  pub beside : (home : Home) (p : PlainNode) → StandsForNode home old p → IsFit home p → IsBeside home p o had

@@ -1,9 +1,6 @@
 -- What contracts see of a node, of what it sends, and how these stand for the plain ones.
-use Rattle.std.specs.Prelude.{◌≡◌, ℕ, ◌/◌, Bool, List}
+use Rattle.std.specs.Prelude.{◌≡◌, ℕ, Bool, List}
 use Rattle.std.specs.List.{AllZip}
-use Rattle.dpc_model.specs.Due.{delay_of}
-use Rattle.dpc_model.specs.declared.plans.Plan.{Plan}
-use Rattle.dpc_model.specs.declared.plans.FragSpec.{FragSpec}
 use Rattle.dpc_model.specs.PartStands.{StandsForLinks}
 use Rattle.dpc_model.specs.declared.messages.NodeState.{NodeState}
 use Rattle.node_model.specs.Mails.{Snap, Packet, Plain, SnapFor, Mail}

@@ -1,5 +1,5 @@
 -- How contracts say what a step leaves of a node, and what it sends.
-use Rattle.std.specs.Prelude.{◌≡◌, ℕ, List, [], ◌∷◌, length, Option, if◌then◌else◌}
+use Rattle.std.specs.Prelude.{◌≡◌, ℕ, false, List, [], ◌∷◌, length, Option, if◌then◌else◌}
 use Rattle.dpc_lists.specs.Lists.{nth}
 use Rattle.dpc_model.specs.Ports.{no_port, port_after_choice, subscription}
 use Rattle.dpc_model.specs.declared.tuples.Item.TheVariants as item
@@ -13,14 +13,18 @@ use Rattle.pipeline.specs.Recovery.{StandsForSnapshot}
 use Rattle.node_model.specs.Stands.{SnapValue}
 use Rattle.node_model.specs.Mails.{Snap, Packet, Stepped, mails}
 use Rattle.node_model.specs.Nodes.{Home, spec_of, PlainNode, streams_of, out_stable}
-use Rattle.node_model.specs.NodeSteps.{give, with_port, idle_step, packet_step}
+use Rattle.node_model.specs.NodeSteps.{give, with_port, idle_step, packet_step, tick_step}
+use Rattle.dpc_model.specs.NodeStates.{is_stabilization}
+use Rattle.world_model.specs.Safe.{IsSafeNode, Serves}
+use Rattle.world_model.specs.Orderly.{IsOrderlyNode}
+use Rattle.law_safety.specs.Plans.{IsPlace}
 use Rattle.node_core.specs.declared.packets.Packet as code
 use Rattle.node_core.specs.declared.packets.Mail as code_mail
 use Rattle.node_core.specs.declared.packets.Packet.TheVariants as packet
 use Rattle.node_core.specs.declared.sending.Request.{Request}
 use Rattle.node_core.specs.declared.sending.Request.TheVariants as request
 use Rattle.node_core.specs.Standing.{NodeValue, StandsForNode, StandsForPacket, AreMails}
-use Rattle.law_node.specs.Fitting.{IsFit, IsFitMessage, IsFitPacket, IsFitSnap}
+use Rattle.node_model.specs.Fitting.{IsFit, IsFitMessage, IsFitPacket, IsFitSnap}
 
 -- some fit plain node is stood for
 abbrev pub IsSound : NodeValue → Type 0
@@ -34,6 +38,12 @@ Follows f old new = (home : Home) (p : PlainNode) → StandsForNode home old p �
 pub record Steps (f : Home → PlainNode → Stepped PlainNode) (old new : NodeValue) (told : List code_mail.Mail) : Type 0 where
   pub after : Follows (λ home p. (f home p).after) old new
   pub sends : (home : Home) (p : PlainNode) → StandsForNode home old p → IsFit home p → AreMails home told (f home p).sends
+
+-- a tick of a node of every run serves, where it leaves the node outside STABILIZATION
+abbrev pub TickServes : ℕ → NodeValue → Type 0
+TickServes now v =
+    (home : Home) (most : ℕ) (p : PlainNode) → StandsForNode home v p → IsPlace home → IsSafeNode home p → IsOrderlyNode home most p →
+    is_stabilization (tick_step home now p).after.state ≡ false → Serves home now p (tick_step home now p)
 
 -- a message as it is sent
 abbrev pub plain_mail : ℕ → Message → code_mail.Mail

@@ -1,5 +1,5 @@
 //! A replica of a fragment: it delays, processes and corrects.
-ghost use Rattle.std.specs.Prelude.{◌≡◌, ◌↔◌, ℕ, true, false, Err, IsTrue, is_err, IfOk};
+ghost use Rattle.std.specs.Prelude.{◌≡◌, ◌↔◌, ℕ, true, false, Err, IsTrue, is_err, IfOk, OnOk};
 ghost use Rattle.dpc_model.specs.declared.faults.StepFault.TheVariants as fault;
 ghost use Rattle.node_model.specs.Mails.{Packet as PlainPacket};
 ghost use Rattle.node_model.specs.Nodes.{Home, PlainNode, new_node, restarted_node, ready};
@@ -7,7 +7,7 @@ ghost use Rattle.node_model.specs.NodeSteps.{tick_step};
 ghost use Rattle.node_model.specs.Making.{IsReplica};
 ghost use Rattle.node_core.specs.Milling.{CanMillNode, MillSteps};
 ghost use Rattle.node_core.specs.Standing.{StandsForNode};
-ghost use Rattle.node_core.specs.Stepping.{IsSound, Steps, CanTake, IsTaken};
+ghost use Rattle.node_core.specs.Stepping.{IsSound, Steps, TickServes, CanTake, IsTaken};
 
 use crate::packets::{Mail, Packet};
 use actor_lists::lists::readers_of;
@@ -133,10 +133,12 @@ impl Node {
         Ok(mails)
     }
 
-    /// The clock moves on to `now`.
+    /// The clock moves on to `now`. A tick that leaves the node outside STABILIZATION serves: no bucket is due
+    /// behind it, and what it processed stands in the last batch of each open session.
     pub fn tick(&mut self, alloc: Global, now: u64) -> Result<Vec<Mail>, StepFault>
         requires { self.old.spent ≡ false → IsSound self.old }
         ensures after { IfOk result (λ mails. Steps (λ home p. tick_step home now p) self.old self.new mails.items) }
+        ensures serves { OnOk result (TickServes now self.old) }
         ensures spent { result ≡ Err fault.Spent ↔ self.old.spent ≡ true }
         ensures stays { IsTrue self.new.spent ↔ IsTrue (is_err result) }
     {

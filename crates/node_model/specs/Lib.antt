@@ -6,3 +6,4 @@ pub mod Clients
 pub mod NodeParts
 pub mod Stands
 pub mod Making
+pub mod Fitting

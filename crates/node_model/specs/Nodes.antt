@@ -1,6 +1,6 @@
 -- The plain node: it keeps its whole inputs, and has no operator state.
 use Rattle.std.specs.Prelude.{ℕ, ◌+◌, ◌-◌, ◌*◌, ◌/◌, Bool, true, false, not, ◌&&◌, ◌==◌, if◌then◌else◌, List, [], ◌++◌, map, length, drop, Option, Some, None, replicate}
-use Rattle.dpc_lists.specs.Lists.{nth, least, is_nil}
+use Rattle.dpc_lists.specs.Lists.{nth, is_nil}
 use Rattle.dpc_model.specs.Streams.{cut}
 use Rattle.dpc_model.specs.Operators.{all_of}
 use Rattle.dpc_model.specs.Parts.{bucket_held}

@@ -6,7 +6,7 @@ use Rattle.dpc_model.specs.Streams.{cut}
 use Rattle.dpc_model.specs.Operators.{all_of}
 use Rattle.dpc_model.specs.Engines.{Value}
 use Rattle.dpc_model.specs.Fragments.{serial, fragment_value}
-use Rattle.dpc_model.specs.Inlets.{InletState, with_next_session, after_tally, asked_by}
+use Rattle.dpc_model.specs.Inlets.{InletState, with_next_session, after_tally, asked_by, no_inlet}
 use Rattle.dpc_model.specs.Reading.{Reader}
 use Rattle.dpc_model.specs.Due.{Stamps}
 use Rattle.dpc_model.specs.Parts.{Inputs, frontier_of, done_in, Stream, Outputs}
@@ -22,7 +22,7 @@ use Rattle.checkpoint_redo.specs.Keeping.{KeptValue}
 use Rattle.fragment_mill.specs.Mills.{MillState, MillAfter}
 use Rattle.sunion.specs.Laws.{with_inlet}
 use Rattle.sunion.specs.Values.{SUnionValue}
-use Rattle.sunion.specs.Unions.{StandsForInputs, IsAccepted, no_inlet, taken_at, stamps_after, with_inlet_state}
+use Rattle.sunion.specs.Unions.{StandsForInputs, IsAccepted, taken_at, stamps_after, with_inlet_state}
 use Rattle.sunion.specs.declared.sunion.Verdict.{Verdict}
 use Rattle.sunion.proofs.Lawful.{sessions-stand}
 use Rattle.soutput.specs.Giving.{with_base_after, IsAnswered}

@@ -1,5 +1,5 @@
 -- A data path that begins: at the opening, in a later incarnation, and after all was lost.
-use Rattle.std.proofs.Common.{◌≡◌, ℕ, zero, suc, ◌*◌, ◌<◌, Bool, List, [], ◌∷◌, map, length, replicate, slice_get, refl, sym, ap, subst, ◌∙◌, arith, All, Some, None}
+use Rattle.std.proofs.Common.{◌≡◌, ℕ, zero, suc, ◌*◌, ◌<◌, Bool, List, [], ◌∷◌, map, length, replicate, slice_get, refl, sym, ap, subst, ◌∙◌, arith, All, Some, None, false}
 use Rattle.std.proofs.lemmas.List.Elements.{All-nil, All-cons}
 use Rattle.std.proofs.lemmas.Slice.Zip.{AllZip-long}
 use Rattle.dpc_model.specs.Fragments.{AreSoundOps, AreSoundFrags}
@@ -115,18 +115,18 @@ lost-ports u v x n counts h many none is =
     (subst (λ (y : Inputs). StandsForPorts v.width (restarted_union 0 (map (λ (ts : List Tuple). length ts) (empty_streams n)) v).union y) (lost-are v.width n x (long ∙ sym many)) law)
 
 -- a mill of the same operators and width
-pub same-mill : (ops : List OpSpec) (w : ℕ) (m n : MillState) → IsMillOf ops w m → specs_of n.stages ≡ specs_of m.stages → Some n.width ≡ Some m.width → IsMillOf ops w n
-same-mill ops w m n h operators width = let same : n.width ≡ m.width = cc in record { operators = operators ∙ h.operators; wide = same ∙ h.wide }
+pub same-mill : (ops : List OpSpec) (w : ℕ) (m n : MillState) → IsMillOf ops w m → specs_of n.stages ≡ specs_of m.stages → Some n.width ≡ Some m.width → n.spent ≡ false → IsMillOf ops w n
+same-mill ops w m n h operators width unspent = let same : n.width ≡ m.width = cc in record { operators = operators ∙ h.operators; wide = same ∙ h.wide; unspent = unspent }
 
 pub loses : (ops : List OpSpec) (old : PipelineValue) (u : SUnionValue) (k : KeptValue MillState) (out : OutputValue) (x : Inputs) (o : Outputs) (n : ℕ) (counts : List ℕ) →
     StandsForData ops old x o → n ≡ length old.union.union.inlets → counts ≡ replicate n 0 → u ≡ restarted_union 0 counts old.union →
     specs_of k.keeper.state.stages ≡ specs_of old.keeper.keeper.state.stages → Some k.keeper.state.width ≡ Some old.keeper.keeper.state.width →
-    k.keeper.held ≡ None → MillAfter k.keeper.state [] 0 → out ≡ restarted_output 0 [] 0 old.output →
+    k.keeper.state.spent ≡ false → k.keeper.held ≡ None → MillAfter k.keeper.state [] 0 → out ≡ restarted_output 0 [] 0 old.output →
     StandsForData ops (record { union = u; keeper = k; output = out; passing = old.passing }) (lost_inputs x) (lost_outputs o)
-loses ops old u k out x o n counts h many none is operators width held after output =
+loses ops old u k out x o n counts h many none is operators width unspent held after output =
     let w = old.union.width in
     let wide : u.width ≡ w = ap (λ (t : SUnionValue). t.width) is in
-    let mill = same-mill ops w old.keeper.keeper.state k.keeper.state h.state operators width in
+    let mill = same-mill ops w old.keeper.keeper.state k.keeper.state h.state operators width unspent in
     let is_out : out ≡ blank (map with_session_shut o.subs) (zeros_for o.acks) =
     output ∙ ap (λ (ss : List Sub). blank (map with_session_shut ss) (zeros_for old.output.acks)) h.output.subs ∙ ap (λ (zs : List Acked). blank (map with_session_shut o.subs) (zeros_for zs)) h.output.acks in
     begins ops u k out old.passing (lost_inputs x) (map with_session_shut o.subs) (zeros_for o.acks) h.sound (subst (λ (j : ℕ). 0 < j) (sym wide) h.some)

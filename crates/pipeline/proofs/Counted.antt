@@ -7,12 +7,12 @@ use Rattle.std.proofs.lemmas.Slice.Zip.{AllZip-long}
 use Rattle.std.specs.List.{All}
 use Rattle.dpc_lists.specs.Lists.{nth}
 use Rattle.dpc_model.specs.Streams.{InOrder, cut, count_below}
-use Rattle.dpc_model.specs.Inlets.{InletState}
-use Rattle.dpc_model.specs.Parts.{Inputs, done_in}
+use Rattle.dpc_model.specs.Inlets.{InletState, no_inlet}
+use Rattle.dpc_model.specs.Parts.{Inputs, done_in, AreInOrder}
 use Rattle.dpc_model.specs.PartStands.{InletValue, StandsForInlet}
 use Rattle.dpc_model.specs.declared.tuples.Tuple.{Tuple}
 use Rattle.sunion.specs.Values.{SUnionValue}
-use Rattle.sunion.specs.Unions.{StandsForInputs, AreInOrder, no_inlet, no_value}
+use Rattle.sunion.specs.Unions.{StandsForInputs, no_value}
 use Rattle.sunion.proofs.Standing.{stands-at}
 
 -- ---- one port

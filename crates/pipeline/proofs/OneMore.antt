@@ -1,5 +1,5 @@
 -- One bucket more at the end.
-use Rattle.std.proofs.Common.{◌≡◌, ℕ, ◌+◌, List, [], ◌∷◌, ◌++◌, length, refl, sym, ap, subst, ◌∙◌, arith, append-nil, append_assoc, length-append, Some, ◌*◌}
+use Rattle.std.proofs.Common.{◌≡◌, ℕ, ◌+◌, List, [], ◌∷◌, ◌++◌, length, refl, sym, ap, subst, ◌∙◌, arith, append-nil, append_assoc, length-append, Some, ◌*◌, false}
 use Rattle.std.proofs.lemmas.Grind.{flat_map-append}
 use Rattle.std.proofs.lemmas.List.FromFn.{map-range_with_len_more}
 use Rattle.dpc_model.specs.Operators.{all_of}
@@ -44,11 +44,11 @@ nameless-added ops w before bucket k = rw (nameless-value ops before (k * w), na
 
 -- a mill takes one bucket more
 pub run-more : (ops : List OpSpec) (w first k : ℕ) (m n : MillState) (before bucket : List Tagged) (bs : List (List Tagged)) (added out : List Tuple) →
-    k ≡ m.next → specs_of n.stages ≡ specs_of m.stages → Some n.width ≡ Some m.width →
+    k ≡ m.next → specs_of n.stages ≡ specs_of m.stages → Some n.width ≡ Some m.width → n.spent ≡ false →
     ((xs : List Tagged) → MillAfter m xs k → out ≡ added_output (engine_value (specs_of m.stages)) m.width xs bucket k) →
     ((xs : List Tagged) → MillAfter m xs k → MillAfter n (xs ++ bucket) (k + 1)) →
     HasRun ops w m before bs first added → HasRun ops w n before (bs ++ bucket ∷ []) first (added ++ out)
-run-more ops w first k m n before bucket bs added out here specs wide told took h =
+run-more ops w first k m n before bucket bs added out here specs wide unspent told took h =
     let past = before ++ all_of bs in
     let number : k ≡ first + length bs = here ∙ h.after.next in
     let stood : MillAfter m past k = subst (λ (j : ℕ). MillAfter m past j) (sym number) h.after in
@@ -62,7 +62,7 @@ run-more ops w first k m n before bucket bs added out here specs wide told took 
     ∙ nameless-added ops w past bucket k
     ∙ ap (λ (j : ℕ). added_output (engine_value ops) w past bucket j) number in
     record {
-      mill = record { operators = specs ∙ h.mill.operators; wide = width ∙ h.mill.wide };
+      mill = record { operators = specs ∙ h.mill.operators; wide = width ∙ h.mill.wide; unspent = unspent };
       after =
           subst (λ (j : ℕ). MillAfter n (before ++ all_of (bs ++ bucket ∷ [])) j) (length-more bs bucket first k number)
           (subst (λ (xs : List Tagged). MillAfter n xs (k + 1)) inputs (took past stood));

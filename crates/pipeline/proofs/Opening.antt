@@ -6,7 +6,7 @@ use Rattle.std.proofs.lemmas.List.{append-nil}
 use Rattle.std.specs.Prelude.{if◌then◌else◌, IfSome, IsNone}
 use Rattle.dpc_lists.specs.Lists.{is_nil}
 use Rattle.dpc_model.specs.Streams.{InOrder, cut}
-use Rattle.dpc_model.specs.Engines.{LiesBelow}
+use Rattle.dpc_model.specs.Engines.{LiesBelow, AcceptsAll}
 use Rattle.dpc_model.specs.Fragments.{AreSoundOps, fragment_value}
 use Rattle.dpc_model.specs.Inlets.{InletState, new_inlet, sess_of, take_batch}
 use Rattle.dpc_model.specs.Parts.{Inputs, frontier_of, processed, processed_and_closed, Stream, stream_by, Outputs}
@@ -17,7 +17,7 @@ use Rattle.dpc_model.specs.declared.tuples.Tagged.{Tagged}
 use Rattle.dpc_model.specs.declared.tuples.Item.{Item}
 use Rattle.dpc_model.specs.declared.tuples.Item.TheVariants.{Stable, Boundary, Tentative}
 use Rattle.dpc_model.proofs.IdealCausality.{cut-fragment_value}
-use Rattle.checkpoint_redo.specs.Keeping.{KeptValue, AcceptsAll}
+use Rattle.checkpoint_redo.specs.Keeping.{KeptValue}
 use Rattle.fragment_mill.specs.Mills.{MillState, MillAfter}
 use Rattle.dpc_model.specs.declared.sessions.Sub.{Sub}
 use Rattle.soutput.specs.Giving.{new_output}

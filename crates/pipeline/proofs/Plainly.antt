@@ -4,14 +4,14 @@ use Rattle.std.proofs.lemmas.List.Elements.{All-head, All-tail, filter-append}
 use Rattle.std.specs.List.{All, AllZip}
 use Rattle.dpc_lists.specs.Lists.{nth}
 use Rattle.dpc_model.specs.Streams.{InOrder, cut, count_below, is_below}
-use Rattle.dpc_model.specs.Inlets.{InletState}
-use Rattle.dpc_model.specs.Parts.{Inputs, Outputs}
+use Rattle.dpc_model.specs.Inlets.{InletState, no_inlet}
+use Rattle.dpc_model.specs.Parts.{Inputs, Outputs, AreInOrder}
 use Rattle.dpc_model.specs.PartStands.{InletValue, StandsForInlet}
 use Rattle.dpc_model.specs.declared.operators.OpSpec.{OpSpec}
 use Rattle.dpc_model.specs.declared.tuples.Tuple.{Tuple}
 use Rattle.dpc_model.proofs.Cuts.{cut-below}
 use Rattle.inlet.proofs.Dropping.{kept-InOrder}
-use Rattle.sunion.specs.Unions.{AreInOrder, no_inlet, no_value}
+use Rattle.sunion.specs.Unions.{no_value}
 use Rattle.sunion.proofs.Standing.{stands-at}
 use Rattle.pipeline.specs.Flowing.{PipelineValue, StandsForData}
 

@@ -20,7 +20,7 @@ use Rattle.soutput.specs.Giving.{fresh_items, after_giving, with_batch_of, witho
 use Rattle.soutput.specs.Laws.{stream_with}
 use Rattle.soutput.proofs.Standing.{undoing-stands as output-undone}
 use Rattle.law_buckets.proofs.Advancing.{undoing-keeps-stable}
-use Rattle.pipeline.specs.Flowing.{PipelineValue, IsMillOf, HasSameSetting, StandsForData, stream_at, items_between, outputs_given, count_upto, stably_upto, after_processing, CanMill, CanProcess, IsMilled, IsProcessedTo, IsUndone}
+use Rattle.pipeline.specs.Flowing.{PipelineValue, IsMillOf, IsEngineOf, HasSameSetting, StandsForData, stream_at, items_between, outputs_given, count_upto, stably_upto, after_processing, CanMill, CanProcess, IsMilled, IsProcessedTo, IsUndone}
 use Rattle.pipeline.specs.Running.{StandsForWork, CanAdvance, HasAdvanced, HasClosed}
 use Rattle.pipeline.proofs.Ranges.{ends-below}
 use Rattle.pipeline.proofs.Givings.{gave}
@@ -39,6 +39,13 @@ same-undone u v e = record { width = ap (λ (t : SUnionValue). t.width) e; bucke
 
 pub data-work : (ops : List OpSpec) (v : PipelineValue) (x : Inputs) (o : Outputs) → StandsForData ops v x o → StandsForWork ops v.union v.keeper x
 data-work ops v x o h = record { sound = h.sound; some = h.some; ports = h.ports; state = h.state; held = h.held; keeper = h.keeper }
+
+-- the engine at the cursor
+pub cursor-engine : (ops : List OpSpec) (v : PipelineValue) (x : Inputs) (o : Outputs) → StandsForData ops v x o → IsEngineOf ops v.union.width x (at_cursor v.keeper.keeper)
+cursor-engine ops v x o h = record {
+  of = cursor-mill (IsMillOf ops v.union.width) v.keeper.keeper.held v.keeper.keeper.state h.state h.held;
+  took = h.keeper.cursor refl;
+}
 
 pub work-data : (ops : List OpSpec) (u : SUnionValue) (k : KeptValue MillState) (out : OutputValue) (passing : Bool) (w : ℕ) (x : Inputs) (o : Outputs) → StandsForWork ops u k x → u.width ≡ w →
     StandsForOutput (stream_by (fragment_value ops) w passing x) out o → StandsForData ops (record { union = u; keeper = k; output = out; passing = passing }) x o

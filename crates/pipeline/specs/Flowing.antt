@@ -3,7 +3,7 @@ use Rattle.std.specs.Prelude.{◌≡◌, ℕ, ◌+◌, ◌-◌, ◌<◌, ◌≤�
 use Rattle.dpc_lists.specs.Lists.{is_nil}
 use Rattle.dpc_model.specs.Engines.{nameless}
 use Rattle.dpc_model.specs.Fragments.{AreSoundOps, fragment_value}
-use Rattle.dpc_model.specs.Parts.{Inputs, frontier_of, Stream, stream_by, Outputs}
+use Rattle.dpc_model.specs.Parts.{Inputs, frontier_of, processed, Stream, stream_by, Outputs}
 use Rattle.dpc_model.specs.PartStands.{StandsForPorts, StandsForKeeper, OutputValue, StandsForOutput}
 use Rattle.dpc_model.specs.Sessions.{base_after, Given, given_items, batches_of, with_batches}
 use Rattle.dpc_model.specs.declared.operators.OpSpec.{OpSpec}
@@ -36,10 +36,16 @@ pub record IsSetAs (old new : PipelineValue) : Type 0 where
   pub inputs : HasSameSetting old.union new.union
   pub marks : new.passing ≡ old.passing
 
--- a mill of these operators, with buckets of this width
+-- an unspent mill of these operators, with buckets of this width
 pub record IsMillOf (ops : List OpSpec) (width : ℕ) (m : MillState) : Type 0 where
   pub operators : specs_of m.stages ≡ nameless ops
   pub wide : m.width ≡ width
+  pub unspent : m.spent ≡ false
+
+-- the engine at the cursor of these inputs: it took exactly what was processed stably
+pub record IsEngineOf (ops : List OpSpec) (width : ℕ) (x : Inputs) (m : MillState) : Type 0 where
+  pub of : IsMillOf ops width m
+  pub took : MillAfter m (processed width x) x.cursor
 
 -- it stands for these inputs and outputs, where the output is what the operators make of the inputs
 pub record StandsForData (ops : List OpSpec) (v : PipelineValue) (x : Inputs) (o : Outputs) : Type 0 where

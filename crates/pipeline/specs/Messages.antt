@@ -1,7 +1,7 @@
 -- What comes to single ports and goes to single readers, and what each call leaves and answers.
 use Rattle.std.specs.Prelude.{◌≡◌, ℕ, Bool, List, Option}
 use Rattle.dpc_lists.specs.Lists.{nth, changed}
-use Rattle.dpc_model.specs.Inlets.{with_next_session, asked_by}
+use Rattle.dpc_model.specs.Inlets.{with_next_session, asked_by, no_inlet}
 use Rattle.dpc_model.specs.Parts.{Inputs, done_in, shown_of, Outputs}
 use Rattle.dpc_model.specs.Sessions.{no_session, Answered, answer_to}
 use Rattle.dpc_model.specs.declared.operators.OpSpec.{OpSpec}
@@ -10,7 +10,7 @@ use Rattle.dpc_model.specs.declared.messages.Message.{Message}
 use Rattle.dpc_model.specs.declared.messages.Sess.{Sess}
 use Rattle.dpc_model.specs.declared.messages.Subscribe.{Subscribe}
 use Rattle.sunion.specs.Laws.{with_inlet}
-use Rattle.sunion.specs.Unions.{no_inlet, taken_at, after_taking_at, verdict_of}
+use Rattle.sunion.specs.Unions.{taken_at, after_taking_at, verdict_of}
 use Rattle.sunion.specs.declared.sunion.Verdict.{Verdict}
 use Rattle.pipeline.specs.Flowing.{PipelineValue, StandsForData, stream_at}
 

@@ -1,7 +1,7 @@
 //! How many stable tuples of each port were processed.
 ghost use Rattle.std.specs.Prelude.{◌≡◌, ◌*◌, map, length, IfOk};
-ghost use Rattle.dpc_model.specs.Parts.{Inputs, done_in};
-ghost use Rattle.sunion.specs.Unions.{StandsForInputs, AreInOrder};
+ghost use Rattle.dpc_model.specs.Parts.{Inputs, done_in, AreInOrder};
+ghost use Rattle.sunion.specs.Unions.{StandsForInputs};
 
 use crate::inlets::count_done;
 use dpc_lists::faults::NoMemory;

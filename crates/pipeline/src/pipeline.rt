@@ -1,12 +1,11 @@
 //! Inputs, operators and output of a node, and the processing of buckets.
-ghost use Rattle.std.specs.Prelude.{◌≡◌, ◌-◌, List, false, if◌then◌else◌, IfOk};
+ghost use Rattle.std.specs.Prelude.{◌≡◌, ◌-◌, List, if◌then◌else◌, IfOk};
 ghost use Rattle.dpc_lists.specs.Lists.{is_nil};
 ghost use Rattle.dpc_model.specs.Parts.{Inputs, Outputs};
-ghost use Rattle.dpc_model.specs.PartStands.{at_cursor};
 ghost use Rattle.dpc_model.specs.declared.operators.OpSpec.{OpSpec};
 ghost use Rattle.sunion.specs.Unions.{complete_upto_in};
 ghost use Rattle.law_buckets.specs.Series.{buckets_from};
-ghost use Rattle.pipeline.specs.Flowing.{StandsForData, CanMill, CanProcess, IsMilled, IsProcessedTo, IsUndone, IsSetAs};
+ghost use Rattle.pipeline.specs.Flowing.{IsEngineOf, StandsForData, CanMill, CanProcess, IsMilled, IsProcessedTo, IsUndone, IsSetAs};
 
 use crate::closing::close;
 use crate::milling::{advance, next_buckets};
@@ -150,14 +149,15 @@ impl Pipeline {
         Ok(sends)
     }
 
-    /// The engine at the cursor, which isn't spent, and the next buckets, for work that is done apart.
+    /// The engine at the cursor and the next buckets, for work that is done apart.
     pub fn work(
         &self,
         alloc: Global,
         count: u64,
     ) -> Result<(FragMill, Listed<Listed<Tagged>>), NoMemory>
         requires { (ops : List OpSpec) × (x : Inputs) × (o : Outputs) × CanMill ops self.now x o count }
-        ensures engine { IfOk result (λ w. (w.0 ≡ at_cursor self.now.keeper.keeper) × (w.0.spent ≡ false)) }
+        ensures engine { IfOk result (λ w. (ops : List OpSpec) → (x : Inputs) → (o : Outputs) → CanMill ops self.now x o count
+            → IsEngineOf ops self.now.union.width x w.0) }
         ensures buckets { IfOk result (λ w. (ops : List OpSpec) → (x : Inputs) → (o : Outputs) → CanMill ops self.now x o count
             → w.1 ≡ buckets_from self.now.union.width x x.cursor count) }
     {

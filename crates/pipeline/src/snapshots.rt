@@ -1,5 +1,5 @@
 //! What a node hands out of its data path, for another one to go on from.
-ghost use Rattle.std.specs.Prelude.{◌≡◌, length, IfOk};
+ghost use Rattle.std.specs.Prelude.{◌≡◌, ◌+◌, ◌^◌, ◌<◌, length, IfOk};
 
 use dpc_lists::exact::Exact;
 use dpc_lists::faults::NoMemory;
@@ -41,6 +41,40 @@ impl Model for Snapshot {
 }
 
 impl Snapshot {
+    /// A snapshot of these parts, as who saved them reads them again. It takes no memory.
+    pub fn from_parts(
+        cursor: u64,
+        counts: Listed<u64>,
+        mill: FragMill,
+        base: u64,
+        kept: Tuples,
+    ) -> Snapshot
+        requires { base + length kept < 2 ^ 64 }
+        ensures { result ≡ record { cursor = cursor; counts = counts; mill = mill; base = base; kept = kept } }
+    {
+        Snapshot {
+            cursor,
+            counts,
+            mill,
+            base,
+            kept,
+        }
+    }
+
+    /// The operators at the cursor. It takes no memory.
+    pub fn mill(&self) -> &FragMill
+        ensures { result.now ≡ self.now.mill }
+    {
+        &self.mill
+    }
+
+    /// The tuples of the output that are kept, in order. It takes no memory.
+    pub fn kept(&self) -> &[Tuple]
+        ensures { result.now ≡ self.now.kept }
+    {
+        self.kept.as_slice()
+    }
+
     /// How many tuples of the output are kept. It takes no memory.
     pub fn kept_count(&self) -> usize
         ensures { result ≡ length self.now.kept }

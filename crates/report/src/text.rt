@@ -1,10 +1,10 @@
 //! The text report.
-ghost use Rattle.std.specs.Prelude.{◌≡◌, ◌∷◌, [], ◌++◌, OnOk, OnErr, codes, decimal, map};
+ghost use Rattle.std.specs.Prelude.{◌≡◌, ◌+◌, ◌^◌, ◌<◌, ◌∷◌, [], ◌++◌, OnOk, OnErr, codes, decimal, length, map};
 ghost use Rattle.std.specs.Io.{StartsWith};
 ghost use Rattle.std.specs.Fmt.{signed_decimal};
 ghost use Rattle.dpc_model.specs.Words.{spaced, line_of, text_of};
 ghost use Rattle.line_writer.specs.Spaces.{behind_spaces};
-ghost use Rattle.report.specs.Text.{tuple_words, item_words, settled_word, summary_words, client_lines, stream_lines};
+ghost use Rattle.report.specs.Text.{tuple_words, item_words, settled_word, summary_words, client_lines, total_words};
 ghost use Rattle.dpc_model.specs.Sessions.{stable_items};
 ghost use Rattle.dpc_model.specs.declared.tuples.Item.TheVariants.{Stable};
 
@@ -152,31 +152,30 @@ pub fn put_client(
     put_summary(text, name, summary)
 }
 
-/// The lines of a stream's tuples, each with its number.
+/// Appends the lines of some tuples of a stream, of which the first has this number. Where memory ends,
+/// the old text stands, and what stands behind it is left open.
 #[tactic(auto, using(line_writer::proofs::Kept::kept_behind, line_writer::proofs::Kept::kept_then))]
-fn put_all_stable(text: &mut Vec<u8>, tuples: &[Tuple]) -> Result<(), NoMemory>
+pub fn put_numbered(text: &mut Vec<u8>, first: u64, tuples: &[Tuple]) -> Result<(), NoMemory>
+    requires { first + length tuples.now < 2 ^ 64 }
     ensures put { OnOk result (text.new.items
-        ≡ text.old.items ++ text_of (map item_words (stable_items 0 tuples.now))) }
+        ≡ text.old.items ++ text_of (map item_words (stable_items first tuples.now))) }
     ensures kept { OnErr result (StartsWith text.new.items text.old.items) }
 {
     for (number, tuple) in tuples.iter().enumerate() {
-        put_stable(text, number as u64, tuple)?;
+        put_stable(text, first + number as u64, tuple)?;
         text.push(b'\n')?;
     }
     Ok(())
 }
 
-/// Appends the lines of one client's failure-free stream: its name, one line for each tuple, and how
-/// many there are. Where memory ends, the old text stands, and what stands behind it is left open.
+/// Appends the line that tells how many tuples a stream has. Where memory ends, the old text stands.
 #[tactic(auto, using(line_writer::proofs::Kept::kept_behind, line_writer::proofs::Kept::kept_then))]
-pub fn put_stream(text: &mut Vec<u8>, name: &[u8], tuples: &[Tuple]) -> Result<(), NoMemory>
-    ensures put { OnOk result (text.new.items ≡ text.old.items ++ text_of (stream_lines name.now tuples.now)) }
+pub fn put_total(text: &mut Vec<u8>, count: u64) -> Result<(), NoMemory>
+    ensures put { OnOk result (text.new.items ≡ text.old.items ++ line_of (total_words count)) }
     ensures kept { OnErr result (StartsWith text.new.items text.old.items) }
 {
-    put_name(text, name)?;
-    put_all_stable(text, tuples)?;
     put_first(text, b"total")?;
-    put_number(text, tuples.len() as u64)?;
+    put_number(text, count)?;
     text.push(b'\n')?;
     Ok(())
 }

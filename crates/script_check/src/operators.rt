@@ -69,7 +69,8 @@ impl<'a> Place<'a> {
 
     /// The columns of a port, and 0 where there is none of that number.
     fn port_columns(self, port: u64) -> u64
-        ensures { result ≡ nth 0 (local.port_columns self.entry.plan.now self.entry.before.now self.entry.columns.now self.entry.frag.now) port }
+        ensures { result
+            ≡ nth 0 (local.port_columns self.entry.plan.now self.entry.before.now self.entry.columns.now self.entry.frag.now) port }
     {
         match self.frag.inputs.as_slice().get(port as usize) {
             Some(stream) => stream_columns(self.plan, self.columns, self.found_stream(*stream)),
@@ -92,7 +93,8 @@ impl<'a> Place<'a> {
     /// The columns of what is read at a place, and 0 past the end.
     fn read_columns(self, done: &[OpSpec], outs: &[u64], reads: &[Wire], place: usize) -> u64
         ensures { result ≡ nth 0 (local.read_columns self.entry.plan.now self.entry.frag.now done.now
-            (local.port_columns self.entry.plan.now self.entry.before.now self.entry.columns.now self.entry.frag.now) outs.now reads.now) place }
+            (local.port_columns self.entry.plan.now self.entry.before.now self.entry.columns.now self.entry.frag.now)
+            outs.now reads.now) place }
     {
         match reads.get(place) {
             Some(wire) => self.name_columns(done, outs, name_of_wire(self.plan, self.frag, *wire)),
@@ -132,7 +134,8 @@ impl<'a> Place<'a> {
     /// Whether an operator reads a column that is not there, its inputs don't agree, or its result has too many columns.
     fn misses_column(self, done: &[OpSpec], outs: &[u64], op: &OpSpec) -> bool
         ensures { result ≡ local.misses_column op.now.kind (local.read_columns self.entry.plan.now self.entry.frag.now done.now
-            (local.port_columns self.entry.plan.now self.entry.before.now self.entry.columns.now self.entry.frag.now) outs.now op.now.reads) }
+            (local.port_columns self.entry.plan.now self.entry.before.now self.entry.columns.now self.entry.frag.now)
+            outs.now op.now.reads) }
     {
         let reads = op.reads.as_slice();
         let first = self.read_columns(done, outs, reads, 0);
@@ -165,7 +168,8 @@ impl<'a> Place<'a> {
 
     /// The least reason against an operator behind the first ones of the fragment.
     fn fault_of_operator(self, done: &[OpSpec], outs: &[u64], op: &OpSpec) -> Option<Reason>
-        ensures { result ≡ reason.first_of_tests (local.against_operator self.entry.plan.now self.entry.before.now self.entry.frag.now done.now
+        ensures { result ≡ reason.first_of_tests (local.against_operator
+            self.entry.plan.now self.entry.before.now self.entry.frag.now done.now
             (local.port_columns self.entry.plan.now self.entry.before.now self.entry.columns.now self.entry.frag.now) outs.now op.now) }
     {
         if self.is_taken(done, op.name.as_slice()) {
@@ -186,7 +190,8 @@ impl<'a> Place<'a> {
         requires { kind_columns op.now.kind (local.read_columns self.plan.now self.frag.now done.now
             (local.port_columns self.plan.now self.before.now self.columns.now self.frag.now) outs.now op.now.reads) ≤ 8 }
         ensures { result ≡ kind_columns op.now.kind (local.read_columns self.entry.plan.now self.entry.frag.now done.now
-            (local.port_columns self.entry.plan.now self.entry.before.now self.entry.columns.now self.entry.frag.now) outs.now op.now.reads) }
+            (local.port_columns self.entry.plan.now self.entry.before.now self.entry.columns.now self.entry.frag.now)
+            outs.now op.now.reads) }
     {
         let reads = op.reads.as_slice();
         let first = self.read_columns(done, outs, reads, 0);

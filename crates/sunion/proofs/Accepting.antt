@@ -9,7 +9,7 @@ use Rattle.dpc_lists.specs.Lists.{nth, changed, push}
 use Rattle.dpc_model.specs.Due.{Stamps, stamp_of, with_stamp, with_stamps}
 use Rattle.dpc_model.specs.Reading.{Reader, Reading, NoReading, Skipped, Folded, reading, fold_items, taken_first, tuples_in}
 use Rattle.dpc_model.specs.Reading.{Taken as IsTakenAs}
-use Rattle.dpc_model.specs.Inlets.{InletState, take_batch, after_missing_batch, after_next_batch, is_old}
+use Rattle.dpc_model.specs.Inlets.{InletState, take_batch, after_missing_batch, after_next_batch, is_old, no_inlet}
 use Rattle.dpc_model.specs.Parts.{Inputs}
 use Rattle.dpc_model.specs.PartStands.{InletValue, StandsForInlet}
 use Rattle.dpc_model.specs.declared.tuples.Tuple.{Tuple}
@@ -25,7 +25,7 @@ use Rattle.inlet.specs.declared.inlet.Absorbed.TheVariants as absorbed
 use Rattle.inlet.proofs.Standing.{take-stands, take-tells}
 use Rattle.sunion.specs.Clocks.{stamps_from, first_stamp, stamped_at, stamped}
 use Rattle.sunion.specs.Values.{SUnionValue}
-use Rattle.sunion.specs.Unions.{no_inlet, no_value, IsAccepted, taken_at, stamps_after, verdict_of}
+use Rattle.sunion.specs.Unions.{no_value, IsAccepted, taken_at, stamps_after, verdict_of}
 use Rattle.sunion.specs.declared.sunion.Verdict.{Verdict}
 use Rattle.sunion.specs.declared.sunion.Verdict.TheVariants as verdict
 use Rattle.sunion.proofs.Waiting.{stamp-at, stamp-before}

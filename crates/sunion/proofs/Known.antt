@@ -11,7 +11,7 @@ use Rattle.dpc_model.specs.Operators.{between}
 use Rattle.dpc_model.specs.Fragments.{serial}
 use Rattle.dpc_model.specs.Inlets.{InletState}
 use Rattle.dpc_model.specs.Due.{reach, stamp_of, waited_long, is_reached}
-use Rattle.dpc_model.specs.Parts.{Inputs, frontier_of, bucket_at}
+use Rattle.dpc_model.specs.Parts.{Inputs, frontier_of, bucket_at, AreInOrder}
 use Rattle.dpc_model.specs.PartStands.{InletValue, StandsForInlet}
 use Rattle.dpc_model.specs.declared.tuples.Tuple.{Tuple}
 use Rattle.dpc_lists.proofs.Truths.{or-none}
@@ -20,7 +20,7 @@ use Rattle.inlet.proofs.Dropping.{kept-InOrder}
 use Rattle.inlet.proofs.Standing.{lacks-some}
 use Rattle.sunion.specs.Values.{SUnionValue}
 use Rattle.sunion.specs.Ports.{least_over, complete_at, bucket_of, KeptInOrder, passing_inputs}
-use Rattle.sunion.specs.Unions.{StandsForInputs, AreInOrder, complete_upto_in, bucket_in, due_inputs_of, last_due_in, later_of}
+use Rattle.sunion.specs.Unions.{StandsForInputs, complete_upto_in, bucket_in, due_inputs_of, last_due_in, later_of}
 
 abbrev known : Reader → Reader
 known r = record r { stable = [] }

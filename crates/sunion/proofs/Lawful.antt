@@ -2,7 +2,7 @@
 use Rattle.std.proofs.Common.{◌≡◌, ap, ℕ, zero, suc, ◌*◌, ◌<◌, List, [], ◌∷◌, map, length, replicate, refl, arith, length-append}
 use Rattle.std.proofs.lemmas.List.Elements.{All-head, All-tail}
 use Rattle.std.specs.List.{All, AllZip}
-use Rattle.dpc_model.specs.Inlets.{InletState, new_inlet, restarted_inlet, sess_of, with_next_session, after_tally}
+use Rattle.dpc_model.specs.Inlets.{InletState, new_inlet, restarted_inlet, sess_of, with_next_session, after_tally, no_inlet}
 use Rattle.dpc_model.specs.Parts.{frontier_of}
 use Rattle.dpc_model.specs.PartStands.{InletValue, StandsForInlet}
 use Rattle.dpc_model.specs.Reading.{stable_reader}
@@ -10,7 +10,7 @@ use Rattle.dpc_model.specs.declared.tuples.Tuple.{Tuple}
 use Rattle.inlet.proofs.Standing.{new-stands, start_at-stands, reopen-stands, heard-stands, heard-tells, renumber-stands}
 use Rattle.sunion.specs.Laws.{inlets_anew, StartStands, RestartingStands, ClosingStands, UndoingStands, SessionsStand, HearingTells}
 use Rattle.sunion.specs.Ports.{at_opening, behind_snapshot, begun_anew}
-use Rattle.sunion.specs.Unions.{bucket_in, no_inlet, no_value}
+use Rattle.sunion.specs.Unions.{bucket_in, no_value}
 use Rattle.dpc_lists.specs.Lists.{nth}
 use Rattle.sunion.proofs.Standing.{stands-at, stands-changed}
 

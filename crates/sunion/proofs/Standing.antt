@@ -10,7 +10,7 @@ use Rattle.dpc_lists.proofs.Elements.{get-drop, nth-is}
 use Rattle.inlet.proofs.Dropping.{drop_below-past}
 use Rattle.dpc_lists.specs.Lists.{nth, changed}
 use Rattle.dpc_model.specs.Due.{Stamps, stamp_of}
-use Rattle.dpc_model.specs.Inlets.{InletState, with_next_session, asked_by}
+use Rattle.dpc_model.specs.Inlets.{InletState, with_next_session, asked_by, no_inlet}
 use Rattle.dpc_model.specs.Parts.{Inputs}
 use Rattle.dpc_model.specs.PartStands.{InletValue, StandsForInlet, StandsForPorts}
 use Rattle.dpc_model.specs.declared.tuples.Tuple.{Tuple}
@@ -20,7 +20,7 @@ use Rattle.inlet.proofs.Standing.{reopen-tells, drop_below-stands}
 use Rattle.sunion.specs.Clocks.{stamps_from}
 use Rattle.sunion.specs.Ports.{forgetting}
 use Rattle.sunion.specs.Values.{SUnionValue}
-use Rattle.sunion.specs.Unions.{StandsForInputs, no_inlet, no_value, after_advancing, ForgetsBelow}
+use Rattle.sunion.specs.Unions.{StandsForInputs, no_value, after_advancing, ForgetsBelow}
 use Rattle.sunion.proofs.Waiting.{stamp-at, stamp-before}
 
 -- ---- one port

@@ -1,13 +1,13 @@
 -- How the inputs go on to stand for the plain ones, where a call's clause gives the new value.
 use Rattle.std.specs.Prelude.{◌≡◌, ℕ, ◌+◌, ◌*◌, ◌<◌, List, [], ◌∷◌, length, replicate, map, All, Option}
 use Rattle.dpc_lists.specs.Lists.{nth, changed}
-use Rattle.dpc_model.specs.Inlets.{InletState, new_inlet, restarted_inlet, sess_of, with_next_session, after_tally, shows_loss}
+use Rattle.dpc_model.specs.Inlets.{InletState, new_inlet, restarted_inlet, sess_of, with_next_session, after_tally, shows_loss, no_inlet}
 use Rattle.dpc_model.specs.Parts.{Inputs}
 use Rattle.dpc_model.specs.Reading.{stable_reader}
 use Rattle.dpc_model.specs.declared.tuples.Tuple.{Tuple}
 use Rattle.dpc_model.specs.declared.messages.Sess.{Sess}
 use Rattle.sunion.specs.Values.{SUnionValue}
-use Rattle.sunion.specs.Unions.{StandsForInputs, no_inlet, no_value, new_union, union_at, restarted_union, with_closed, with_inlet_state, after_closing, without_closed}
+use Rattle.sunion.specs.Unions.{StandsForInputs, no_value, new_union, union_at, restarted_union, with_closed, with_inlet_state, after_closing, without_closed}
 
 -- the plain inputs with one inlet changed
 abbrev pub with_inlet : ℕ → (InletState → InletState) → Inputs → Inputs

@@ -3,7 +3,7 @@ use Rattle.std.specs.Prelude.{◌≡◌, ℕ, ◌+◌, ◌*◌, ◌/◌, Bool, n
 use Rattle.dpc_lists.specs.Lists.{nth, changed, is_nil}
 use Rattle.dpc_model.specs.Streams.{InOrder, NoneBelow, time_of}
 use Rattle.dpc_model.specs.Reading.{Reader, stable_reader, tuples_in}
-use Rattle.dpc_model.specs.Inlets.{InletState, AfterBatch, take_batch, new_inlet, restarted_inlet, sess_of}
+use Rattle.dpc_model.specs.Inlets.{InletState, AfterBatch, take_batch, new_inlet, no_inlet, restarted_inlet, sess_of}
 use Rattle.dpc_model.specs.Due.{Stamps, with_stamps, first_incomplete, DueInputs, last_due}
 use Rattle.dpc_model.specs.Parts.{Inputs, frontier_of, bucket_held}
 use Rattle.dpc_model.specs.PartStands.{InletValue, StandsForPorts}
@@ -20,14 +20,6 @@ use Rattle.sunion.specs.declared.sunion.Verdict.TheVariants as verdict
 -- it stands for the plain inputs
 abbrev pub StandsForInputs : SUnionValue → Inputs → Type 0
 StandsForInputs v x = StandsForPorts v.width v.union x
-
--- each port's stable tuples are in order of time
-abbrev pub AreInOrder : Inputs → Type 0
-AreInOrder x = All (λ (i : InletState). InOrder i.held.stable) x.inlets
-
--- an inlet of no port
-abbrev pub no_inlet : InletState
-no_inlet = new_inlet 0
 
 abbrev pub no_value : InletValue
 no_value = record { count = 0; state = no_inlet }

@@ -1,11 +1,11 @@
 //! The inputs of a node by port, in buckets of time.
 ghost use Rattle.std.specs.Prelude.{◌≡◌, ◌↔◌, ◌+◌, ◌-◌, ◌*◌, ◌/◌, ◌^◌, ◌<◌, ◌≤◌, ℕ, List, [], true, false, length, IfOk, OnOk, OnErr};
 ghost use Rattle.dpc_lists.specs.Lists.{nth, changed};
-ghost use Rattle.dpc_model.specs.Inlets.{InletState, with_next_session, after_tally, shows_loss, asked_by, sess_of};
-ghost use Rattle.dpc_model.specs.Parts.{Inputs, frontier_of};
+ghost use Rattle.dpc_model.specs.Inlets.{InletState, with_next_session, after_tally, shows_loss, asked_by, sess_of, no_inlet};
+ghost use Rattle.dpc_model.specs.Parts.{Inputs, frontier_of, AreInOrder};
 ghost use Rattle.dpc_model.specs.PartStands.{UnionValue, InletValue};
 ghost use Rattle.inlet.specs.Forgotten.{HasRoom};
-ghost use Rattle.sunion.specs.Unions.{StandsForInputs, AreInOrder, no_inlet, no_value, IsAccepted, complete_upto_in, bucket_in, last_due_in, after_advancing, new_union, union_at, with_inlet_state, with_closed, ForgetsBelow, later_of};
+ghost use Rattle.sunion.specs.Unions.{StandsForInputs, no_value, IsAccepted, complete_upto_in, bucket_in, last_due_in, after_advancing, new_union, union_at, with_inlet_state, with_closed, ForgetsBelow, later_of};
 
 use crate::buckets::bucket;
 use crate::clocks::{Clocks, drop_places, farthest, last_waiting, make_places, stamp};

@@ -2,7 +2,7 @@
 use Rattle.std.proofs.Common.{◌≡◌, ℕ, ◌+◌, List, [], ◌∷◌, ◌++◌, length, sym, ap, subst, ◌∙◌, Err, Result}
 use Rattle.dpc_model.specs.declared.messages.Event.{Event}
 use Rattle.dpc_model.specs.declared.plans.Plan.{Plan}
-use Rattle.world_model.specs.Worlds.{World, run, sums_after}
+use Rattle.world_model.specs.Worlds.{World, run, sums_after, WouldReach}
 use Rattle.world_model.proofs.Running.{run-push}
 use Rattle.law_fit.specs.Fits.{CanRun}
 use Rattle.law_fit.proofs.FitWorlds.{run-world}
@@ -12,7 +12,7 @@ use Rattle.world_parts.specs.declared.faults.EventFault.{EventFault}
 use Rattle.world_parts.specs.declared.faults.EventFault.TheVariants as part_fault
 use Rattle.world_core.specs.declared.faults.ApplyFault.{ApplyFault}
 use Rattle.world_core.specs.declared.faults.ApplyFault.TheVariants as fault
-use Rattle.world_core.specs.Runs.{WouldReach, fault_of}
+use Rattle.world_core.specs.Runs.{fault_of}
 
 pub run-stands : (plan : Plan) (v : WorldPartsValue) (events : List Event) → CanRun plan → StandsForWorld plan v (run plan events) → IsWorldOf plan v (run plan events) (1 + length events)
 run-stands plan v events can h = record { stands = h; fine = run-world plan events can.checked }

@@ -4,60 +4,28 @@ use Rattle.std.specs.Prelude.{IfSome}
 use Rattle.std.proofs.Math.Nat.{min-le_right}
 use Rattle.dpc_model.specs.Actors.{role_of}
 use Rattle.dpc_model.specs.Limits.{most_milled}
-use Rattle.dpc_model.specs.PartStands.{at_cursor}
-use Rattle.dpc_model.specs.Parts.{Neighbours, processed}
 use Rattle.dpc_model.specs.declared.messages.Event.{Event}
 use Rattle.dpc_model.specs.declared.plans.Plan.{Plan}
 use Rattle.dpc_lists.proofs.Truths.{or-true}
-use Rattle.fragment_mill.specs.Mills.{MillState, MillAfter}
+use Rattle.fragment_mill.specs.Mills.{MillState}
 use Rattle.mill_work.specs.Milling.{OrderValue}
 use Rattle.node_model.specs.Nodes.{Home, PlainNode, ready}
-use Rattle.node_model.specs.NodeParts.{inputs_of}
-use Rattle.law_node.specs.Fitting.{IsFit}
+use Rattle.node_model.specs.Fitting.{IsFit}
 use Rattle.node_core.specs.declared.faults.Point.{Point}
-use Rattle.node_core.specs.Milling.{IsOrderOf, is_stale}
+use Rattle.node_core.specs.Milling.{IsBeside, is_stale}
 use Rattle.node_core.specs.Standing.{NodeValue, StandsForNode}
 use Rattle.world_model.specs.Worlds.{home_of, slot_of, node_at, ready_at}
 use Rattle.law_fit.specs.Fits.{CanRun}
 use Rattle.world_parts.specs.Parts.{WorldPartsValue, StandsForWorld}
-use Rattle.world_parts.specs.Handing.{up_node, IsHandedOut, StandsAt, IsTimely, down_point, IsElsewhere, IsStaleAt as IsStaleInParts}
+use Rattle.world_parts.specs.Handing.{up_node, IsHandedOut, IsTimely, down_point, IsElsewhere, IsStaleAt as IsStaleInParts}
 use Rattle.world_parts.specs.declared.faults.CommitFault.{CommitFault as PartFault}
 use Rattle.world_parts.specs.declared.faults.CommitFault.TheVariants as part_fault
 use Rattle.world_parts.proofs.UpNodes.{up-in, one-in}
-use Rattle.world_core.specs.Handing.{IsWorkAt, Fits, IsWorkOf, IsBesideAt, IsStaleAt, fault_of_parts, is_loss}
+use Rattle.world_core.specs.Handing.{Fits, IsWorkOf, IsStaleAt, fault_of_parts, is_loss}
 use Rattle.world_core.specs.Runs.{RunOf, world_of}
 use Rattle.world_core.specs.declared.faults.CommitFault.{CommitFault}
 use Rattle.world_core.specs.declared.faults.CommitFault.TheVariants as commit_fault
 use Rattle.world_core.proofs.Running.{run-stands}
-
--- ---- at one node
-
--- an engine at the cursor of a node that stands for the plain one took what that processed
-engine-at : (home : Home) (n : NodeValue) (p : PlainNode) (m : MillState) → StandsForNode home n p → at_cursor n.path.keeper.keeper ≡ m → MillAfter m (processed home.plan.width (inputs_of p)) p.cursor
-engine-at home n p m h same =
-    subst (λ (k : MillState). MillAfter k (processed home.plan.width (inputs_of p)) p.cursor) same
-    (subst (λ (w : ℕ). MillAfter (at_cursor n.path.keeper.keeper) (processed w (inputs_of p)) p.cursor) h.setting.width (h.path.keeper.cursor refl))
-
-work-at : (home : Home) (n : NodeValue) (p : PlainNode) (o : OrderValue MillState) → StandsForNode home n p → IsFit home p → IsOrderOf n (length o.buckets) o → length o.buckets ≤ ready home p → IsWorkAt home p o
-work-at home n p o h fit of few =
-    record {
-      inc = of.inc ∙ ap (λ (x : Neighbours). x.grants.inc) h.links;
-      cursor = of.cursor ∙ h.path.ports.cursor;
-      few = few;
-      buckets = of.buckets home p (record { stands = h; fit = fit; ready = few });
-      engine = engine-at home n p o.before h (sym of.before);
-    }
-
-fits-at : (home : Home) (n : NodeValue) (p : PlainNode) (o : OrderValue MillState) → StandsForNode home n p → IsFit home p → StandsAt n o → IsWorkAt home p o
-fits-at home n p o h fit at =
-    let fits = at.fits home p h fit in
-    record {
-      inc = at.inc ∙ ap (λ (x : Neighbours). x.grants.inc) h.links;
-      cursor = at.cursor ∙ h.path.ports.cursor;
-      few = fits.ready;
-      buckets = fits.buckets;
-      engine = engine-at home n p o.before h fits.engine;
-    }
 
 -- ---- what is handed out
 
@@ -79,7 +47,7 @@ work-of w v actor o can stands h =
         plain = at.plain;
         role = ap (λ (a : ℕ). role_of w.plan a) h.node ∙ at.role;
         up = ap (λ (a : ℕ). node_at (world_of w) a) h.node ∙ at.up;
-        work = work-at home h.from at.plain o at.stands at.fit h.of few;
+        work = h.of.work home at.plain (record { stands = at.stands; fit = at.fit; ready = few });
       };
     }
 
@@ -93,7 +61,7 @@ work-told w old v actor (Some o) same can stands h = subst (λ (r : RunOf). IsWo
 pub still-fits : (w : RunOf) (v : WorldPartsValue) (o : OrderValue MillState) → CanRun w.plan → StandsForWorld w.plan v (world_of w) → IsTimely w.plan v o → Fits w o
 still-fits w v o can stands h =
     let at = up-in w.plan v (world_of w) (1 + length w.events) o.node h.0 can (run-stands w.plan v w.events can stands) h.1 in
-    record { frag = at.frag; replica = at.replica; plain = at.plain; role = at.role; up = at.up; work = fits-at (home_of w.plan (at.frag, at.replica)) h.0 at.plain o at.stands at.fit h.2 }
+    record { frag = at.frag; replica = at.replica; plain = at.plain; role = at.role; up = at.up; work = h.2 (home_of w.plan (at.frag, at.replica)) at.plain at.stands at.fit }
 
 -- ---- what is stale
 
@@ -111,10 +79,10 @@ down-elsewhere last_inc None o had needed none h = h
 down-elsewhere last_inc (Some n) o had needed none h = absurd (none n refl)
 
 up-elsewhere : (home : Home) (last_inc : ℕ) (n : NodeValue) (at : Option NodeValue) (p : PlainNode) (o : OrderValue MillState) (had needed : Point) → at ≡ Some n → StandsForNode home n p → IsFit home p →
-    IsElsewhere last_inc at o had needed → IsBesideAt home p o had
+    IsElsewhere last_inc at o had needed → IsBeside home p o had
 up-elsewhere home last_inc n None p o had needed is stands fit h = cc
 up-elsewhere home last_inc n (Some m) p o had needed is stands fit h =
-    let same : m ≡ n = cc in record { node = m; stands = subst (λ (k : NodeValue). StandsForNode home k p) (sym same) stands; beside = h.beside home p (subst (λ (k : NodeValue). StandsForNode home k p) (sym same) stands) fit }
+    let same : m ≡ n = cc in h.beside home p (subst (λ (k : NodeValue). StandsForNode home k p) (sym same) stands) fit
 
 no-node : (o : Option PlainNode) (p : PlainNode) → o ≡ None → o ≡ Some p → ⊥
 no-node o p e f = cc

@@ -1,16 +1,13 @@
 -- What a run says of work that it hands out, and of work that comes back done.
-use Rattle.std.specs.Prelude.{◌≡◌, ℕ, ◌≤◌, Bool, true, false, min, length, Some, None}
+use Rattle.std.specs.Prelude.{◌≡◌, ℕ, Bool, true, false, min, length, Some, None}
 use Rattle.dpc_model.specs.Actors.{role_of}
 use Rattle.dpc_model.specs.Limits.{most_milled}
-use Rattle.dpc_model.specs.Parts.{processed}
 use Rattle.dpc_model.specs.declared.actors.Role.TheVariants.{Node as IsNode}
-use Rattle.fragment_mill.specs.Mills.{MillState, MillAfter}
+use Rattle.fragment_mill.specs.Mills.{MillState}
 use Rattle.mill_work.specs.Milling.{OrderValue}
-use Rattle.node_model.specs.Nodes.{Home, PlainNode, ready}
-use Rattle.node_model.specs.NodeParts.{inputs_of}
+use Rattle.node_model.specs.Nodes.{PlainNode}
 use Rattle.node_core.specs.declared.faults.Point.{Point}
-use Rattle.node_core.specs.Milling.{CanBeMilled, next_buckets, IsBeside, needed_by, is_stale}
-use Rattle.node_core.specs.Standing.{NodeValue, StandsForNode}
+use Rattle.node_core.specs.Milling.{CanBeMilled, IsWorkAt, IsBeside, needed_by, is_stale}
 use Rattle.world_model.specs.Worlds.{home_of, slot_of, node_at, ready_at}
 use Rattle.world_parts.specs.Handing.{down_point}
 use Rattle.world_parts.specs.declared.faults.CommitFault.{CommitFault as PartFault}
@@ -21,15 +18,7 @@ use Rattle.world_core.specs.Runs.{RunOf, world_of}
 
 -- ---- work that is handed out, and work that fits
 
--- the plain node's next ready buckets, and an engine that took exactly what it processed before them
-pub record IsWorkAt (home : Home) (p : PlainNode) (o : OrderValue MillState) : Type 0 where
-  pub inc : o.inc ≡ p.grants.inc
-  pub cursor : o.cursor ≡ p.cursor
-  pub few : length o.buckets ≤ ready home p
-  pub buckets : o.buckets ≡ next_buckets home p (length o.buckets)
-  pub engine : MillAfter o.before (processed home.plan.width (inputs_of p)) p.cursor
-
--- the order's actor is a node that is up, and this is its work
+-- the order's actor is a node that is up, and this is work for it where it stands now
 pub record Fits (w : RunOf) (o : OrderValue MillState) : Type 0 where
   pub frag : ℕ
   pub replica : ℕ
@@ -47,18 +36,12 @@ pub record IsWorkOf (w : RunOf) (actor : ℕ) (o : OrderValue MillState) : Type 
 
 -- ---- work that is stale
 
--- a node that stands for the plain one stands there beside the order
-pub record IsBesideAt (home : Home) (p : PlainNode) (o : OrderValue MillState) (had : Point) : Type 0 where
-  pub node : NodeValue
-  pub stands : StandsForNode home node p
-  pub beside : IsBeside home node p o had
-
 -- the order's node is down, or stands somewhere else
 pub record IsStaleAt (w : RunOf) (o : OrderValue MillState) (had needed : Point) : Type 0 where
   pub asked : needed ≡ needed_by o
   pub stale : is_stale had needed ≡ true
   pub down : node_at (world_of w) o.node ≡ None → had ≡ down_point (slot_of (world_of w) o.node).last_inc
-  pub up : (f r : ℕ) (p : PlainNode) → role_of w.plan o.node ≡ IsNode f r → node_at (world_of w) o.node ≡ Some p → IsBesideAt (home_of w.plan (f, r)) p o had
+  pub up : (f r : ℕ) (p : PlainNode) → role_of w.plan o.node ≡ IsNode f r → node_at (world_of w) o.node ≡ Some p → IsBeside (home_of w.plan (f, r)) p o had
 
 -- ---- faults
 

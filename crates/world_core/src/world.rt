@@ -1,10 +1,12 @@
 //! The world of a run.
 ghost use Rattle.std.specs.Prelude.{◌≡◌, ◌↔◌, ℕ, [], ◌∷◌, ◌++◌, true, false, Err, IfOk, OnOk, OnErr};
-ghost use Rattle.world_model.specs.Worlds.{passes_limit};
+ghost use Rattle.world_model.specs.Worlds.{passes_limit, WouldReach};
+ghost use Rattle.world_model.specs.Safe.{IsSafeStep};
 ghost use Rattle.law_fit.specs.Fits.{CanRun};
+ghost use Rattle.law_promises.specs.Promises.{KeepsPromises};
 ghost use Rattle.world_parts.specs.Events.{IsSomeWorld, Happened, WouldPass};
 ghost use Rattle.world_parts.specs.declared.faults.EventFault.TheVariants as part_fault;
-ghost use Rattle.world_core.specs.Runs.{world_of, WouldReach};
+ghost use Rattle.world_core.specs.Runs.{world_of};
 ghost use Rattle.world_core.specs.declared.faults.ApplyFault.TheVariants as fault;
 
 use crate::faults::ApplyFault;
@@ -85,11 +87,14 @@ impl World {
         })
     }
 
-    /// One more event happens. Where it wants memory, or would pass a limit, the world is spent, and its
-    /// events are those that were.
+    /// One more event happens. The run keeps all its promises, and the event does what is promised of it: a
+    /// tick serves, and rec_done is sent surely. Where it wants memory, or would pass a limit, the world is
+    /// spent, and its events are those that were.
     pub fn apply(&mut self, alloc: Global, e: Event) -> Result<(), ApplyFault>
         ensures ok { OnOk result (self.new ≡ record self.old { events = self.old.events ++ e ∷ [] }) }
         ensures within { OnOk result (passes_limit (world_of self.old) e ≡ false) }
+        ensures keeps { OnOk result (KeepsPromises self.new.plan self.new.events) }
+        ensures step { OnOk result (IsSafeStep (world_of self.old) e) }
         ensures long { (envelopes items : ℕ) → result ≡ Err (fault.TooLong envelopes items)
             → WouldReach (world_of self.old) e envelopes items }
         ensures err { OnErr result (self.new ≡ record self.old { spent = true }) }

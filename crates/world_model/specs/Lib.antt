@@ -1,7 +1,9 @@
 pub mod Worlds
 pub mod Schedules
+pub mod Notes
 pub mod Safe
 pub mod SessionLaw
 pub mod Steady
 pub mod Orderly
 pub mod Events
+pub mod Replays

@@ -3,6 +3,7 @@ use Rattle.std.specs.Prelude.{ℕ, zero, suc, ◌+◌, ◌-◌, ◌*◌, ◌/◌
 use Rattle.dpc_lists.specs.Lists.{nth, range_with_len, list_any, list_all, has, place_of, is_nil}
 use Rattle.dpc_model.specs.Limits.{most_milled, may_be_milled}
 use Rattle.dpc_model.specs.Actors.{roles_of, nodes_of}
+use Rattle.dpc_model.specs.Replicas.{absent_after}
 use Rattle.dpc_model.specs.declared.messages.Event.{Event}
 use Rattle.dpc_model.specs.declared.messages.Event.TheVariants.{Phase, Emit, Release, Cut, Heal, Crash, Restart, Deliver, Tick, Mill}
 use Rattle.dpc_model.specs.declared.scripts.Directive.{Directive}
@@ -15,11 +16,11 @@ use Rattle.world_model.specs.Worlds.{World, Envelope, slot_of, node_at, new_worl
 
 -- ---- phases
 
--- 6 G + 20, where G = 3 is the number of ticks without a beat that tell that a replica is absent. Two things are counted by it: the quiet phases
--- past which no node may recover any more (`IsSteady`), and those that a fragment takes, from its inputs on, until its readers have its
--- stream, which are at most so many for each of its replicas and once more (`enough` of `law_settling_whole`: far fewer, 22 would do)
+-- 38. Two things are counted by it: the quiet phases past which no node may recover any more (`IsSteady`), and those that a fragment takes,
+-- from its inputs on, until its readers have its stream, which are at most so many for each of its replicas and once more (`enough` of
+-- `law_settling_whole`: far fewer, 22 would do)
 abbrev pub settling_phases : ℕ
-settling_phases = 38
+settling_phases = 6 * absent_after + 20
 
 -- the most quiet phases of a run: so many for each of F + 1 and R + 1, with F fragments and R the most replicas of one
 abbrev pub quiet_limit : Plan → ℕ

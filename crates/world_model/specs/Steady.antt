@@ -3,7 +3,7 @@ use Rattle.std.specs.Prelude.{◌≡◌, ◌≢◌, ⊤, ℕ, ◌+◌, ◌<◌, 
 use Rattle.dpc_model.specs.Actors.{role_of}
 use Rattle.dpc_model.specs.declared.actors.Role.{Role}
 use Rattle.dpc_model.specs.declared.actors.Role.TheVariants.{Source as IsSource, Node as IsNode, Client as IsClient, Nobody}
-use Rattle.dpc_model.specs.Replicas.{Watch}
+use Rattle.dpc_model.specs.Replicas.{Watch, absent_after}
 use Rattle.dpc_model.specs.Ports.{Port}
 use Rattle.dpc_model.specs.declared.messages.Event.{Event}
 use Rattle.dpc_model.specs.declared.messages.Event.TheVariants.{Phase, Emit, Release, Cut, Heal, Crash, Restart, Deliver, Tick, Mill}
@@ -21,7 +21,7 @@ NoneRecovers (slot ∷ slots) = IfSome slot.node (λ (n : PlainNode). n.recoveri
 -- no replica's last beat is three ticks ago
 abbrev pub NoneThree : List Watch → Type 0
 NoneThree [] = ⊤
-NoneThree (w ∷ ws) = (w.ticks ≢ 3) × NoneThree ws
+NoneThree (w ∷ ws) = (w.ticks ≢ absent_after) × NoneThree ws
 
 -- so at each port that reads two or more replicas
 abbrev pub IsHeardAt : Port → Type 0

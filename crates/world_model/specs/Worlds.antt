@@ -1,5 +1,5 @@
 -- The world: all actors, the links, and every envelope that was sent; and what each event makes of it.
-use Rattle.std.specs.Prelude.{ℕ, ◌+◌, ◌-◌, ◌^◌, Bool, true, false, not, ◌&&◌, ◌||◌, ◌==◌, nat_lt, nat_le, if◌then◌else◌, List, [], ◌∷◌, ◌++◌, map, length, filter, drop, Option, Some, None, slice_get, is_some}
+use Rattle.std.specs.Prelude.{◌≡◌, ℕ, ◌+◌, ◌-◌, ◌^◌, Bool, true, false, not, ◌&&◌, ◌||◌, ◌==◌, nat_lt, nat_le, if◌then◌else◌, List, [], ◌∷◌, ◌++◌, map, length, filter, drop, Option, Some, None, slice_get, is_some}
 use Rattle.dpc_lists.specs.Lists.{nth, changed, range_with_len, list_any, push}
 use Rattle.dpc_model.specs.Limits.{most_envelopes, most_items, may_be_milled}
 use Rattle.dpc_model.specs.Actors.{role_of, nodes_of, are_linked}
@@ -294,3 +294,16 @@ sums_after w e = sums_of (happens w e)
 -- the event would pass a limit
 abbrev pub passes_limit : World → Event → Bool
 passes_limit w e = let s = sums_after w e in nat_lt most_envelopes s.envelopes || nat_lt most_items s.items
+
+-- an event would pass a limit, and reach these numbers
+pub record WouldReach (w : World) (e : Event) (envelopes items : ℕ) : Type 0 where
+  pub passes : passes_limit w e ≡ true
+  pub sums : sums_after w e ≡ record { envelopes = envelopes; items = items }
+
+-- the numbers that the first event would reach which would pass a limit, where there is one
+abbrev pub excess_from : World → List Event → Option Sums
+excess_from w [] = None
+excess_from w (e ∷ events) = if passes_limit w e then Some (sums_after w e) else excess_from (happens w e) events
+
+abbrev pub excess : Plan → List Event → Option Sums
+excess plan events = excess_from (new_world plan) events

@@ -11,7 +11,7 @@ use Rattle.dpc_model.specs.declared.messages.Event.TheVariants.{Crash, Restart, 
 use Rattle.dpc_model.specs.declared.plans.Plan.{Plan}
 use Rattle.node_model.specs.Mails.{Packet, Stepped}
 use Rattle.node_model.specs.Nodes.{Home, PlainNode}
-use Rattle.law_node.specs.Fitting.{IsFit, IsFitPacket}
+use Rattle.node_model.specs.Fitting.{IsFit, IsFitPacket}
 use Rattle.node_core.specs.declared.packets.Mail as code_mail
 use Rattle.world_model.specs.Worlds.{World, Envelope, Slot, home_of, node_place, from, link_up, restart_slot, happens}
 use Rattle.world_model.specs.Orderly.{is_fitting}

@@ -9,11 +9,11 @@ use Rattle.dpc_model.specs.declared.plans.Plan.{Plan}
 use Rattle.fragment_mill.specs.Mills.{MillState}
 use Rattle.mill_work.specs.Milling.{OrderValue}
 use Rattle.node_model.specs.Nodes.{Home, PlainNode}
-use Rattle.law_node.specs.Fitting.{IsFit}
+use Rattle.node_model.specs.Fitting.{IsFit}
 use Rattle.node_core.specs.declared.faults.Point.{Point}
 use Rattle.node_core.specs.declared.faults.CommitFault.{CommitFault as NodeFault}
 use Rattle.node_core.specs.declared.faults.CommitFault.TheVariants as node_fault
-use Rattle.node_core.specs.Milling.{IsOrderOf, Fits, IsBeside, needed_by, is_stale}
+use Rattle.node_core.specs.Milling.{IsWorkAt, IsOrderOf, IsBeside, needed_by, is_stale}
 use Rattle.node_core.specs.Standing.{NodeValue, StandsForNode}
 use Rattle.world_model.specs.Worlds.{World, Slot, node_place, slot_of, ready_in, ready_at}
 use Rattle.world_parts.specs.declared.faults.EventFault.{EventFault}
@@ -56,10 +56,8 @@ pub record IsHandedOut (plan : Plan) (v : WorldPartsValue) (actor : ℕ) (o : Or
 -- ---- work that fits
 
 -- the node stands where the order was taken
-pub record StandsAt (n : NodeValue) (o : OrderValue MillState) : Type 0 where
-  pub inc : o.inc ≡ n.links.known.grants.inc
-  pub cursor : o.cursor ≡ n.path.union.union.cursor
-  pub fits : (home : Home) (p : PlainNode) → StandsForNode home n p → IsFit home p → Fits home n p o
+abbrev pub StandsAt : NodeValue → OrderValue MillState → Type 0
+StandsAt n o = (home : Home) (p : PlainNode) → StandsForNode home n p → IsFit home p → IsWorkAt home p o
 
 -- the node is up, and stands there
 abbrev pub IsUpAt : Option NodeValue → OrderValue MillState → Type 0
@@ -77,7 +75,7 @@ down_point last_inc = record { up = false; inc = last_inc; cursor = 0; ready = 0
 -- the node is up, and stands somewhere else
 pub record StandsElsewhere (n : NodeValue) (o : OrderValue MillState) (had needed : Point) : Type 0 where
   pub stale : is_stale had needed ≡ true
-  pub beside : (home : Home) (p : PlainNode) → StandsForNode home n p → IsFit home p → IsBeside home n p o had
+  pub beside : (home : Home) (p : PlainNode) → StandsForNode home n p → IsFit home p → IsBeside home p o had
 
 -- the node is down, or stands somewhere else
 abbrev pub IsElsewhere : ℕ → Option NodeValue → OrderValue MillState → Point → Point → Type 0

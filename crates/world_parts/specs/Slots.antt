@@ -3,7 +3,7 @@ use Rattle.std.specs.Prelude.{ℕ, if◌then◌else◌, List, [], Some, None, If
 use Rattle.node_model.specs.Mails.{Packet, Stepped}
 use Rattle.node_model.specs.Nodes.{Home, PlainNode}
 use Rattle.node_model.specs.NodeSteps.{packet_step, mill_step, tick_step}
-use Rattle.law_node.specs.Fitting.{IsFit, IsFitPacket}
+use Rattle.node_model.specs.Fitting.{IsFit, IsFitPacket}
 use Rattle.node_core.specs.declared.packets.Packet as code
 use Rattle.node_core.specs.declared.packets.Mail as code_mail
 use Rattle.node_core.specs.Standing.{StandsForPacket, AreMails}

@@ -5,7 +5,7 @@ ghost use Rattle.dpc_model.specs.Ports.{no_port};
 ghost use Rattle.node_model.specs.Nodes.{Home, PlainNode, streams_of};
 ghost use Rattle.node_model.specs.NodeSteps.{announcing_step, done_at, acks_from, beats};
 ghost use Rattle.node_model.specs.Mails.{in_actor_order};
-ghost use Rattle.law_node.specs.Fitting.{IsFit};
+ghost use Rattle.node_model.specs.Fitting.{IsFit};
 ghost use Rattle.node_core.specs.Standing.{StandsForNode, AreMails};
 ghost use Rattle.node_core.specs.Stepping.{IsSound, Steps, beat_with};
 

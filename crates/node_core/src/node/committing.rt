@@ -3,7 +3,7 @@ ghost use Rattle.std.specs.Prelude.{◌≡◌, ◌↔◌, ◌≤◌, false, true
 ghost use Rattle.node_model.specs.Nodes.{Home, PlainNode, spec_of};
 ghost use Rattle.node_model.specs.NodeParts.{inputs_of, outputs_of};
 ghost use Rattle.pipeline.specs.Committing.{CanPut};
-ghost use Rattle.law_node.specs.Fitting.{IsFit};
+ghost use Rattle.node_model.specs.Fitting.{IsFit};
 ghost use Rattle.node_core.specs.declared.faults.Point.{Point};
 ghost use Rattle.node_core.specs.declared.faults.CommitFault.TheVariants as commit;
 ghost use Rattle.node_core.specs.Milling.{CanMill, CanMillNode, MillSteps, Fits, IsBeside, is_stale, IsCommitted, WasStale};
@@ -90,12 +90,12 @@ impl Node {
         Ok(mails)
     }
 
-    /// Whether the engine at the cursor is the order's, and the next ready buckets begin with the order's.
+    /// Whether an order's engine is the one at the cursor, and its buckets are the next ready ones.
     fn fits(&self, alloc: Global, order: &Order<FragMill>) -> Result<bool, NoMemory>
         requires sound { IsSound self.now }
         requires some { 1 ≤ length order.now.buckets }
         ensures { IfOk result (λ fits. (home : Home) (p : PlainNode) → StandsForNode home self.now p → IsFit home p
-            → (IsTrue fits ↔ Fits home self.now p order.now)) }
+            → (IsTrue fits ↔ Fits home p order.now)) }
     {
         if self.recovering {
             return Ok(false);
@@ -109,7 +109,7 @@ impl Node {
         requires sound { IsSound self.now }
         requires some { 1 ≤ length order.now.buckets }
         ensures { IfOk result (λ had. (home : Home) (p : PlainNode) → StandsForNode home self.now p → IsFit home p
-            → IsBeside home self.now p order.now had) }
+            → IsBeside home p order.now had) }
     {
         let fits = self.fits(alloc, order)?;
         Ok(Point {

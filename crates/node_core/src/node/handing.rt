@@ -6,7 +6,7 @@ ghost use Rattle.node_model.specs.Mails.{Snap};
 ghost use Rattle.node_model.specs.Nodes.{Home, PlainNode, spec_of, shown};
 ghost use Rattle.node_model.specs.NodeSteps.{snapshot, after_adoption};
 ghost use Rattle.pipeline.specs.Recovery.{StandsForSnapshot};
-ghost use Rattle.law_node.specs.Fitting.{IsFit};
+ghost use Rattle.node_model.specs.Fitting.{IsFit};
 ghost use Rattle.node_core.specs.Milling.{CanMillNode, IsOrderOf};
 ghost use Rattle.node_core.specs.Standing.{StandsForNode};
 ghost use Rattle.node_core.specs.Stepping.{IsSound, CanAdopt};

@@ -5,7 +5,7 @@ ghost use Rattle.dpc_model.specs.declared.messages.NodeState.TheVariants.{UpFail
 ghost use Rattle.node_model.specs.Nodes.{Home, PlainNode, held_by, wants_to_reconcile};
 ghost use Rattle.node_model.specs.NodeSteps.{after_clock, choice_step, ask_step, processing_step, serving_step, rest_of_tick, tick_step, snapshot_ask_step};
 ghost use Rattle.node_core.specs.Stepping.{IsSound, Follows, Steps, choice_at_port};
-ghost use Rattle.law_node.specs.Fitting.{IsFit};
+ghost use Rattle.node_model.specs.Fitting.{IsFit};
 ghost use Rattle.node_core.specs.Standing.{StandsForNode};
 
 use crate::node::Node;

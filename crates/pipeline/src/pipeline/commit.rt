@@ -2,7 +2,7 @@
 ghost use Rattle.std.specs.Prelude.{◌≡◌, ◌↔◌, List, IfOk, IsTrue};
 ghost use Rattle.dpc_model.specs.Parts.{Inputs, Outputs};
 ghost use Rattle.dpc_model.specs.declared.operators.OpSpec.{OpSpec};
-ghost use Rattle.pipeline.specs.Flowing.{IsMilled, IsSetAs};
+ghost use Rattle.pipeline.specs.Flowing.{StandsForData, IsEngineOf, IsMilled, IsSetAs};
 ghost use Rattle.pipeline.specs.Committing.{CanMillReady, IsAt, CanPut};
 
 use crate::milling::next_buckets;
@@ -19,14 +19,22 @@ use soutput::fresh::Fresh;
 use std::alloc::Global;
 
 impl Pipeline {
-    /// Whether the engine at the cursor is that of an order, and the next ready buckets are its buckets.
+    /// Whether an order's engine is the one at the cursor. It takes no memory.
+    fn has_engine(&self, order: &Order<FragMill>) -> bool
+        ensures { (ops : List OpSpec) → (x : Inputs) → (o : Outputs) → StandsForData ops self.now x o
+            → (IsTrue result ↔ IsEngineOf ops self.now.union.width x order.now.before) }
+    {
+        self.keeper.same(&order.before)
+    }
+
+    /// Whether an order's engine is the one at the cursor, and its buckets are the next ready ones.
     pub fn is_at(&self, alloc: Global, order: &Order<FragMill>) -> Result<bool, NoMemory>
         requires { (ops : List OpSpec) × (x : Inputs) × (o : Outputs) × CanMillReady ops self.now x o }
         ensures { IfOk result (λ at. (ops : List OpSpec) → (x : Inputs) → (o : Outputs) → CanMillReady ops self.now x o
-            → (IsTrue at ↔ IsAt self.now x order.now)) }
+            → (IsTrue at ↔ IsAt ops self.now x order.now)) }
     {
         let count = order.buckets.len() as u64;
-        if !self.keeper.same(&order.before) || self.ready() < count {
+        if !self.has_engine(order) || self.ready() < count {
             return Ok(false);
         }
         if count == 0 {

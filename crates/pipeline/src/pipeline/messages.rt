@@ -1,15 +1,15 @@
 //! What comes to single ports, what goes to single readers, and what a node needs to know of both.
 ghost use Rattle.std.specs.Prelude.{◌≡◌, ◌*◌, ◌<◌, Bool, List, length, IfOk, OnErr};
 ghost use Rattle.dpc_lists.specs.Lists.{nth, changed};
-ghost use Rattle.dpc_model.specs.Inlets.{InletState, after_tally};
+ghost use Rattle.dpc_model.specs.Inlets.{InletState, after_tally, no_inlet};
 ghost use Rattle.dpc_model.specs.NodeStates.{is_stable};
-ghost use Rattle.dpc_model.specs.Parts.{Inputs, Outputs, shown_of};
+ghost use Rattle.dpc_model.specs.Parts.{Inputs, Outputs, shown_of, AreInOrder};
 ghost use Rattle.dpc_model.specs.Sessions.{no_session, after_ack, tally_of, view_items};
 ghost use Rattle.dpc_model.specs.Streams.{count_below};
 ghost use Rattle.dpc_model.specs.declared.operators.OpSpec.{OpSpec};
 ghost use Rattle.soutput.specs.Laws.{outputs_at};
 ghost use Rattle.sunion.specs.Laws.{with_inlet};
-ghost use Rattle.sunion.specs.Unions.{AreInOrder, no_inlet, no_value, last_due_in};
+ghost use Rattle.sunion.specs.Unions.{no_value, last_due_in};
 ghost use Rattle.pipeline.specs.Flowing.{StandsForData, IsSetAs, stream_at};
 ghost use Rattle.pipeline.specs.Messages.{IsTakenAt, IsReopened, HasAnswered};
 

@@ -1,12 +1,11 @@
 //! How a node's data path is made, lost, and taken over.
 ghost use Rattle.std.specs.Prelude.{◌≡◌, ◌*◌, ◌^◌, ◌<◌, List, length, slice_get, Some, IfOk, OnOk};
 ghost use Rattle.dpc_model.specs.Fragments.{AreSoundFrags};
-ghost use Rattle.dpc_model.specs.Parts.{Inputs, Outputs};
+ghost use Rattle.dpc_model.specs.Parts.{Inputs, Outputs, AreInOrder};
 ghost use Rattle.dpc_model.specs.declared.operators.OpSpec.{OpSpec};
 ghost use Rattle.dpc_model.specs.declared.plans.FragSpec.{FragSpec};
 ghost use Rattle.node_model.specs.Mails.{Snap};
 ghost use Rattle.sunion.specs.Laws.{new_inputs};
-ghost use Rattle.sunion.specs.Unions.{AreInOrder};
 ghost use Rattle.pipeline.specs.Flowing.{StandsForData, IsSetAs};
 ghost use Rattle.pipeline.specs.Recovery.{IsSetFor, opened_outputs, restarted_inputs, restarted_outputs, lost_inputs, lost_outputs, StandsForSnapshot, snap_of, CanAdopt, adopted_inputs, adopted_outputs};
 

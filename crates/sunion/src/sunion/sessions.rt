@@ -1,9 +1,9 @@
 //! The sessions of the ports, and what is told of them.
 ghost use Rattle.std.specs.Prelude.{◌≡◌, ◌+◌, ◌*◌, ◌^◌, ◌<◌, length, OnOk};
 ghost use Rattle.dpc_lists.specs.Lists.{nth};
-ghost use Rattle.dpc_model.specs.Inlets.{with_next_session, after_tally, shows_loss, asked_by, sess_of};
+ghost use Rattle.dpc_model.specs.Inlets.{with_next_session, after_tally, shows_loss, asked_by, sess_of, no_inlet};
 ghost use Rattle.dpc_model.specs.Parts.{Inputs};
-ghost use Rattle.sunion.specs.Unions.{StandsForInputs, no_inlet, no_value, with_inlet_state, restarted_union};
+ghost use Rattle.sunion.specs.Unions.{StandsForInputs, no_value, with_inlet_state, restarted_union};
 
 use crate::ports::ports_begun_anew;
 use crate::sunion::SUnion;

@@ -4,10 +4,12 @@ ghost use Rattle.std.specs.Option.{option_copied};
 ghost use Rattle.dpc_model.specs.Actors.{role_of};
 ghost use Rattle.dpc_model.specs.declared.messages.Event.TheVariants as event;
 ghost use Rattle.node_core.specs.declared.faults.Point.{Point};
-ghost use Rattle.world_model.specs.Worlds.{node_at, ready_at, passes_limit};
+ghost use Rattle.world_model.specs.Worlds.{node_at, ready_at, passes_limit, WouldReach};
+ghost use Rattle.world_model.specs.Safe.{IsSafeStep};
+ghost use Rattle.law_promises.specs.Promises.{KeepsPromises};
 ghost use Rattle.world_parts.specs.Telling.{StandsForRole};
 ghost use Rattle.world_core.specs.Handing.{Fits, IsWorkOf, IsStaleAt, is_loss};
-ghost use Rattle.world_core.specs.Runs.{world_of, WouldReach};
+ghost use Rattle.world_core.specs.Runs.{world_of};
 ghost use Rattle.world_core.specs.declared.faults.ApplyFault.TheVariants as apply;
 ghost use Rattle.world_core.specs.declared.faults.CommitFault.TheVariants as fault;
 
@@ -61,8 +63,8 @@ impl World {
     }
 
     /// Puts work back that was done apart: the event of milling its buckets happens, where its node is up
-    /// and still stands where the order was taken. Where that is stale nothing changes; each other fault
-    /// leaves the world spent, and its events those that were.
+    /// and still stands where the order was taken; the run keeps all its promises. Where that is stale nothing
+    /// changes; each other fault leaves the world spent, and its events those that were.
     pub fn commit(&mut self, alloc: Global, milled: Milled<FragMill>) -> Result<(), CommitFault>
         ensures ok { OnOk result (self.new ≡ record self.old {
           events = self.old.events
@@ -71,6 +73,9 @@ impl World {
         ensures within { OnOk result (passes_limit (world_of self.old)
             (event.Mill milled.order.node (length milled.order.buckets)) ≡ false) }
         ensures fits { OnOk result (Fits self.old milled.order) }
+        ensures keeps { OnOk result (KeepsPromises self.new.plan self.new.events) }
+        ensures step { OnOk result (IsSafeStep (world_of self.old)
+            (event.Mill milled.order.node (length milled.order.buckets))) }
         ensures long { (envelopes items : ℕ) → result ≡ Err (fault.TooLong envelopes items)
             → WouldReach (world_of self.old) (event.Mill milled.order.node (length milled.order.buckets)) envelopes items }
         ensures stale { (had needed : Point) → result ≡ Err (fault.Stale had needed) → (self.new ≡ self.old)

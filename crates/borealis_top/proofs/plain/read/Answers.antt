@@ -1,6 +1,7 @@
 -- What was read is a script, whose answer is told, or it is refused.
-use Rattle.std.proofs.Common.{◌≡◌, inr, Err, true, false, ap, arith}
+use Rattle.std.proofs.Common.{subst, inr, Err, true, false, ap, arith}
 use Rattle.script_rules.specs.Reading.{script_in}
+use Rattle.ideal_run.specs.IdealPlans.{IsIdealPlan}
 use Rattle.borealis_top.proofs.Ideals.{read_ideal}
 use Rattle.law_checked_runs.proofs.Names.{reads_have_plain_names}
 use Rattle.borealis_top.proofs.Runs.{read_can_run}
@@ -15,6 +16,11 @@ answer_script-requires-clause-run g c = read_can_run c.as_slice.result.now c.in-
 
 pub answer_script-requires-clause-names : goal.answer_script-requires-clause-names
 answer_script-requires-clause-names g c = reads_have_plain_names c.as_slice.result.now c.in-Ok-script.script (ap script_in c.in-Ok-script.ensures)
+
+pub told_ideal-requires : goal.told_ideal-requires
+told_ideal-requires g c =
+    let answer = rw c.in-Ok-Ideal.field-0-is at (c.in-Ok-Ideal.ensures {u = tt}) in
+    subst IsIdealPlan answer.1 (read_ideal c.as_slice.result.now c.in-Ok-script.script c.in-Ok-script.ensures)
 
 pub returns-in-Err-TooLong-clause-ends : goal.returns-in-Err-TooLong-clause-ends
 returns-in-Err-TooLong-clause-ends g c =

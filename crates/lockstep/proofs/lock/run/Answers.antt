@@ -1,5 +1,5 @@
 use Rattle.world_model.specs.Schedules.{lockstep_journal}
-use Rattle.lockstep.proofs.Ending.{ArePhases, first_lock, of-script, plain-ends, phases-excess, settled-answers, settled-past, raised-past}
+use Rattle.lockstep.proofs.Ending.{ArePhases, first_lock, of-script, plain-ends, phases-excess, ends-settled, settled-answers, settled-past, raised-past}
 use Rattle.lockstep.proofs.lock.run.Goals as goal
 use Rattle.lockstep.proofs.lock.run.Goals.{In_ok-phases}
 
@@ -31,3 +31,10 @@ returns-clause-ok c = (plain-ends c.args.script c.phases-2.new.self c.if-settle.
 
 pub returns-clause-within : goal.returns-clause-within
 returns-clause-within c = (plain-ends c.args.script c.phases-2.new.self c.if-settle.false (phased (goal.at.returns-clause-within c).In_ok-phases)).within
+
+pub returns-then-settle-clause-settles : goal.returns-then-settle-clause-settles
+returns-then-settle-clause-settles c =
+    settled-answers c.args.script c.phases-2.new.self c.settle.result c.if-settle.true (phased (goal.at.returns-then-settle-clause-settles c).In_ok-phases) c.settle.ensures.ok (λ w e. ends-settled c.args.script w e)
+
+pub returns-clause-settles : goal.returns-clause-settles
+returns-clause-settles c = ends-settled c.args.script c.phases-2.new.self.world (plain-ends c.args.script c.phases-2.new.self c.if-settle.false (phased (goal.at.returns-clause-settles c).In_ok-phases))

@@ -1,8 +1,8 @@
 use Rattle.std.proofs.Common.{◌≡◌, ◌*◌, map, take}
 use Rattle.dpc_model.specs.Inlets.{InletState}
-use Rattle.dpc_model.specs.Parts.{Inputs}
+use Rattle.dpc_model.specs.Parts.{Inputs, AreInOrder}
 use Rattle.dpc_model.specs.Streams.{count_below}
-use Rattle.sunion.specs.Unions.{StandsForInputs, AreInOrder}
+use Rattle.sunion.specs.Unions.{StandsForInputs}
 use Rattle.pipeline.proofs.counting.done_counts.Given as goal
 
 -- the first ports are counted

@@ -33,6 +33,7 @@ loop-i-preserved g c =
     let width = unwrap_or (g.M.Engine.width c.args.self.now.keeper.state) 0 in
     record {
       spent = search rules;
+      fresh = c.in-Ok.ensures.fresh;
       next = c.in-Ok.ensures.next ∙ number;
       operators = c.in-Ok.ensures.operators ∙ so_far.operators;
       width = c.in-Ok.ensures.width ∙ so_far.width;

@@ -10,6 +10,7 @@ use Rattle.checkpoint_redo.proofs.keeper.Keeper.redo.Given as goal
 abbrev pub invariant-loop-i : goal.invariant-loop-i
 invariant-loop-i l x = record {
   spent : x.self.spent ≡ false;
+  fresh : l.M.Engine.is_spent x.self.keeper.state ≡ false;
   next : l.M.Engine.next x.self.keeper.state ≡ x.fn.k + x.i;
   operators : l.M.Engine.operators x.self.keeper.state ≡ l.M.Engine.operators x.fn.self.keeper.state;
   width : l.M.Engine.width x.self.keeper.state ≡ l.M.Engine.width x.fn.self.keeper.state;

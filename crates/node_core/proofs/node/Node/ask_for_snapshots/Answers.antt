@@ -1,4 +1,4 @@
-use Rattle.std.proofs.Common.{◌≡◌, ◌∙◌, ℕ, List, map, ap, subst}
+use Rattle.std.proofs.Common.{◌∙◌, ℕ, map, ap, subst}
 use Rattle.dpc_model.specs.declared.messages.Message.TheVariants as message
 use Rattle.node_model.specs.NodeSteps.{snapshot_ask_step}
 use Rattle.node_core.specs.Standing.{NodeValue}

@@ -5,9 +5,9 @@ use Rattle.mill_work.specs.Milling.{OrderValue}
 use Rattle.pipeline.specs.Committing.{CanPut}
 use Rattle.node_model.specs.Nodes.{Home, PlainNode, spec_of}
 use Rattle.node_model.specs.NodeParts.{inputs_of, outputs_of}
-use Rattle.law_node.specs.Fitting.{IsFit}
+use Rattle.node_model.specs.Fitting.{IsFit}
 use Rattle.node_core.specs.declared.faults.Point.{Point}
-use Rattle.node_core.specs.Milling.{CanMill, CanMillNode, MillSteps, Fits, IsBeside, needed_by, is_stale, WasStale}
+use Rattle.node_core.specs.Milling.{CanMill, CanMillNode, MillSteps, IsWorkAt, IsBeside, needed_by, is_stale, WasStale}
 use Rattle.node_core.specs.Standing.{NodeValue, StandsForNode}
 use Rattle.node_core.specs.Stepping.{IsSound}
 use Rattle.node_core.proofs.Committed.{can-put, stands-there, can-mill-there, was-stale, same-stale}
@@ -21,8 +21,8 @@ returns-then-is_stale-clause-stale c =
     let asked : here ≡ needed_by c.args.milled.order =
     ap (λ (k : ℕ). record here { ready = k }) c.len.ensures ∙ ap (λ (q : OrderValue MillState). needed_by q) (c.order.view_is ∙ c.into_parts-order.ensures.order) in
     let stale : is_stale c.in-Ok.had here ≡ true = sym (c.if-is_stale.ensures {u = tt}) in
-    let beside : (home : Home) (p : PlainNode) → StandsForNode home v p → IsFit home p → IsBeside home v p c.args.milled.order c.in-Ok.had =
-    λ home p h fit. subst (λ (q : OrderValue MillState). IsBeside home v p q c.in-Ok.had) c.into_parts-order.ensures.order ((c.in-Ok.ensures {u = tt}) home p h fit) in
+    let beside : (home : Home) (p : PlainNode) → StandsForNode home v p → IsFit home p → IsBeside home p c.args.milled.order c.in-Ok.had =
+    λ home p h fit. subst (λ (q : OrderValue MillState). IsBeside home p q c.in-Ok.had) c.into_parts-order.ensures.order ((c.in-Ok.ensures {u = tt}) home p h fit) in
     let same = same-stale c.in-Ok.had here had needed e in
     subst (λ (n : Point). WasStale c.args.milled.order v v had n) same.1
     (subst (λ (h : Point). WasStale c.args.milled.order v v h here) same.0 (was-stale v c.args.milled.order c.in-Ok.had here asked stale beside))
@@ -36,9 +36,9 @@ put-requires-clause-can c =
     let asked : needed ≡ needed_by o = ap (λ (k : ℕ). record needed { ready = k }) c.len.ensures ∙ ap (λ (q : OrderValue MillState). needed_by q) c.order.view_is in
     let fresh : v.spent ≡ false = ap (λ (w : NodeValue). w.spent) (sym c.self.view_is) ∙ c.if-self.false in
     let sound : IsSound v = c.requires fresh in
-    let there = stands-there sound.0 v sound.1 o c.in-Ok.had needed asked (sym (c.if-is_stale.ensures {u = tt})) ((c.in-Ok.ensures {u = tt}) sound.0 sound.1 sound.2 sound.3) in
+    let there = stands-there sound.0 sound.1 o c.in-Ok.had needed asked (sym (c.if-is_stale.ensures {u = tt})) ((c.in-Ok.ensures {u = tt}) sound.0 sound.1 sound.2 sound.3) in
     let is_order = c.into_parts-order.ensures.milled.order in
-    subst (λ (k : ℕ). CanMillNode k v) (sym many) (can-mill-there sound.0 v sound.1 o sound.2 sound.3 is_order.some is_order.few there.2)
+    subst (λ (k : ℕ). CanMillNode k v) (sym many) (can-mill-there sound.0 v sound.1 o sound.2 sound.3 is_order.some is_order.few there.fits)
 
 pub put-requires-clause-made : goal.put-requires-clause-made
 put-requires-clause-made c =
@@ -50,10 +50,10 @@ put-requires-clause-made c =
     let many : c.len.result ≡ length o.buckets = c.len.ensures ∙ ap (λ (q : OrderValue MillState). length q.buckets) c.order.view_is in
     let needed : Point = record { up = true; inc = c.order.inside.inc; cursor = c.order.inside.cursor; ready = c.len.result; fits = true } in
     let asked : needed ≡ needed_by o = ap (λ (k : ℕ). record needed { ready = k }) c.len.ensures ∙ ap (λ (q : OrderValue MillState). needed_by q) c.order.view_is in
-    let there = stands-there home v p o c.in-Ok.had needed asked (sym (c.if-is_stale.ensures {u = tt})) ((c.in-Ok.ensures {u = tt}) home p h.stands h.fit) in
+    let there = stands-there home p o c.in-Ok.had needed asked (sym (c.if-is_stale.ensures {u = tt})) ((c.in-Ok.ensures {u = tt}) home p h.stands h.fit) in
     let can : CanMill (length o.buckets) home v p = subst (λ (k : ℕ). CanMill k home v p) many h in
     subst (λ (k : ℕ). CanPut (spec_of home).ops v.path (inputs_of p) (outputs_of p) k after outputs) (sym many)
-    (can-put home v p o after outputs c.into_parts-order.ensures.milled.order.some c.into_parts-order.ensures.milled there.2 can)
+    (can-put home v p o after outputs c.into_parts-order.ensures.milled.order.some c.into_parts-order.ensures.milled there.fits can)
 
 pub returns-clause-ok : goal.returns-clause-ok
 returns-clause-ok c =
@@ -63,15 +63,7 @@ returns-clause-ok c =
     let asked : needed ≡ needed_by o =
     ap (λ (k : ℕ). record needed { ready = k }) c.len.ensures ∙ ap (λ (q : OrderValue MillState). needed_by q) (c.order.view_is ∙ c.into_parts-order.ensures.order) in
     let many : c.len.result ≡ length o.buckets = c.len.ensures ∙ ap (λ (q : OrderValue MillState). length q.buckets) (c.order.view_is ∙ c.into_parts-order.ensures.order) in
-    let fresh : v.spent ≡ false = ap (λ (w : NodeValue). w.spent) (sym c.self.view_is) ∙ c.if-self.false in
-    let sound : IsSound v = c.requires fresh in
-    let there : (home : Home) (p : PlainNode) → StandsForNode home v p → IsFit home p → (o.inc ≡ v.links.known.grants.inc) × (o.cursor ≡ v.path.union.union.cursor) × Fits home v p o =
-    λ home p h fit. stands-there home v p o c.in-Ok.had needed asked (sym (c.if-is_stale.ensures {u = tt}))
-    (subst (λ (q : OrderValue MillState). IsBeside home v p q c.in-Ok.had) c.into_parts-order.ensures.order ((c.in-Ok.ensures {u = tt}) home p h fit)) in
-    let here = there sound.0 sound.1 sound.2 sound.3 in
-    record {
-      inc = here.0;
-      cursor = here.1;
-      fits = λ home p h fit. (there home p h fit).2;
-      steps = subst (λ (k : ℕ). MillSteps k v c.put.new.self c.in-Ok-put.mails.items) many (c.in-Ok-put.ensures.after);
-    }
+    let work : (home : Home) (p : PlainNode) → StandsForNode home v p → IsFit home p → IsWorkAt home p o =
+    λ home p h fit. stands-there home p o c.in-Ok.had needed asked (sym (c.if-is_stale.ensures {u = tt}))
+    (subst (λ (q : OrderValue MillState). IsBeside home p q c.in-Ok.had) c.into_parts-order.ensures.order ((c.in-Ok.ensures {u = tt}) home p h fit)) in
+    record { work = work; steps = subst (λ (k : ℕ). MillSteps k v c.put.new.self c.in-Ok-put.mails.items) many (c.in-Ok-put.ensures.after) }

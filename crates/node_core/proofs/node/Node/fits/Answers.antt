@@ -1,7 +1,6 @@
 use Rattle.std.proofs.Common.{false, sym, subst, IsTrue}
 use Rattle.node_model.specs.Nodes.{spec_of}
 use Rattle.node_model.specs.NodeParts.{inputs_of, outputs_of}
-use Rattle.node_core.specs.Milling.{Fits}
 use Rattle.node_core.specs.Standing.{NodeValue, StandsForNode}
 use Rattle.node_core.specs.Stepping.{IsSound}
 use Rattle.node_core.specs.contracts.node.Node.{the_view}
@@ -13,7 +12,7 @@ returns-then-self c =
     λ home p old fit.
     let v = the_view c.self.inside in
     let h : StandsForNode home v p = subst (λ (w : NodeValue). StandsForNode home w p) (sym c.self.view_is) old in
-    (λ (e : IsTrue false). cc, λ fits. none-fits home v p c.args.order.now h c.if-self.true c.requires.some (subst (λ (w : NodeValue). Fits home w p c.args.order.now) (sym c.self.view_is) fits))
+    (λ (e : IsTrue false). cc, λ fits. none-fits home v p c.args.order.now h c.if-self.true c.requires.some fits)
 
 pub is_at-requires : goal.is_at-requires
 is_at-requires c =
@@ -28,6 +27,6 @@ returns c =
     let o = c.args.order.now in
     let h : StandsForNode home v p = subst (λ (w : NodeValue). StandsForNode home w p) (sym c.self.view_is) old in
     let at = (c.in_ok-fits.ensures {u = tt}) (spec_of home).ops (inputs_of p) (outputs_of p) (can-ready home v p h fit) in (
-      λ e. subst (λ (w : NodeValue). Fits home w p o) c.self.view_is (fits-at home v p o h c.if-self.false (at.0 e)),
-      λ fits. at.1 (at-fits home v p o h c.if-self.false (subst (λ (w : NodeValue). Fits home w p o) (sym c.self.view_is) fits)),
+      λ e. fits-at home v p o h c.if-self.false (at.0 e),
+      λ fits. at.1 (at-fits home v p o h c.if-self.false fits),
     )

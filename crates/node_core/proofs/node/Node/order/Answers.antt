@@ -1,14 +1,16 @@
-use Rattle.std.proofs.Common.{◌≡◌, ◌∙◌, sym, ap, subst}
+use Rattle.std.proofs.Common.{◌≡◌, ◌∙◌, length, sym, ap, subst}
 use Rattle.mill_work.specs.Milling.{OrderValue}
 use Rattle.fragment_mill.specs.Mills.{MillState}
 use Rattle.law_buckets.specs.Series.{buckets_from}
+use Rattle.law_buckets.proofs.Accepted.{count-buckets}
+use Rattle.pipeline.specs.Flowing.{IsEngineOf}
 use Rattle.node_model.specs.Nodes.{Home, PlainNode, spec_of}
 use Rattle.node_model.specs.NodeParts.{inputs_of, outputs_of}
 use Rattle.node_core.specs.Milling.{CanMill, CanMillNode, IsOrderOf}
 use Rattle.node_core.specs.Standing.{NodeValue}
 use Rattle.node_core.specs.contracts.node.Node.{the_view}
 use Rattle.node_core.proofs.Milled.{can-mill-path}
-use Rattle.node_core.proofs.Orders.{next-are, order-stands}
+use Rattle.node_core.proofs.Orders.{order-work, order-stands}
 use Rattle.node_core.proofs.node.Node.order.Goals as goal
 
 pub work-requires : goal.work-requires
@@ -30,12 +32,12 @@ returns-clause-order c =
     let at : c.cursor.result ≡ v.path.union.union.cursor = c.cursor.ensures ∙ ap (λ (w : NodeValue). w.path.union.union.cursor) (sym c.self.view_is) in
     let are : (home : Home) → (p : PlainNode) → CanMill c.args.count home v p → o.buckets ≡ buckets_from v.path.union.width (inputs_of p) p.cursor c.args.count =
     λ home p can. c.in-Ok.ensures.buckets (spec_of home).ops (inputs_of p) (outputs_of p) (can-mill-path home v p c.args.count can_mill.some can) in
+    let engine : (home : Home) → (p : PlainNode) → CanMill c.args.count home v p → IsEngineOf (spec_of home).ops v.path.union.width (inputs_of p) o.before =
+    λ home p can. c.in-Ok.ensures.engine (spec_of home).ops (inputs_of p) (outputs_of p) (can-mill-path home v p c.args.count can_mill.some can) in
     let there : IsOrderOf v c.args.count o = record {
       node = c.own.ensures;
-      inc = c.inc.ensures;
-      cursor = at;
-      before = c.in-Ok.ensures.engine.0;
-      buckets = λ home p can. are home p can ∙ next-are home v p c.args.count can;
-      can = order-stands home v p c.args.count o can_mill.some can_mill.few can_mill.node.2 at c.in-Ok.ensures.engine.0 c.in-Ok.ensures.engine.1 (are home p can_mill.node.2);
+      many = ap length (are home p can_mill.node.2) ∙ count-buckets v.path.union.width (inputs_of p) p.cursor c.args.count;
+      work = λ home p can. order-work home v p c.args.count o can c.inc.ensures at (engine home p can) (are home p can);
+      can = order-stands home v p c.args.count o can_mill.some can_mill.few can_mill.node.2 at (engine home p can_mill.node.2) (are home p can_mill.node.2);
     } in
     subst (λ (w : NodeValue). IsOrderOf w c.args.count o) c.self.view_is there

@@ -1,8 +1,6 @@
-use Rattle.std.proofs.Common.{◌≡◌, subst, sym}
+use Rattle.std.proofs.Common.{subst, sym}
 use Rattle.node_model.specs.Stands.{SnapValue}
 use Rattle.fragment_mill.specs.Mills.{MillState}
-use Rattle.node_model.specs.Mails.{Packet as PlainPacket}
-use Rattle.node_model.specs.Nodes.{PlainNode, Home}
 use Rattle.node_model.specs.NodeSteps.{with_marks_ended}
 use Rattle.node_core.specs.declared.packets.Packet as code
 use Rattle.node_core.specs.Stepping.{CanTake, CanAdopt}

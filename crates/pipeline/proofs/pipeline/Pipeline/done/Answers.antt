@@ -1,7 +1,7 @@
 use Rattle.std.proofs.Common.{◌<◌, ◌*◌, ◌∙◌, ap, length, sym, subst}
 use Rattle.dpc_lists.specs.Lists.{nth}
 use Rattle.dpc_model.specs.Streams.{count_below}
-use Rattle.sunion.specs.Unions.{no_inlet}
+use Rattle.dpc_model.specs.Inlets.{no_inlet}
 use Rattle.pipeline.specs.Flowing.{PipelineValue, StandsForData}
 use Rattle.pipeline.specs.contracts.pipeline.Pipeline.{the_view}
 use Rattle.pipeline.proofs.Plainly.{cursor-at, done-shown}

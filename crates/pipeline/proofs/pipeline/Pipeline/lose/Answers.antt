@@ -14,4 +14,4 @@ returns-clause-lost c = λ ops x o h.
     let none : c.as_slice.result.now ≡ replicate c.ports.result 0 = c.as_slice.ensures.value ∙ c.in_ok-counts.ensures in
     let output : c.restart_at-2.new.self ≡ restarted_output 0 [] 0 p.output = c.in_ok-restart_at-2.ensures ∙ ap (λ (ts : List Tuple). restarted_output 0 ts 0 p.output) (c.from_vec-none.ensures ∙ c.new.ensures.items) in
     loses ops (the_view p) c.restart_at.new.self c.reset.new.self c.restart_at-2.new.self x o c.ports.result c.as_slice.result.now stood c.ports.ensures none c.in_ok-restart_at.ensures
-    c.reset.ensures.operators c.reset.ensures.width c.reset.ensures.held c.reset.ensures.after output
+    c.reset.ensures.operators c.reset.ensures.width c.reset.ensures.fresh c.reset.ensures.held c.reset.ensures.after output

@@ -1,9 +1,11 @@
 use Rattle.std.proofs.Common.{◌≡◌, ◌∙◌, ◌++◌, ◌∷◌, [], ◌+◌, false, Err, length, List, ap, sym, subst}
 use Rattle.dpc_model.specs.declared.messages.Event.{Event}
-use Rattle.world_model.specs.Worlds.{run, passes_limit}
+use Rattle.world_model.specs.Worlds.{run, passes_limit, WouldReach}
+use Rattle.world_model.specs.Safe.{IsSafeStep}
+use Rattle.law_promises.proofs.Kept.{promises-kept, next-safe}
 use Rattle.world_parts.specs.Parts.{StandsForWorld}
 use Rattle.world_parts.proofs.PartFrames.{handed_on}
-use Rattle.world_core.specs.Runs.{RunOf, world_of, WouldReach}
+use Rattle.world_core.specs.Runs.{RunOf, world_of}
 use Rattle.world_core.proofs.Running.{run-stands, some-stands, next-stands, would-reach, too-long}
 use Rattle.world_core.proofs.world.World.apply.Goals as goal
 
@@ -33,3 +35,10 @@ returns-clause-within c =
     let events = c.self.inside.events.items in
     let here = run-stands plan c.self.inside.parts events c.self.invariant.0 (c.self.invariant.1 c.if-self.false) in
     subst (λ (r : RunOf). passes_limit (world_of r) c.args.e ≡ false) c.self.view_is ((c.in_ok-happen.ensures {u = tt}).ok.within (run plan events) (1 + length events) here)
+
+pub returns-clause-keeps : goal.returns-clause-keeps
+returns-clause-keeps c = promises-kept _ _ c.self.invariant.0.checked
+
+pub returns-clause-step : goal.returns-clause-step
+returns-clause-step c =
+    subst (λ (r : RunOf). IsSafeStep (world_of r) c.args.e) c.self.view_is (next-safe c.self.inside.plan c.self.inside.events.items c.args.e c.self.invariant.0.checked)

@@ -3,10 +3,12 @@ use Rattle.dpc_model.specs.declared.messages.Event.{Event}
 use Rattle.dpc_model.specs.declared.messages.Event.TheVariants as event
 use Rattle.fragment_mill.specs.Mills.{MillState}
 use Rattle.mill_work.specs.Milling.{OrderValue}
-use Rattle.world_model.specs.Worlds.{run, passes_limit}
+use Rattle.world_model.specs.Worlds.{run, passes_limit, WouldReach}
+use Rattle.world_model.specs.Safe.{IsSafeStep}
+use Rattle.law_promises.proofs.Kept.{promises-kept, next-safe}
 use Rattle.world_parts.specs.Parts.{StandsForWorld}
 use Rattle.world_core.specs.Handing.{Fits, IsStaleAt}
-use Rattle.world_core.specs.Runs.{RunOf, world_of, WouldReach}
+use Rattle.world_core.specs.Runs.{RunOf, world_of}
 use Rattle.world_core.proofs.Running.{run-stands, some-stands, next-stands, would-reach}
 use Rattle.world_core.proofs.Work.{still-fits, still-stale, long-told, stale-told, stale-kept, same-run}
 use Rattle.world_core.proofs.world.World.commit.Goals as goal
@@ -56,3 +58,10 @@ pub returns-clause-fits : goal.returns-clause-fits
 returns-clause-fits c =
     let o = c.args.milled.order in
     subst (λ (r : RunOf). Fits r o) c.self.view_is (still-fits _ c.self.inside.parts o c.self.invariant.0 (c.self.invariant.1 c.if-self.false) (c.in_default.ensures {u = tt}).fits)
+
+pub returns-clause-keeps : goal.returns-clause-keeps
+returns-clause-keeps c = promises-kept _ _ c.self.invariant.0.checked
+
+pub returns-clause-step : goal.returns-clause-step
+returns-clause-step c =
+    subst (λ (r : RunOf). IsSafeStep (world_of r) (event.Mill c.args.milled.order.node (length c.args.milled.order.buckets))) c.self.view_is (next-safe c.self.inside.plan c.self.inside.events.items (event.Mill c.args.milled.order.node (length c.args.milled.order.buckets)) c.self.invariant.0.checked)

@@ -5,5 +5,4 @@ use Rattle.world_parts.proofs.slots.Slot.order.Goals as goal
 pub returns-clause-some : goal.returns-clause-some
 returns-clause-some c =
     let up : c.args.self.now.node ≡ Some c.in-Some.node.now = search rules in
-    let any : c.min-count.result ≡ 0 → ⊥ = search rules in
-    slot-order c.args.self.now c.in-Some.node.now c.ready.result c.min-count.result c.in-Ok.order up c.requires c.ready.ensures c.min-count.ensures any c.in-Ok.ensures.order
+    slot-order c.args.self.now c.in-Some.node.now c.ready.result c.min-count.result c.in-Ok.order up c.ready.ensures c.min-count.ensures c.in-Ok.ensures.order

@@ -1,0 +1,4 @@
+pub mod Actors
+pub mod Entries
+pub mod Journals
+pub mod Cuts

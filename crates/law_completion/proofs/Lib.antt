@@ -1,0 +1,10 @@
+pub mod Rising
+pub mod Milled
+pub mod Reaching
+pub mod Standing
+pub mod Leads
+pub mod Milling
+pub mod Delivering
+pub mod Ticking
+pub mod Waiting
+pub mod Completing

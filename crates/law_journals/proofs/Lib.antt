@@ -1,0 +1,9 @@
+pub mod Items
+pub mod Replayed
+pub mod SnapshotsTrue
+pub mod Sizes
+pub mod Directed
+pub mod Incarnations
+pub mod Entries
+pub mod PrefixesTaken
+pub mod ViewsHeld

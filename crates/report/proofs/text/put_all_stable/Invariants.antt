@@ -1,8 +1,0 @@
-use Rattle.std.proofs.Common.{◌≡◌, ◌++◌, map, take}
-use Rattle.dpc_model.specs.Words.{text_of}
-use Rattle.dpc_model.specs.Sessions.{stable_items}
-use Rattle.report.specs.Text.{item_words}
-use Rattle.report.proofs.text.put_all_stable.Given as goal
-
-abbrev pub invariant-loop-number : goal.invariant-loop-number
-invariant-loop-number l = l.text.items ≡ l.fn.text.items ++ text_of (map item_words (stable_items 0 (take l.number l.tuples)))

@@ -1,4 +1,0 @@
-use Rattle.trial_parts.proofs.keepers.a_tentative_bucket_is_taken_back.Given as goal
-
-abbrev pub ghosts-tried_and_taken_back : goal.ghosts-tried_and_taken_back
-ghosts-tried_and_taken_back g a = record { name = a.blank.name; parts = a.blank.parts }
