@@ -8,7 +8,7 @@ use dpc_model::scripts::Script;
 
 mod expressions;
 mod lines;
-mod names;
+pub mod names;
 mod operators;
 
 pub use lines::print_script;

@@ -1,12 +1,12 @@
 -- What is printed of a journal is read back.
-use Rattle.std.proofs.Common.{◌≡◌, ℕ, ◌^◌, ◌<◌, ◌≤◌, Bool, true, false, List, [], ◌∷◌, ◌++◌, map, length, Option, Some, None, refl, sym, ap, ◌∙◌, arith}
-use Rattle.std.specs.Prelude.{Ok, Err, ◌&&◌, ◌==◌, not, nat_lt, nat_le, codes, bytes_eq, decimal, option_map, if◌then◌else◌}
-use Rattle.std.proofs.lemmas.Bool.{and_parts, ltb-true, leb-true, ne_eqb, eq-eqb}
+use Rattle.std.proofs.Common.{◌≡◌, ℕ, ◌^◌, ◌<◌, Bool, true, false, List, [], ◌∷◌, ◌++◌, map, length, Option, Some, None, refl, sym, ap, ◌∙◌}
+use Rattle.std.specs.Prelude.{Ok, Err, ◌&&◌, ◌==◌, nat_lt, codes, bytes_eq, decimal, option_map, if◌then◌else◌}
+use Rattle.std.proofs.lemmas.Bool.{and_parts, ltb-true, eq-eqb}
 use Rattle.std.proofs.lemmas.List.{append-nil, append_assoc, map-append}
 use Rattle.std.proofs.lemmas.List.Folds.{list_all-append}
-use Rattle.dpc_lists.specs.Lists.{list_all, is_nil}
+use Rattle.dpc_lists.specs.Lists.{list_all}
 use Rattle.dpc_lists.proofs.Elements.{map-map}
-use Rattle.dpc_model.specs.Words.{Word, spaced}
+use Rattle.dpc_model.specs.Words.{spaced}
 use Rattle.dpc_model.specs.Actors.{role_of}
 use Rattle.dpc_model.specs.ScriptText.{actor_name}
 use Rattle.dpc_model.specs.declared.messages.Event.{Event}
@@ -14,7 +14,7 @@ use Rattle.dpc_model.specs.declared.messages.Event.TheVariants.{Phase, Emit, Rel
 use Rattle.dpc_model.specs.declared.plans.Plan.{Plan}
 use Rattle.script_rules.specs.Lines.{pieces, lines_of}
 use Rattle.script_rules.proofs.Apart.{same_word}
-use Rattle.law_scripts.proofs.Lines.{is_plain_byte, is_plain, NoneIs, pieces-first, pieces-last, lines_of-text}
+use Rattle.law_scripts.proofs.Lines.{is_plain, spaced_pieces, lines_of-text}
 use Rattle.law_scripts.proofs.Plain.{plain_decimal}
 use Rattle.script_words.specs.Numbers.{u64_of}
 use Rattle.journal_text.specs.Actors.{is_of, actor_of}
@@ -25,23 +25,6 @@ use Rattle.journal_text.specs.declared.sorts.Sort.TheVariants.{Source, Node, Any
 use Rattle.journal_text.proofs.Found.{u64_of-decimal}
 use Rattle.journal_text.proofs.ByLines.{opening, no_more, at_end, one_entry}
 use Rattle.journal_text.proofs.Named.{HasClearNames, found_by_name, plain_of_sort}
-
--- ---- words
-
-no_space : NoneIs 32 is_plain_byte
-no_space b h =
-    let p = and_parts (nat_le 33 b) (nat_le b 126) h in
-    let least : 33 ≤ b = leb-true 33 b p.0 in
-    ne_eqb b 32 (λ e. omega (arith, least, e))
-
-bytes_of : (w : Word) → is_plain w ≡ true → list_all is_plain_byte w ≡ true
-bytes_of w h = (and_parts (not (is_nil w)) (list_all is_plain_byte w) h).1
-
-pub pieces-spaced : (w : Word) (words : List Word) → list_all is_plain (w ∷ words) ≡ true → pieces 32 (spaced (w ∷ words)) ≡ w ∷ words
-pieces-spaced w [] h = pieces-last 32 is_plain_byte w no_space (bytes_of w (and_parts (is_plain w) true h).0)
-pieces-spaced w (v ∷ words) h =
-    let p = and_parts (is_plain w) (list_all is_plain (v ∷ words)) h in
-    pieces-first 32 is_plain_byte w (spaced (v ∷ words)) no_space (bytes_of w p.0) ∙ ap (λ l. w ∷ l) (pieces-spaced v words p.1)
 
 module _ (plan : Plan) (names : HasClearNames plan) where
   -- ---- an entry
@@ -102,16 +85,16 @@ module _ (plan : Plan) (names : HasClearNames plan) where
 
   -- each entry has a first word, so that its words are those of its line
   pieces_of_line : (e : Event) → list_all is_plain (entry_words plan e) ≡ true → pieces 32 (line e) ≡ entry_words plan e
-  pieces_of_line (Phase p) h = pieces-spaced (codes "phase") _ h
-  pieces_of_line (Emit s t) h = pieces-spaced (codes "emit") _ h
-  pieces_of_line (Release s t) h = pieces-spaced (codes "release") _ h
-  pieces_of_line (Cut a b) h = pieces-spaced (codes "cut") _ h
-  pieces_of_line (Heal a b) h = pieces-spaced (codes "heal") _ h
-  pieces_of_line (Crash n) h = pieces-spaced (codes "crash") _ h
-  pieces_of_line (Restart n inc) h = pieces-spaced (codes "restart") _ h
-  pieces_of_line (Deliver k) h = pieces-spaced (codes "deliver") _ h
-  pieces_of_line (Tick a now) h = pieces-spaced (codes "tick") _ h
-  pieces_of_line (Mill n r) h = pieces-spaced (codes "mill") _ h
+  pieces_of_line (Phase p) h = spaced_pieces (codes "phase") _ h
+  pieces_of_line (Emit s t) h = spaced_pieces (codes "emit") _ h
+  pieces_of_line (Release s t) h = spaced_pieces (codes "release") _ h
+  pieces_of_line (Cut a b) h = spaced_pieces (codes "cut") _ h
+  pieces_of_line (Heal a b) h = spaced_pieces (codes "heal") _ h
+  pieces_of_line (Crash n) h = spaced_pieces (codes "crash") _ h
+  pieces_of_line (Restart n inc) h = spaced_pieces (codes "restart") _ h
+  pieces_of_line (Deliver k) h = spaced_pieces (codes "deliver") _ h
+  pieces_of_line (Tick a now) h = spaced_pieces (codes "tick") _ h
+  pieces_of_line (Mill n r) h = spaced_pieces (codes "mill") _ h
 
   line_back : (e : Event) → is_named plan e ≡ true → has_small_numbers e ≡ true → entry_of plan (line e) ≡ Some e
   line_back e h low = ap (entry_of_words plan) (pieces_of_line e (words_plain e h low)) ∙ words_back e h low
@@ -172,7 +155,7 @@ module _ (plan : Plan) (names : HasClearNames plan) where
           else if bytes_eq (spaced (if t then codes "journal" ∷ codes "3" ∷ decimal n ∷ [] else codes "journal" ∷ [])) (codes "journal") then Some None else None)) × (is_right count n ≡ true)
       by_version true =
           let plain : list_all is_plain (codes "journal" ∷ codes "3" ∷ decimal n ∷ []) ≡ true = rw (plain_decimal n low) refl in
-          (Some n, sym (ap (λ ps. option_map Some (counted ps)) (pieces-spaced (codes "journal") (codes "3" ∷ decimal n ∷ []) plain) ∙ ap (option_map Some) (u64_of-decimal n low)), eq-eqb n n refl)
+          (Some n, sym (ap (λ ps. option_map Some (counted ps)) (spaced_pieces (codes "journal") (codes "3" ∷ decimal n ∷ []) plain) ∙ ap (option_map Some) (u64_of-decimal n low)), eq-eqb n n refl)
       by_version false = (None, refl, refl)
 
   -- ---- the whole text

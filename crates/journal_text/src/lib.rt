@@ -6,7 +6,6 @@ mod entries;
 pub mod faults;
 pub mod laws;
 mod lines;
-mod names;
 mod printing;
 mod reading;
 pub mod sorts;

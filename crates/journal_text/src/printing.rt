@@ -5,7 +5,7 @@ ghost use Rattle.dpc_model.specs.ScriptText.{actor_name};
 ghost use Rattle.journal_text.specs.Entries.{entry_words};
 ghost use Rattle.journal_text.specs.Journals.{first_words, last_words, last_lines, journal_text};
 
-use crate::names::put_actor;
+use diagram_printer::names::put_actor;
 use dpc_lists::faults::NoMemory;
 use dpc_model::messages::Event;
 use dpc_model::plans::Plan;
@@ -26,7 +26,7 @@ fn put_named(text: &mut Vec<u8>, plan: &Plan, word: &[u8], actor: u32) -> Result
     ensures { OnOk result (text.new.items ≡ text.old.items ++ line_of (word.now ∷ actor_name plan.now actor ∷ [])) }
 {
     put_first(text, word)?;
-    put_actor(text, plan, actor)?;
+    put_actor(text, plan, u64::from(actor))?;
     end_line(text)
 }
 
@@ -42,7 +42,7 @@ fn put_told(
         ≡ text.old.items ++ line_of (word.now ∷ actor_name plan.now actor ∷ decimal number ∷ [])) }
 {
     put_first(text, word)?;
-    put_actor(text, plan, actor)?;
+    put_actor(text, plan, u64::from(actor))?;
     put_number(text, number)?;
     end_line(text)
 }
@@ -59,8 +59,8 @@ fn put_link(
         ≡ text.old.items ++ line_of (word.now ∷ actor_name plan.now from ∷ actor_name plan.now to ∷ [])) }
 {
     put_first(text, word)?;
-    put_actor(text, plan, from)?;
-    put_actor(text, plan, to)?;
+    put_actor(text, plan, u64::from(from))?;
+    put_actor(text, plan, u64::from(to))?;
     end_line(text)
 }
 

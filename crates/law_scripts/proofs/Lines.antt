@@ -48,7 +48,7 @@ no_space b h =
 bytes_of : (w : Word) → is_plain w ≡ true → list_all is_plain_byte w ≡ true
 bytes_of w h = (and_parts (not (is_nil w)) (list_all is_plain_byte w) h).1
 
-spaced_pieces : (w : Word) (words : List Word) → list_all is_plain (w ∷ words) ≡ true → pieces 32 (spaced (w ∷ words)) ≡ w ∷ words
+pub spaced_pieces : (w : Word) (words : List Word) → list_all is_plain (w ∷ words) ≡ true → pieces 32 (spaced (w ∷ words)) ≡ w ∷ words
 spaced_pieces w [] h = pieces-last 32 is_plain_byte w no_space (bytes_of w (and_parts (is_plain w) true h).0)
 spaced_pieces w (v ∷ words) h =
     let p = and_parts (is_plain w) (list_all is_plain (v ∷ words)) h in
