@@ -4,3 +4,4 @@ pub mod Stepping
 pub mod Running
 pub mod Starts
 pub mod Determined
+pub mod Straight

@@ -1,3 +1,4 @@
 pub mod Mills
 pub mod Milling
 pub mod Sameness
+pub mod Reads

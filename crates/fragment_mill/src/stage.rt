@@ -1,11 +1,12 @@
 //! A stage of a mill: an operator with what it reads.
-ghost use Rattle.std.specs.Prelude.{◌≡◌, ◌+◌, ◌^◌, ◌<◌, ◌++◌, ◌↔◌, ℕ, false, List, [], map, IfOk, OnOk, IsTrue};
+ghost use Rattle.std.specs.Prelude.{◌≡◌, ◌+◌, ◌^◌, ◌<◌, ◌++◌, ◌↔◌, ℕ, true, false, List, [], map, length, IfOk, OnOk, IsTrue};
 ghost use Rattle.dpc_lists.specs.Lists.{push};
-ghost use Rattle.dpc_model.specs.Engines.{Accepts};
+ghost use Rattle.dpc_model.specs.Engines.{Accepts, is_serial};
 ghost use Rattle.dpc_model.specs.Fragments.{serial, tag, read_wire, at_port, IsSoundKind};
 ghost use Rattle.dpc_model.specs.declared.tuples.Tagged.{Tagged};
-ghost use Rattle.fragment_mill.specs.Mills.{OperatorAfter, next_of, width_of, spent_of, inputs_of, spec_of, new_stage};
+ghost use Rattle.fragment_mill.specs.Mills.{OperatorAfter, operators_of, next_of, width_of, spent_of, inputs_of, spec_of, new_stage};
 ghost use Rattle.fragment_mill.specs.Milling.{IsFit, added_of};
+ghost use Rattle.fragment_mill.specs.Reads.{AreStraight, AreAmong};
 
 use crate::mill::Stage;
 use crate::operator::Operator;
@@ -89,6 +90,53 @@ fn gather(
     Ok(gathered)
 }
 
+/// Whether each wire reads the port of its number.
+fn are_straight(reads: &[Wire]) -> bool
+    ensures { IsTrue result → AreStraight reads.now }
+{
+    for (port, wire) in reads.iter().enumerate() {
+        let Wire::Port(number) = wire else {
+            return false;
+        };
+        if *number != port as u64 {
+            return false;
+        }
+    }
+    true
+}
+
+/// Whether the inputs came by the first ports, so many.
+fn are_among(inputs: &[Tagged], count: u64) -> bool
+    ensures { IsTrue result ↔ AreAmong count inputs.now }
+{
+    inputs.iter().all(|x| x.port < count)
+}
+
+/// An operator takes what its wires read of bucket k, and its output is appended.
+fn take(
+    operator: &mut Operator,
+    alloc: Global,
+    read: &[Tagged],
+    outputs: &mut Vec<Tuples>,
+    k: u64,
+) -> Result<(), NoMemory>
+    requires next { k ≡ next_of operator.old }
+    requires range { k + 1 < 2 ^ 64 }
+    requires accepts { Accepts (width_of operator.old) k read.now }
+    ensures added { OnOk result ((before : List Tagged) → OperatorAfter operator.old before k
+        → outputs.new.items ≡ push outputs.old.items (added_of operator.old before read.now k)) }
+    ensures after { OnOk result ((before : List Tagged) → OperatorAfter operator.old before k
+        → OperatorAfter operator.new (before ++ read.now) (k + 1)) }
+    ensures idle { OnOk result (spent_of operator.new ≡ false) }
+    ensures operators { operators_of operator.new ≡ operators_of operator.old }
+    ensures width { width_of operator.new ≡ width_of operator.old }
+{
+    match operator.bucket(alloc, read, k) {
+        Ok(output) => Ok(outputs.push(output)?),
+        Err(_) => Err(NoMemory),
+    }
+}
+
 impl Stage {
     /// An operator of a plan over buckets of this width, before bucket 0.
     pub(crate) fn new(alloc: Global, op: &OpSpec, width: u64) -> Result<Stage, NoMemory>
@@ -111,6 +159,7 @@ impl Stage {
     ) -> Result<(), NoMemory>
         requires next { k ≡ next_of self.old.operator }
         requires range { k + 1 < 2 ^ 64 }
+        requires serial { is_serial inputs.now ≡ true }
         requires accepts { Accepts (width_of self.old.operator) k (inputs_of inputs.now outputs.old.items self.old.reads) }
         ensures added { OnOk result ((before : List Tagged) → OperatorAfter self.old.operator before k
             → outputs.new.items ≡ push outputs.old.items
@@ -121,11 +170,13 @@ impl Stage {
         ensures spec { spec_of self.new ≡ spec_of self.old }
         ensures fits { (width : ℕ) → IsFit width self.old → IsFit width self.new }
     {
-        let gathered = gather(alloc, self.reads.as_slice(), inputs, outputs.as_slice())?;
-        match self.operator.bucket(alloc, gathered.as_slice(), k) {
-            Ok(output) => Ok(outputs.push(output)?),
-            Err(_) => Err(NoMemory),
+        let reads = self.reads.as_slice();
+        // read as they stand
+        if are_straight(reads) && are_among(inputs, reads.len() as u64) {
+            return take(&mut self.operator, alloc, inputs, outputs, k);
         }
+        let gathered = gather(alloc, reads, inputs, outputs.as_slice())?;
+        take(&mut self.operator, alloc, gathered.as_slice(), outputs, k)
     }
 
     /// Its operator's state before bucket 0.

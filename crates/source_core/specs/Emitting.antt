@@ -1,11 +1,14 @@
 -- What contracts see of a source.
-use Rattle.std.specs.Prelude.{◌≡◌, ℕ, ◌+◌, ◌^◌, ◌<◌, ◌≤◌, Bool, true, false, ◌&&◌, nat_lt, nat_le, is_none, if◌then◌else◌, List, [], map, length, drop, take, Option, None}
+use Rattle.std.specs.Prelude.{◌≡◌, ℕ, ◌+◌, ◌^◌, ◌<◌, ◌≤◌, Bool, true, false, ◌&&◌, nat_lt, nat_le, is_none, if◌then◌else◌, List, [], ◌++◌, map, length, drop, take, Option, None}
 use Rattle.dpc_lists.specs.Lists.{list_all}
 use Rattle.dpc_model.specs.Streams.{InOrder}
 use Rattle.dpc_model.specs.Fragments.{log_of}
-use Rattle.dpc_model.specs.Sessions.{Given, with_batch}
+use Rattle.dpc_model.specs.Sessions.{Given, with_batch, item_if, stable_items, boundary_item}
 use Rattle.dpc_model.specs.declared.sessions.Sub.{Sub}
 use Rattle.dpc_model.specs.declared.tuples.Tuple.{Tuple}
+use Rattle.dpc_model.specs.declared.tuples.Item.{Item}
+use Rattle.dpc_model.specs.declared.tuples.Item.TheVariants.{Undo, RecDone}
+use Rattle.dpc_model.specs.declared.messages.Subscribe.{Subscribe}
 use Rattle.dpc_model.specs.declared.plans.Plan.{Plan}
 use Rattle.node_model.specs.Mails.{Stepped}
 use Rattle.node_model.specs.Sources.{SourceState, source_readers, new_source}
@@ -46,3 +49,8 @@ is_nothing first upto bound = nat_le upto first && is_none bound
 -- so much is emitted, and each open session counts one batch more, where one was given
 abbrev pub with_emitted : ℕ → Bool → SourceValue → SourceValue
 with_emitted upto is_given v = record v { state = record v.state { emitted = upto; subs = if is_given then map with_batch v.state.subs else v.state.subs } }
+
+-- the items of a first batch: these tuples, as those from the number on that is asked for, and perhaps a boundary
+abbrev pub opening_items : Subscribe → List Tuple → Option (ℕ × ℕ) → List Item
+opening_items asked tuples bound =
+    item_if asked.tentative (Undo asked.n) ++ stable_items asked.n tuples ++ boundary_item bound ++ item_if (asked.tentative && true) RecDone

@@ -4,4 +4,5 @@
 mod giving;
 pub mod laws;
 mod log;
+mod remade;
 pub mod source;

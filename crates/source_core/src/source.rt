@@ -10,9 +10,11 @@ use crate::giving::beats;
 use crate::log::bound_past;
 use actor_lists::lists::{place_of, readers_of};
 use dpc_lists::faults::NoMemory;
+use dpc_lists::shared::Shared;
 use dpc_model::messages::{Message, Out};
 use dpc_model::plans::{Plan, StreamRef};
 use dpc_model::sessions::Sub;
+use dpc_model::tuples::Item;
 use soutput::batches::can_count;
 use std::alloc::{AllocError, Global};
 use std::marker::Model;
@@ -32,6 +34,8 @@ pub struct SourceNode {
     bound: u64,
     sessions: Vec<Sub>,
     clock: u64,
+    /// The items of the last first batch that was made: who asks for the same again gets them.
+    made: Option<Shared<Item>>,
 }
 
 impl Model for SourceNode {
@@ -75,6 +79,7 @@ impl SourceNode {
             bound: 0,
             sessions,
             clock: 0,
+            made: None,
         })
     }
 

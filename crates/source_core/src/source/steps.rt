@@ -1,12 +1,13 @@
 //! The parts of a source's steps.
-ghost use Rattle.std.specs.Prelude.{◌≡◌, ◌<◌, ◌≤◌, Some, length, drop, take, IfOk, OnOk, OnErr};
+ghost use Rattle.std.specs.Prelude.{◌≡◌, ◌+◌, ◌^◌, ◌<◌, ◌≤◌, Some, length, drop, take, IfOk, OnOk, OnErr};
 ghost use Rattle.dpc_model.specs.Sessions.{first_batch};
 ghost use Rattle.node_model.specs.Mails.{mails};
 ghost use Rattle.node_model.specs.Sources.{source_shown, source_gives, source_subscribed};
-ghost use Rattle.source_core.specs.Emitting.{IsSourceOf, HasRoom, after_step, with_emitted};
+ghost use Rattle.source_core.specs.Emitting.{IsSourceOf, HasRoom, after_step, with_emitted, opening_items};
 
 use crate::giving::{addressed, batches_upto, gives_items};
 use crate::log::{bound_at, log_of};
+use crate::remade::is_opening;
 use crate::source::SourceNode;
 use dpc_lists::faults::NoMemory;
 use dpc_lists::shared::Shared;
@@ -17,7 +18,7 @@ use dpc_model::streams::count_below;
 use dpc_model::tuples::{Item, Tuple};
 use soutput::batches::count_batches;
 use soutput::items::{is_done, push_boundary, push_if, push_stable};
-use std::alloc::Global;
+use std::alloc::{AllocError, Global};
 
 /// What was emitted from number `first` on.
 fn emitted_from(log: &[Tuple], emitted: usize, first: u64) -> &[Tuple]
@@ -26,6 +27,45 @@ fn emitted_from(log: &[Tuple], emitted: usize, first: u64) -> &[Tuple]
 {
     let start = first.min(emitted as u64) as usize;
     &log[start..emitted]
+}
+
+/// The items of a first batch: what is asked for of the log, and a boundary.
+fn opening_items(
+    alloc: Global,
+    asked: Subscribe,
+    tuples: &[Tuple],
+    boundary: Option<(u64, u64)>,
+) -> Result<Vec<Item>, AllocError>
+    requires { asked.n + length tuples.now < 2 ^ 64 }
+    ensures { IfOk result (λ items. items.items ≡ opening_items asked tuples.now boundary) }
+{
+    let mut items = Vec::with_capacity(alloc, tuples.len().saturating_add(3))?;
+    push_if(&mut items, asked.tentative, Item::Undo(asked.n))?;
+    push_stable(alloc, &mut items, asked.n, tuples)?;
+    push_boundary(&mut items, boundary)?;
+    push_if(&mut items, is_done(asked, NodeState::Stable), Item::RecDone)?;
+    Ok(items)
+}
+
+/// The items of a first batch, shared with the last one that was made where they are the same.
+fn opening(
+    alloc: Global,
+    made: &mut Option<Shared<Item>>,
+    asked: Subscribe,
+    tuples: &[Tuple],
+    boundary: Option<(u64, u64)>,
+) -> Result<Shared<Item>, NoMemory>
+    requires { asked.n + length tuples.now < 2 ^ 64 }
+    ensures { IfOk result (λ items. items ≡ opening_items asked tuples.now boundary) }
+{
+    if let Some(items) = made {
+        if is_opening(items.as_slice(), asked, tuples, boundary) {
+            return items.share();
+        }
+    }
+    let items = Shared::from_vec(opening_items(alloc, asked, tuples, boundary)?)?;
+    *made = Some(items.share()?);
+    Ok(items)
 }
 
 impl SourceNode {
@@ -66,25 +106,20 @@ impl SourceNode {
         self.emitted = upto;
     }
 
-    /// The items of the first batch of a session.
+    /// The items of the first batch of a session: those of the last one that was made, where they are the same.
     fn first_batch(
-        &self,
+        &mut self,
         alloc: Global,
         plan: &Plan,
         asked: Subscribe,
-    ) -> Result<Vec<Item>, NoMemory>
-        requires { IsSourceOf plan.now self.now }
-        ensures { IfOk result (λ items. items.items ≡ first_batch (source_shown plan.now self.now.number self.now.state) asked) }
+    ) -> Result<Shared<Item>, NoMemory>
+        requires { IsSourceOf plan.now self.old }
+        ensures items { IfOk result (λ items. items ≡ first_batch (source_shown plan.now self.old.number self.old.state) asked) }
+        ensures stays { self.new ≡ self.old }
     {
-        let log = log_of(plan, self.number);
-        let emitted = emitted_from(log, self.emitted, asked.n);
+        let emitted = emitted_from(log_of(plan, self.number), self.emitted, asked.n);
         let boundary = bound_at(plan, self.number, self.bound);
-        let mut items = Vec::with_capacity(alloc, emitted.len().saturating_add(3))?;
-        push_if(&mut items, asked.tentative, Item::Undo(asked.n))?;
-        push_stable(alloc, &mut items, asked.n, emitted)?;
-        push_boundary(&mut items, boundary)?;
-        push_if(&mut items, is_done(asked, NodeState::Stable), Item::RecDone)?;
-        Ok(items)
+        opening(alloc, &mut self.made, asked, emitted, boundary)
     }
 
     /// Answers a reader's subscription by the first batch of its session, where the session is newer than
@@ -108,7 +143,7 @@ impl SourceNode {
         if !self.sessions[reader].is_older_than(asked.sess) {
             return Ok(outs);
         }
-        let items = Shared::from_vec(self.first_batch(alloc, plan, asked)?)?;
+        let items = self.first_batch(alloc, plan, asked)?;
         let message = Message::Batch(asked.sess, 0, items);
         let to = self.readers[reader];
         outs.push(Out { to, message })?;

@@ -1,4 +1,5 @@
 use Rattle.std.proofs.Common.{◌<◌, ◌≤◌, length, ap, subst, sym, ◌∙◌, arith}
+use Rattle.dpc_model.proofs.Serial.{adjacent-serial}
 use Rattle.fragment_mill.specs.Mills.{MillState}
 use Rattle.fragment_mill.specs.Milling.{IsMill}
 use Rattle.fragment_mill.proofs.mill.FragMillEngine.bucket.Goals as goal
@@ -10,6 +11,9 @@ bucket-requires-clause-next c =
     let idle = ap (λ (n : MillState). n.spent) (sym c.self.view_is) ∙ c.if-self.false in
     let inside : c.loop-i.i < length c.args.self.now.stages = omega (arith, c.loop-i.invariant.end) in
     Running-next _ _ c.args.k c.loop-i.i c.index_mut.result.now _ _ mill idle c.requires.next c.requires.accepts c.loop-i.invariant.running inside c.index_mut.ensures.value
+
+pub bucket-requires-clause-serial : goal.bucket-requires-clause-serial
+bucket-requires-clause-serial c = adjacent-serial c.args.inputs.now c.requires.accepts.bucket.ordered
 
 pub bucket-requires-clause-accepts : goal.bucket-requires-clause-accepts
 bucket-requires-clause-accepts c =

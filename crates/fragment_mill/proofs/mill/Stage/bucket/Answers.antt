@@ -1,25 +1,40 @@
-use Rattle.std.proofs.Common.{List, refl, ap, ◌∙◌}
+use Rattle.std.proofs.Common.{◌≡◌, ◌++◌, List, OnOk, refl, sym, ap, subst}
 use Rattle.dpc_lists.specs.Lists.{push}
-use Rattle.dpc_model.specs.declared.tuples.Tuple.{Tuple}
+use Rattle.dpc_model.specs.Engines.{Accepts}
+use Rattle.dpc_model.specs.declared.tuples.Tagged.{Tagged}
+use Rattle.fragment_mill.specs.Mills.{inputs_of, width_of, OperatorAfter}
+use Rattle.fragment_mill.specs.Milling.{added_of}
 use Rattle.fragment_mill.proofs.Operators.{IsFit-stays}
+use Rattle.fragment_mill.proofs.Straight.{as-they-stand}
 use Rattle.fragment_mill.proofs.mill.Stage.bucket.Goals as goal
 
-pub returns-in-Ok-clause-added : goal.returns-in-Ok-clause-added
-returns-in-Ok-clause-added c = λ before h.
-    let gathered = rw (c.as_slice.ensures, c.as_slice-2.ensures.value) at c.in_ok-gathered.ensures in
-    let answer = rw (c.as_slice-3.ensures.value, gathered) at (c.in-Ok.ensures.answer before h) in
-    c.in_ok-push-in-Ok.ensures.items ∙ ap (λ (ts : List Tuple). push c.args.outputs.now.items ts) answer
+pub take-requires-clause-accepts : goal.take-requires-clause-accepts
+take-requires-clause-accepts c =
+    let whole = as-they-stand c.args.inputs.now c.args.outputs.now.items c.args.self.now.reads c.as_slice-reads.result.now c.as_slice-reads.ensures (c.if-are_straight.ensures refl) c.requires.serial (c.if-are_among.ensures.0 refl) in
+    subst (λ (xs : List Tagged). Accepts (width_of c.args.self.now.operator) c.args.k xs) whole c.requires.accepts
 
-pub returns-in-Ok-clause-after : goal.returns-in-Ok-clause-after
-returns-in-Ok-clause-after c = λ before h.
-    let gathered = rw (c.as_slice.ensures, c.as_slice-2.ensures.value) at c.in_ok-gathered.ensures in
-    rw (c.as_slice-3.ensures.value, gathered) at (c.in-Ok.ensures.after before h)
+pub returns-then-are_among-clause-added : goal.returns-then-are_among-clause-added
+returns-then-are_among-clause-added c =
+    let whole = as-they-stand c.args.inputs.now c.args.outputs.now.items c.args.self.now.reads c.as_slice-reads.result.now c.as_slice-reads.ensures (c.if-are_straight.ensures refl) c.requires.serial (c.if-are_among.ensures.0 refl) in
+    rw whole c.take.ensures.added
 
-pub returns-in_err-push-in-Ok-clause-fits : goal.returns-in_err-push-in-Ok-clause-fits
-returns-in_err-push-in-Ok-clause-fits c = λ w f. IsFit-stays w c.args.self.now _ refl c.bucket.ensures.operators c.bucket.ensures.width f
+pub returns-then-are_among-clause-after : goal.returns-then-are_among-clause-after
+returns-then-are_among-clause-after c =
+    let whole = as-they-stand c.args.inputs.now c.args.outputs.now.items c.args.self.now.reads c.as_slice-reads.result.now c.as_slice-reads.ensures (c.if-are_straight.ensures refl) c.requires.serial (c.if-are_among.ensures.0 refl) in
+    rw whole c.take.ensures.after
 
-pub returns-in-Ok-clause-fits : goal.returns-in-Ok-clause-fits
-returns-in-Ok-clause-fits c = λ w f. IsFit-stays w c.args.self.now _ refl c.bucket.ensures.operators c.bucket.ensures.width f
+pub returns-then-are_among-clause-fits : goal.returns-then-are_among-clause-fits
+returns-then-are_among-clause-fits c = λ w f. IsFit-stays w c.args.self.now _ refl c.take.ensures.operators c.take.ensures.width f
+
+pub returns-clause-added : goal.returns-clause-added
+returns-clause-added c =
+    let gathered = rw (c.as_slice-reads.ensures, c.as_slice.ensures.value) at c.in_ok-gathered.ensures in
+    rw (c.as_slice-2.ensures.value, gathered) at c.take-2.ensures.added
+
+pub returns-clause-after : goal.returns-clause-after
+returns-clause-after c =
+    let gathered = rw (c.as_slice-reads.ensures, c.as_slice.ensures.value) at c.in_ok-gathered.ensures in
+    rw (c.as_slice-2.ensures.value, gathered) at c.take-2.ensures.after
 
 pub returns-clause-fits : goal.returns-clause-fits
-returns-clause-fits c = λ w f. IsFit-stays w c.args.self.now _ refl c.bucket.ensures.operators c.bucket.ensures.width f
+returns-clause-fits c = λ w f. IsFit-stays w c.args.self.now _ refl c.take-2.ensures.operators c.take-2.ensures.width f
