@@ -23,7 +23,9 @@ fn behind_if<'a>(items: &'a [Item], wanted: bool, item: &Item) -> Option<&'a [It
 }
 
 /// Whether an item is the stable one of this number with this tuple.
-fn is_stable(item: &Item, number: u64, tuple: &Tuple) -> bool {
+fn is_stable(item: &Item, number: u64, tuple: &Tuple) -> bool
+    ensures { IsTrue result → item.now ≡ Item.Stable number tuple.now }
+{
     match item {
         Item::Stable(other, stable) => *other == number && stable.same(tuple),
         _ => false,
