@@ -1,6 +1,8 @@
 -- The places for buckets' stamps, step by step.
 use Rattle.std.proofs.Common.{◌≡◌, ℕ, zero, suc, ◌+◌, ◌-◌, ◌/◌, ◌<◌, ◌≤◌, Bool, true, false, nat_le, ◌&&◌, List, [], ◌∷◌, ◌++◌, take, drop, length, refl, sym, ap, ◌∙◌, arith, Option, Some, None, slice_index_or}
 use Rattle.std.proofs.lemmas.List.{take_more}
+use Rattle.std.proofs.lemmas.Nat.{le-div}
+use Rattle.std.proofs.Math.Nat.{div-mul-le_self}
 use Rattle.std.proofs.lemmas.List.Elements.{All-append, All-weaker}
 use Rattle.std.proofs.lemmas.Grind.{common_steps}
 use Rattle.std.specs.List.{All}
@@ -61,15 +63,24 @@ tuples_in-append (Boundary b m ∷ items) more = tuples_in-append items more
 tuples_in-append (Undo n ∷ items) more = tuples_in-append items more
 tuples_in-append (RecDone ∷ items) more = tuples_in-append items more
 
-pub farthest-more : (width cursor i : ℕ) (items : List Item) (item : Item) (old here new : ℕ) → i < length items → item ≡ slice_index_or items i item →
-    All (λ (t : Tuple). t.stime / width - cursor ≤ old) (tuples_in (take i items)) → All (λ (t : Tuple). t.stime / width - cursor ≤ here) (tuples_in (item ∷ [])) →
-    old ≤ new → here ≤ new → All (λ (t : Tuple). t.stime / width - cursor ≤ new) (tuples_in (take (i + 1) items))
-farthest-more width cursor i items item old here new low e far one more up =
+pub latest-more : (i : ℕ) (items : List Item) (item : Item) (old here new : ℕ) → i < length items → item ≡ slice_index_or items i item →
+    All (λ (t : Tuple). t.stime ≤ old) (tuples_in (take i items)) → All (λ (t : Tuple). t.stime ≤ here) (tuples_in (item ∷ [])) →
+    old ≤ new → here ≤ new → All (λ (t : Tuple). t.stime ≤ new) (tuples_in (take (i + 1) items))
+latest-more i items item old here new low e far one more up =
     let taken : take (i + 1) items ≡ take i items ++ item ∷ [] = take_more items i item low ∙ ap (λ (x : Item). take i items ++ x ∷ []) (sym e) in
     rw (taken, tuples_in-append (take i items) (item ∷ []))
-    (All-append (λ (t : Tuple). t.stime / width - cursor ≤ new) (tuples_in (take i items)) (tuples_in (item ∷ []))
-    (All-weaker (λ (t : Tuple). t.stime / width - cursor ≤ old) (λ (t : Tuple). t.stime / width - cursor ≤ new) (λ t h. omega (arith, h, more)) (tuples_in (take i items)) far)
-    (All-weaker (λ (t : Tuple). t.stime / width - cursor ≤ here) (λ (t : Tuple). t.stime / width - cursor ≤ new) (λ t h. omega (arith, h, up)) (tuples_in (item ∷ [])) one))
+    (All-append (λ (t : Tuple). t.stime ≤ new) (tuples_in (take i items)) (tuples_in (item ∷ []))
+    (All-weaker (λ (t : Tuple). t.stime ≤ old) (λ (t : Tuple). t.stime ≤ new) (λ t h. omega (arith, h, more)) (tuples_in (take i items)) far)
+    (All-weaker (λ (t : Tuple). t.stime ≤ here) (λ (t : Tuple). t.stime ≤ new) (λ t h. omega (arith, h, up)) (tuples_in (item ∷ [])) one))
+
+-- an earlier time lies in no later bucket
+div-up : (width a b : ℕ) → 0 < width → a ≤ b → a / width ≤ b / width
+div-up width a b w low = le-div (a / width) b width w (omega (arith, div-mul-le_self a width, low))
+
+pub farthest-of : (width cursor latest far : ℕ) (items : List Item) → 0 < width → latest / width - cursor ≤ far →
+    All (λ (t : Tuple). t.stime ≤ latest) (tuples_in items) → All (λ (t : Tuple). t.stime / width - cursor ≤ far) (tuples_in items)
+farthest-of width cursor latest far items w up h =
+    All-weaker (λ (t : Tuple). t.stime ≤ latest) (λ (t : Tuple). t.stime / width - cursor ≤ far) (λ t low. omega (arith, up, div-up width t.stime latest w low)) (tuples_in items) h
 
 -- ---- lists from a place on
 

@@ -1,7 +1,7 @@
 -- The inputs of a node with their buckets, and what each call makes of them.
 use Rattle.std.specs.Prelude.{◌≡◌, ℕ, ◌+◌, ◌*◌, ◌/◌, Bool, not, nat_le, List, [], ◌∷◌, ◌++◌, map, filter, replicate, All, Option, Some, None, max}
 use Rattle.dpc_lists.specs.Lists.{nth, changed, is_nil}
-use Rattle.dpc_model.specs.Streams.{InOrder, NoneBelow, time_of}
+use Rattle.dpc_model.specs.Streams.{NoneBelow, time_of}
 use Rattle.dpc_model.specs.Reading.{Reader, stable_reader, tuples_in}
 use Rattle.dpc_model.specs.Inlets.{InletState, AfterBatch, take_batch, new_inlet, no_inlet, restarted_inlet, sess_of}
 use Rattle.dpc_model.specs.Due.{Stamps, with_stamps, first_incomplete, DueInputs, last_due}

@@ -13,15 +13,12 @@ use std::collections::VecDeque;
 /// The clock at which the first tuple of each bucket came.
 pub type Clocks = VecDeque<Option<u64>>;
 
-/// How far from the cursor's bucket on an item's tuple lies; 0 where there is none.
-fn distance(width: u64, cursor: u64, item: &Item) -> u64
-    requires { 0 < width }
-    ensures { All (λ (t : Tuple). t.stime / width - cursor ≤ result) (tuples_in (item.now ∷ [])) }
+/// The time of an item's tuple; 0 where there is none.
+fn time_of(item: &Item) -> u64
+    ensures { All (λ (t : Tuple). t.stime ≤ result) (tuples_in (item.now ∷ [])) }
 {
     match item {
-        Item::Stable(_, tuple) | Item::Tentative(tuple) => {
-            (tuple.stime / width).saturating_sub(cursor)
-        }
+        Item::Stable(_, tuple) | Item::Tentative(tuple) => tuple.stime,
         _ => 0,
     }
 }
@@ -31,11 +28,11 @@ pub fn farthest(width: u64, cursor: u64, items: &[Item]) -> u64
     requires { 0 < width }
     ensures { All (λ (t : Tuple). t.stime / width - cursor ≤ result) (tuples_in items.now) }
 {
-    let mut farthest: u64 = 0;
+    let mut latest: u64 = 0;
     for item in items {
-        farthest = farthest.max(distance(width, cursor, item));
+        latest = latest.max(time_of(item));
     }
-    farthest
+    (latest / width).saturating_sub(cursor)
 }
 
 /// Makes places up to this one. They say nothing yet, also where there is no memory for all of them.
