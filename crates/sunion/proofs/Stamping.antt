@@ -1,19 +1,19 @@
 -- The places for buckets' stamps, step by step.
-use Rattle.std.proofs.Common.{◌≡◌, ℕ, zero, suc, ◌+◌, ◌-◌, ◌/◌, ◌<◌, ◌≤◌, Bool, true, false, nat_le, ◌&&◌, List, [], ◌∷◌, ◌++◌, take, drop, length, refl, sym, ap, ◌∙◌, arith, Option, Some, None, slice_index_or}
+use Rattle.std.proofs.Common.{◌≡◌, ℕ, zero, suc, ◌+◌, ◌-◌, ◌*◌, ◌/◌, ◌<◌, ◌≤◌, Bool, true, false, nat_le, ◌&&◌, List, [], ◌∷◌, ◌++◌, take, drop, length, refl, sym, ap, ◌∙◌, arith, Option, Some, None, slice_index_or, get_or}
 use Rattle.std.proofs.lemmas.List.{take_more}
 use Rattle.std.proofs.lemmas.Nat.{le-div}
-use Rattle.std.proofs.Math.Nat.{div-mul-le_self}
+use Rattle.std.proofs.Math.Nat.{div-mul-le_self, div-eq_of_lt-le}
 use Rattle.std.proofs.lemmas.List.Elements.{All-append, All-weaker}
 use Rattle.std.proofs.lemmas.Grind.{common_steps}
 use Rattle.std.specs.List.{All}
-use Rattle.std.specs.Prelude.{is_some}
+use Rattle.std.specs.Prelude.{is_some, nat_lt, if◌then◌else◌}
 use Rattle.dpc_lists.specs.Lists.{nth, changed, last_below}
 use Rattle.dpc_model.specs.Due.{Stamps, waited_long}
 use Rattle.dpc_model.specs.Reading.{tuples_in}
 use Rattle.dpc_model.specs.declared.tuples.Tuple.{Tuple}
 use Rattle.dpc_model.specs.declared.tuples.Item.{Item}
 use Rattle.dpc_model.specs.declared.tuples.Item.TheVariants.{Stable, Tentative, Passed, Boundary, Undo, RecDone}
-use Rattle.sunion.specs.Clocks.{stamps_from, first_stamp}
+use Rattle.sunion.specs.Clocks.{stamps_from, first_stamp, stamped_at, stamped, LiesFrom, HasStamped}
 
 -- a place from this one on waited too long
 abbrev pub is_waiting : List (Option ℕ) → ℕ → ℕ → ℕ → ℕ → Bool
@@ -88,3 +88,45 @@ pub drop-at : {X : Type 0} (i : ℕ) (xs : List X) (x : X) → i < length xs →
 drop-at i [] x low e = absurd (omega (arith, low))
 drop-at {X = X} zero (y ∷ xs) x low e = ap (λ (z : X). z ∷ xs) (sym e)
 drop-at (suc i) (y ∷ xs) x low e = let next : suc i + 1 ≡ suc (i + 1) = omega arith in rw next (drop-at i xs x (omega (arith, low)) e)
+
+-- ---- times, one after another
+
+pub get-own : {X : Type 0} (xs : List X) (i : ℕ) (d : X) → i < length xs → get_or xs i d ≡ slice_index_or xs i (get_or xs i d)
+get-own [] i d low = absurd (omega (arith, low))
+get-own (x ∷ xs) zero d low = refl
+get-own (x ∷ xs) (suc i) d low = get-own xs i d (omega (arith, low))
+
+pub stamped-next : (width cursor now i time : ℕ) (clocks : List (Option ℕ)) (times : List ℕ) → i < length times → time ≡ slice_index_or times i time →
+    stamped width cursor now clocks (drop i times) ≡ stamped width cursor now (stamped_at cursor now clocks (time / width)) (drop (i + 1) times)
+stamped-next width cursor now i time clocks times low e = ap (λ (ts : List ℕ). stamped width cursor now clocks ts) (drop-at i times time low e)
+
+changed-twice : {X : Type 0} (i : ℕ) (f : X → X) (xs : List X) → ((x : X) → f (f x) ≡ f x) → changed i f (changed i f xs) ≡ changed i f xs
+changed-twice i f [] h = refl
+changed-twice {X = X} zero f (x ∷ xs) h = ap (λ (y : X). y ∷ xs) (h x)
+changed-twice {X = X} (suc i) f (x ∷ xs) h = ap (λ (ys : List X). x ∷ ys) (changed-twice i f xs h)
+
+stamp-twice : (now : ℕ) (stamp : Option ℕ) → first_stamp now (first_stamp now stamp) ≡ first_stamp now stamp
+stamp-twice now None = refl
+stamp-twice now (Some at) = refl
+
+-- a bucket that has its stamp
+pub stamped-again : (cursor now bucket : ℕ) (clocks : List (Option ℕ)) → stamped_at cursor now (stamped_at cursor now clocks bucket) bucket ≡ stamped_at cursor now clocks bucket
+stamped-again cursor now bucket clocks =
+    let f = first_stamp now in
+    elim (nat_lt bucket cursor) as (λ (b : Bool). (if b then (if b then clocks else changed (bucket - cursor) f clocks) else changed (bucket - cursor) f (if b then clocks else changed (bucket - cursor) f clocks))
+    ≡ (if b then clocks else changed (bucket - cursor) f clocks)) [
+      | true ↦ refl
+      | false ↦ changed-twice (bucket - cursor) f clocks (stamp-twice now)
+    ]
+
+-- a time of the bucket that was stamped last
+pub stamped-within : (width cursor now time : ℕ) (begin : Option ℕ) (clocks : List (Option ℕ)) → LiesFrom begin width time → HasStamped width cursor now clocks begin →
+    stamped_at cursor now clocks (time / width) ≡ clocks
+stamped-within width cursor now time None clocks h s = absurd h
+stamped-within width cursor now time (Some begin) clocks h s =
+    let bucket = s.0 in
+    let from : bucket * width ≤ time = omega (arith, h.0, s.1) in
+    let more : (bucket + 1) * width ≡ bucket * width + width = omega arith in
+    let below : time < (bucket + 1) * width = omega (arith, h.1, s.1, more) in
+    let same : time / width ≡ bucket = div-eq_of_lt-le width from below in
+    ap (λ (b : ℕ). stamped_at cursor now clocks b) same ∙ s.2

@@ -1,5 +1,5 @@
 -- When the first tuple of each bucket came, from a bucket on.
-use Rattle.std.specs.Prelude.{ℕ, ◌+◌, ◌-◌, ◌/◌, nat_lt, if◌then◌else◌, List, [], ◌∷◌, Option, Some, None}
+use Rattle.std.specs.Prelude.{⊤, ◌≡◌, ℕ, ◌+◌, ◌-◌, ◌*◌, ◌/◌, ◌<◌, ◌≤◌, nat_lt, if◌then◌else◌, List, [], ◌∷◌, Option, Some, None}
 use Rattle.dpc_lists.specs.Lists.{changed}
 use Rattle.dpc_model.specs.Due.{Stamps}
 
@@ -22,3 +22,13 @@ stamped_at cursor now clocks bucket = if nat_lt bucket cursor then clocks else c
 abbrev pub stamped : ℕ → ℕ → ℕ → List (Option ℕ) → List ℕ → List (Option ℕ)
 stamped width cursor now clocks [] = clocks
 stamped width cursor now clocks (time ∷ times) = stamped width cursor now (stamped_at cursor now clocks (time / width)) times
+
+-- a time lies in the bucket that begins there
+abbrev pub LiesFrom : Option ℕ → ℕ → ℕ → Type 0
+LiesFrom None width time = ⊥
+LiesFrom (Some begin) width time = (begin ≤ time) × (time < begin + width)
+
+-- the tuples of the bucket that begins there came
+abbrev pub HasStamped : ℕ → ℕ → ℕ → List (Option ℕ) → Option ℕ → Type 0
+HasStamped width cursor now clocks None = ⊤
+HasStamped width cursor now clocks (Some begin) = (bucket : ℕ) × (begin ≡ bucket * width) × (stamped_at cursor now clocks bucket ≡ clocks)

@@ -1,10 +1,10 @@
 //! When the first tuple of each bucket came: a place for each bucket, from the cursor's on.
-ghost use Rattle.std.specs.Prelude.{◌≡◌, ◌≤◌, ◌<◌, ◌-◌, ◌/◌, ℕ, length, drop, OnOk, All, [], ◌∷◌, nat_le, ◌&&◌, None};
+ghost use Rattle.std.specs.Prelude.{◌≡◌, ◌≤◌, ◌<◌, ◌-◌, ◌/◌, ℕ, length, drop, OnOk, All, [], ◌∷◌, nat_le, ◌&&◌, None, IsTrue};
 ghost use Rattle.dpc_lists.specs.Lists.{changed, last_below, nth};
 ghost use Rattle.dpc_model.specs.Due.{waited_long};
 ghost use Rattle.dpc_model.specs.Reading.{tuples_in};
 ghost use Rattle.dpc_model.specs.declared.tuples.Tuple.{Tuple};
-ghost use Rattle.sunion.specs.Clocks.{stamps_from, first_stamp, stamped};
+ghost use Rattle.sunion.specs.Clocks.{stamps_from, first_stamp, stamped_at, stamped, LiesFrom};
 
 use dpc_lists::faults::NoMemory;
 use dpc_model::tuples::Item;
@@ -62,15 +62,38 @@ fn stamp_place(clocks: &mut Clocks, place: u64, now: u64)
     }
 }
 
-/// Tuples of these times came.
+/// A bucket gets a stamp, where it has none and is not before the cursor.
+fn stamp_bucket(clocks: &mut Clocks, cursor: u64, bucket: u64, now: u64)
+    ensures { clocks.new.items ≡ stamped_at cursor now clocks.old.items bucket }
+{
+    if let Some(place) = bucket.checked_sub(cursor) {
+        stamp_place(clocks, place, now);
+    }
+}
+
+/// Whether a time lies in the bucket that begins there.
+fn lies_in(begin: Option<u64>, width: u64, time: u64) -> bool
+    ensures { IsTrue result → LiesFrom begin width time }
+{
+    match begin {
+        Some(begin) => begin <= time && time - begin < width,
+        None => false,
+    }
+}
+
+/// Tuples of these times came. Of those that lie in one bucket, one behind another, the first one counts.
 pub fn stamp(clocks: &mut Clocks, width: u64, cursor: u64, times: &[u64], now: u64)
     requires { 0 < width }
     ensures { clocks.new.items ≡ stamped width cursor now clocks.old.items times.now }
 {
+    let mut begin = None;
     for time in times {
-        if let Some(place) = (*time / width).checked_sub(cursor) {
-            stamp_place(clocks, place, now);
+        if lies_in(begin, width, *time) {
+            continue;
         }
+        let bucket = *time / width;
+        stamp_bucket(clocks, cursor, bucket, now);
+        begin = Some(bucket * width);
     }
 }
 
