@@ -34,12 +34,15 @@ each-weaker : (P Q : ℕ → Type 0) → ((s : ℕ) → P s → Q s) → (xs : L
 each-weaker P Q w [] h = tt
 each-weaker P Q w (x ∷ xs) h = (w x.0.0 h.0, each-weaker P Q w xs h.1)
 
+pub window_cells-each : (P : ℕ → Type 0) (group : Option ℕ) (aggs : List Agg) (begin : ℕ) (us : List Tuple) → P begin → EachBegin P (window_cells group aggs begin us)
+window_cells-each P group aggs begin us p = each-map P begin _ (distinct_values (map (group_of group) us)) p
+
 module _ (size step : ℕ) (group : Option ℕ) (aggs : List Agg) (ts : List Tuple) where
   pub cells_of-each : (P : ℕ → Type 0) (a n : ℕ) → ((j : ℕ) → a ≤ j → j < a + n → P (j * step)) → EachBegin P (cells_of size step group aggs ts a n)
   cells_of-each P a zero h = tt
   cells_of-each P a (suc n) h =
       each-append P (window_cells group aggs (a * step) (between (a * step) (a * step + size) ts)) (cells_of size step group aggs ts (a + 1) n)
-      (each-map P (a * step) _ (distinct_values (map (group_of group) (between (a * step) (a * step + size) ts))) (h a (omega arith) (omega arith)))
+      (window_cells-each P group aggs (a * step) (between (a * step) (a * step + size) ts) (h a (omega arith) (omega arith)))
       (cells_of-each P (a + 1) n (λ j low high. h j (omega (arith, low)) (omega (arith, high))))
 
 -- ---- order

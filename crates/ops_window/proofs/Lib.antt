@@ -6,6 +6,10 @@ pub mod CellOrder
 pub mod Feeds
 pub mod Held
 pub mod Ends
+pub mod Joins
+pub mod Panes
+pub mod Reach
 pub mod Step
 pub mod Standing
 mod Kept
+mod Walk

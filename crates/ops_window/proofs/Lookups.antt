@@ -45,7 +45,7 @@ is_key-parts s begin q z =
 
 -- ---- one cell
 
-lookup-insert_entry : (q k : ℕ × ℤ) (v : List ℤ) (es : List Cell) →
+pub lookup-insert_entry : (q k : ℕ × ℤ) (v : List ℤ) (es : List Cell) →
     totals_at q (insert_entry cell_cmp es k v) ≡ cond (is_key q k) (Some v) (totals_at q es)
 lookup-insert_entry q k v [] = refl
 lookup-insert_entry q k v (e ∷ es) = by (cell_cmp k e.0) refl (lookup-insert_entry q k v es)

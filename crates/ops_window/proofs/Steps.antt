@@ -1,5 +1,5 @@
 -- Steps of the loops, over plain variables.
-use Rattle.std.proofs.Common.{◌≡◌, ◌↔◌, ℕ, zero, suc, ◌+◌, ◌-◌, ◌*◌, ◌<◌, ◌≤◌, min, true, false, List, [], ◌∷◌, ◌++◌, length, take, drop, get_or, refl, sym, ◌∙◌, ap, arith, ℤ, ◌==◌, ◌&&◌, int_eq, add-one}
+use Rattle.std.proofs.Common.{◌≡◌, ◌↔◌, ℕ, zero, suc, ◌+◌, ◌-◌, ◌*◌, ◌<◌, ◌≤◌, min, true, false, List, [], ◌∷◌, ◌++◌, length, take, drop, get_or, set, refl, sym, ◌∙◌, ap, arith, ℤ, ◌==◌, ◌&&◌, int_eq, add-one}
 use Rattle.std.proofs.lemmas.List.{take-append-drop, append_assoc}
 use Rattle.std.proofs.lemmas.Cmp.{nat_cmp_total, int_cmp_total, on_total, then_total}
 use Rattle.std.proofs.lemmas.Map.Keys.{sorted_head, sorted_tail}
@@ -18,7 +18,7 @@ use Rattle.std.specs.BTreeMap.{insert_entry}
 use Rattle.dpc_model.specs.declared.tuples.Tuple.{Tuple}
 use Rattle.dpc_model.specs.declared.operators.Agg.{Agg}
 use Rattle.ops_window.specs.Windows.{Cell}
-use Rattle.ops_window.specs.Feeding.{next_totals, finished, finished_totals, cell_cmp, take_cell}
+use Rattle.ops_window.specs.Feeding.{next_totals, joined_total, joined_totals, finished, finished_totals, cell_cmp, take_cell}
 
 -- ---- totals, one after the other
 
@@ -34,6 +34,36 @@ next_totals-end t zero (a ∷ aggs) (z ∷ zs) h = absurd (omega (arith, h))
 next_totals-end t (suc i) [] zs h = take-append-drop (suc i) zs
 next_totals-end t (suc i) (a ∷ aggs) [] h = no_totals t (drop i aggs)
 next_totals-end t (suc i) (a ∷ aggs) (z ∷ zs) h = ap (λ ys. z ∷ ys) (next_totals-end t i aggs zs (omega (arith, h)))
+
+joined-nothing : (aggs : List Agg) (zs : List ℤ) → joined_totals aggs zs [] ≡ zs
+joined-nothing [] zs = refl
+joined-nothing (a ∷ aggs) [] = refl
+joined-nothing (a ∷ aggs) (z ∷ zs) = refl
+
+no_joined : (aggs : List Agg) (ys : List ℤ) → joined_totals aggs [] ys ≡ []
+no_joined [] ys = refl
+no_joined (a ∷ aggs) ys = refl
+
+pub joined_totals-end : (i : ℕ) (aggs : List Agg) (zs ys : List ℤ) → min (min (length aggs) (length zs)) (length ys) ≤ i →
+    take i zs ++ joined_totals (drop i aggs) (drop i zs) (drop i ys) ≡ zs
+joined_totals-end zero [] zs ys h = refl
+joined_totals-end zero (a ∷ aggs) [] ys h = refl
+joined_totals-end zero (a ∷ aggs) (z ∷ zs) [] h = refl
+joined_totals-end zero (a ∷ aggs) (z ∷ zs) (y ∷ ys) h = absurd (omega (arith, h))
+joined_totals-end (suc i) [] zs ys h = take-append-drop (suc i) zs
+joined_totals-end (suc i) (a ∷ aggs) [] ys h = no_joined (drop i aggs) (drop (suc i) ys)
+joined_totals-end (suc i) (a ∷ aggs) (z ∷ zs) [] h = ap (λ vs. z ∷ vs) (ap (λ vs. take i zs ++ vs) (joined-nothing (drop i aggs) (drop i zs)) ∙ take-append-drop i zs)
+joined_totals-end (suc i) (a ∷ aggs) (z ∷ zs) (y ∷ ys) h = ap (λ vs. z ∷ vs) (joined_totals-end i aggs zs ys (omega (arith, h)))
+
+pub joined_totals-more : (i : ℕ) (aggs : List Agg) (zs ys : List ℤ) (a : Agg) (z y v : ℤ) → i < length aggs → i < length zs → i < length ys →
+    v ≡ joined_total (get_or aggs i a) (get_or zs i z) (get_or ys i y) →
+    take (suc i) (set zs i v) ++ joined_totals (drop (suc i) aggs) (drop (suc i) (set zs i v)) (drop (suc i) ys) ≡ take i zs ++ joined_totals (drop i aggs) (drop i zs) (drop i ys)
+joined_totals-more i [] zs ys a z y v h k l e = absurd (omega (arith, h))
+joined_totals-more i (b ∷ aggs) [] ys a z y v h k l e = absurd (omega (arith, k))
+joined_totals-more i (b ∷ aggs) (x ∷ zs) [] a z y v h k l e = absurd (omega (arith, l))
+joined_totals-more zero (b ∷ aggs) (x ∷ zs) (w ∷ ys) a z y v h k l e = ap (λ n. n ∷ joined_totals aggs zs ys) e
+joined_totals-more (suc i) (b ∷ aggs) (x ∷ zs) (w ∷ ys) a z y v h k l e =
+    ap (λ vs. x ∷ vs) (joined_totals-more i aggs zs ys a z y v (omega (arith, h)) (omega (arith, k)) (omega (arith, l)) e)
 
 pub finished_totals-more : (i : ℕ) (aggs : List Agg) (zs : List ℤ) (a : Agg) (z : ℤ) → i < length aggs → i < length zs →
     finished_totals (take (suc i) aggs) (take (suc i) zs) ≡ finished_totals (take i aggs) (take i zs) ++ finished (get_or aggs i a) (get_or zs i z) ∷ []

@@ -34,7 +34,7 @@ insert_value-has q y (x ∷ xs) =
           ]
     ]) refl
 
-distinct-has : (q : ℤ) (zs : List ℤ) → list_any (int_eq q) (distinct_values zs) ≡ list_any (int_eq q) zs
+pub distinct-has : (q : ℤ) (zs : List ℤ) → list_any (int_eq q) (distinct_values zs) ≡ list_any (int_eq q) zs
 distinct-has q [] = refl
 distinct-has q (z ∷ zs) = insert_value-has q z (distinct_values zs) ∙ ap (λ b. int_eq q z || b) (distinct-has q zs)
 
@@ -87,7 +87,7 @@ distinct-sorted (z ∷ zs) = insert_value-sorted z (distinct_values zs) (distinc
 
 -- ---- the cells of one window
 
-groups-have : (group : Option ℕ) (q : ℤ) (us : List Tuple) → list_any (int_eq q) (map (group_of group) us) ≡ not (is_nil (in_group group q us))
+pub groups-have : (group : Option ℕ) (q : ℤ) (us : List Tuple) → list_any (int_eq q) (map (group_of group) us) ≡ not (is_nil (in_group group q us))
 groups-have group q [] = refl
 groups-have group q (u ∷ us) =
     rw (int_eq_equiv.symm q (group_of group u))
@@ -119,7 +119,7 @@ cells-at s start q f (z ∷ zs) =
       | false ↦ refl
     ])
 
-window_cells-at : (group : Option ℕ) (aggs : List Agg) (s start : ℕ) (q : ℤ) (us : List Tuple) →
+pub window_cells-at : (group : Option ℕ) (aggs : List Agg) (s start : ℕ) (q : ℤ) (us : List Tuple) →
     totals_at (s, q) (window_cells group aggs start us) ≡ cond (s == start) (totals_over aggs (in_group group q us)) None
 window_cells-at group aggs s start q us =
     cells-at s start q (λ z. map (exact_total (in_group group z us)) aggs) (distinct_values (map (group_of group) us))

@@ -1,5 +1,5 @@
--- The steps of an aggregate: a tuple is taken into the cells of its windows, and the cells of windows that ended become rows.
-use Rattle.std.specs.Prelude.{ℕ, ◌+◌, ◌-◌, ◌*◌, ◌/◌, nat_le, ℤ, pos, ◌+ℤ◌, Bool, List, [], ◌∷◌, ◌++◌, map, filter, Option, Some, None, if◌then◌else◌}
+-- The steps of an aggregate: a tuple is taken into the cells that it lies in, and the cells of windows that ended become rows.
+use Rattle.std.specs.Prelude.{ℕ, ◌+◌, ◌-◌, ◌*◌, ◌/◌, ◌==◌, nat_lt, nat_le, ℤ, pos, ◌+ℤ◌, Bool, List, [], ◌∷◌, ◌++◌, map, filter, flat_map, Option, Some, None, if◌then◌else◌}
 use Rattle.std.specs.Int.{int_min, int_max}
 use Rattle.std.specs.List.{fold, range_with_len}
 use Rattle.std.specs.Map.{lookup}
@@ -13,7 +13,7 @@ use Rattle.dpc_model.specs.declared.operators.Agg.{Agg}
 use Rattle.dpc_model.specs.declared.operators.Agg.TheVariants.{Count, Sum, Min, Max}
 use Rattle.dpc_model.specs.Fragments.{at_port}
 use Rattle.dpc_model.specs.declared.tuples.Tagged.{Tagged}
-use Rattle.ops_window.specs.Windows.{Cell, group_of}
+use Rattle.ops_window.specs.Windows.{Cell, group_of, reach}
 use Rattle.ops_window.specs.declared.cells.Shape.{Shape}
 
 -- ---- totals
@@ -38,6 +38,19 @@ next_totals t [] zs = zs
 next_totals t (a ∷ aggs) [] = []
 next_totals t (a ∷ aggs) (z ∷ zs) = next_total t a z ∷ next_totals t aggs zs
 
+-- the total over the tuples of both
+abbrev pub joined_total : Agg → ℤ → ℤ → ℤ
+joined_total Count z y = z +ℤ y
+joined_total (Sum c) z y = z +ℤ y
+joined_total (Min c) z y = int_min z y
+joined_total (Max c) z y = int_max z y
+
+abbrev pub joined_totals : List Agg → List ℤ → List ℤ → List ℤ
+joined_totals [] zs ys = zs
+joined_totals (a ∷ aggs) [] ys = []
+joined_totals (a ∷ aggs) (z ∷ zs) [] = z ∷ zs
+joined_totals (a ∷ aggs) (z ∷ zs) (y ∷ ys) = joined_total a z y ∷ joined_totals aggs zs ys
+
 -- ---- the cells
 
 -- the order of cells: by begin and then by group
@@ -57,11 +70,11 @@ grown aggs t (Some totals) = next_totals t aggs totals
 abbrev pub take_cell : List Agg → Tuple → List Cell → ℕ × ℤ → List Cell
 take_cell aggs t cells key = insert_entry cell_cmp cells key (grown aggs t (totals_at key cells))
 
--- the numbers of the windows in which a time lies
+-- the numbers of the windows of a size in which a time lies
 abbrev pub window_numbers : ℕ → ℕ → ℕ → List ℕ
 window_numbers size step time = range_with_len (window_count size step time) (time / step + 1 - window_count size step time)
 
--- the cells with a tuple taken into each of its windows
+-- the cells of a size with a tuple taken into each in which it lies
 abbrev pub take_tuple : ℕ → ℕ → Option ℕ → List Agg → List Cell → Tuple → List Cell
 take_tuple size step group aggs cells t =
     fold (λ cs j. take_cell aggs t cs (j * step, group_of group t)) cells (window_numbers size step t.stime)
@@ -72,19 +85,27 @@ take_tuples size step group aggs cells ts = fold (take_tuple size step group agg
 
 -- ---- rows
 
--- whether a cell's window ends at or below b
-abbrev pub has_ended : ℕ → ℕ → Cell → Bool
-has_ended size b cell = nat_le (cell.0.0 + size) b
+-- the first cells, as far as their begins pass a test
+abbrev pub first_cells : (ℕ → Bool) → List Cell → List Cell
+first_cells test [] = []
+first_cells test (c ∷ cells) = if test c.0.0 then c ∷ first_cells test cells else []
 
--- the first cells, as far as their windows end at or below b
+-- the cells behind those
+abbrev pub later_cells : (ℕ → Bool) → List Cell → List Cell
+later_cells test [] = []
+later_cells test (c ∷ cells) = if test c.0.0 then later_cells test cells else c ∷ cells
+
+-- whether the window that begins at a time ends at or below b
+abbrev pub has_ended : ℕ → ℕ → ℕ → Bool
+has_ended size b begin = nat_le (begin + size) b
+
+-- the first cells, as far as the windows that begin with them end at or below b
 abbrev pub ended_cells : ℕ → ℕ → List Cell → List Cell
-ended_cells size b [] = []
-ended_cells size b (c ∷ cells) = if has_ended size b c then c ∷ ended_cells size b cells else []
+ended_cells size b cells = first_cells (has_ended size b) cells
 
 -- the cells behind those
 abbrev pub kept_cells : ℕ → ℕ → List Cell → List Cell
-kept_cells size b [] = []
-kept_cells size b (c ∷ cells) = if has_ended size b c then kept_cells size b cells else c ∷ cells
+kept_cells size b cells = later_cells (has_ended size b) cells
 
 -- a total as its row has it: a sum becomes the nearest value of i64
 abbrev pub finished : Agg → ℤ → ℤ
@@ -108,6 +129,46 @@ abbrev pub cell_row : ℕ → Option ℕ → List Agg → Cell → Tuple
 cell_row size group aggs cell =
     tuple_of (cell.0.0 + size - 1) (group_values group cell.0.1 ++ finished_totals aggs cell.1)
 
+-- ---- windows of panes
+
+-- the first cells, as far as they begin below a time
+abbrev pub cells_before : ℕ → List Cell → List Cell
+cells_before time cells = first_cells (λ begin. nat_lt begin time) cells
+
+-- the cells behind those
+abbrev pub cells_behind : ℕ → List Cell → List Cell
+cells_behind time cells = later_cells (λ begin. nat_lt begin time) cells
+
+-- totals with others joined in, where there were some
+abbrev pub joined : List Agg → List ℤ → Option (List ℤ) → List ℤ
+joined aggs ys None = ys
+joined aggs ys (Some zs) = joined_totals aggs zs ys
+
+-- the cells of the window that begins at a time, with a pane's cell joined in
+abbrev pub join_cell : List Agg → ℕ → List Cell → Cell → List Cell
+join_cell aggs begin window c = insert_entry cell_cmp window (begin, c.0.1) (joined aggs c.1 (totals_at (begin, c.0.1) window))
+
+-- the cells of the window that begins at a time, joined from its panes
+abbrev pub joined_cells : ℕ → List Agg → ℕ → List Cell → List Cell
+joined_cells size aggs begin cells = fold (join_cell aggs begin) [] (cells_before (begin + size) (cells_behind begin cells))
+
+-- the rows of the window of a number, joined from its panes, where it ends at or below b
+abbrev pub joined_rows : ℕ → ℕ → Option ℕ → List Agg → ℕ → List Cell → ℕ → List Tuple
+joined_rows size step group aggs b cells j = map (cell_row size group aggs) (ended_cells size b (joined_cells size aggs (j * step) cells))
+
+-- the rows of the windows from a number on that end at or below b, joined from their panes
+abbrev pub pane_rows : ℕ → ℕ → Option ℕ → List Agg → ℕ → ℕ → List Cell → List Tuple
+pane_rows size step group aggs first b cells =
+    flat_map (joined_rows size step group aggs b cells) (range_with_len first (window_count size step b - first))
+
+-- the rows of the windows that end above b and at or below b'
+abbrev pub ended_rows : ℕ → ℕ → Option ℕ → List Agg → ℕ → ℕ → List Cell → List Tuple
+ended_rows size step group aggs b b' cells =
+    if reach size step == size then map (cell_row size group aggs) (ended_cells size b' cells)
+    else pane_rows size step group aggs (window_count size step b) b' cells
+
+-- ---- the cells from one on
+
 abbrev pub first_key : List Cell → Option (ℕ × ℤ)
 first_key [] = None
 first_key (c ∷ cells) = Some c.0
@@ -121,7 +182,13 @@ cells_from (Some key) cells = filter (λ c. is_le (cell_cmp key c.0)) cells
 
 -- the cells with the tuples of port 0 taken in
 abbrev pub fed_cells : Shape → List Cell → List Tagged → List Cell
-fed_cells shape cells xs = take_tuples shape.size shape.step shape.group shape.aggs cells (at_port 0 xs)
+fed_cells shape cells xs = take_tuples (reach shape.size shape.step) shape.step shape.group shape.aggs cells (at_port 0 xs)
 
 abbrev pub row_of : Shape → Cell → Tuple
 row_of shape cell = cell_row shape.size shape.group shape.aggs cell
+
+abbrev pub pane_rows_of : Shape → ℕ → ℕ → List Cell → List Tuple
+pane_rows_of shape first b cells = pane_rows shape.size shape.step shape.group shape.aggs first b cells
+
+abbrev pub ended_rows_of : Shape → ℕ → ℕ → List Cell → List Tuple
+ended_rows_of shape b b' cells = ended_rows shape.size shape.step shape.group shape.aggs b b' cells

@@ -1,5 +1,5 @@
 -- An aggregate over windows as an engine over buckets, and the cells that it keeps.
-use Rattle.std.specs.Prelude.{◌≡◌, ℕ, ◌+◌, ◌-◌, ◌*◌, ◌/◌, ◌==◌, ℤ, pos, Bool, false, List, [], map, length, filter, flat_map, Option, Some, None, All, if◌then◌else◌}
+use Rattle.std.specs.Prelude.{◌≡◌, ℕ, ◌+◌, ◌-◌, ◌*◌, ◌/◌, ◌%◌, ◌==◌, ℤ, pos, Bool, false, List, [], map, length, filter, flat_map, Option, Some, None, All, if◌then◌else◌}
 use Rattle.std.specs.Ordering.{int_eq}
 use Rattle.dpc_lists.specs.Lists.{range_with_len}
 use Rattle.dpc_model.specs.Values.{column}
@@ -15,7 +15,11 @@ use Rattle.dpc_model.specs.declared.operators.Agg.TheVariants.{Count, Sum, Min, 
 abbrev pub aggregate_value : ℕ → ℕ → Option ℕ → List Agg → Value
 aggregate_value size step group aggs xs b = aggregated size step group aggs (at_port 0 xs) b
 
--- a cell: the begin of its window and its group, and a total for each aggregate
+-- how far a cell reaches: over one step, a pane, where a window is made of whole steps, and else over a window
+abbrev pub reach : ℕ → ℕ → ℕ
+reach size step = if size % step == 0 then step else size
+
+-- a cell: the begin of its pane or window and its group, and a total for each aggregate
 abbrev pub Cell : Type 0
 Cell = (ℕ × ℤ) × List ℤ
 
@@ -35,7 +39,7 @@ exact_total ts (Max c) = greatest_value (map (λ t. column t c) ts)
 abbrev pub in_group : Option ℕ → ℤ → List Tuple → List Tuple
 in_group group z ts = filter (λ t. int_eq (group_of group t) z) ts
 
--- the cells of a window's tuples: one for each group that occurs, in order
+-- the cells of the tuples of a pane or window: one for each group that occurs, in order
 abbrev pub window_cells : Option ℕ → List Agg → ℕ → List Tuple → List Cell
 window_cells group aggs start ts =
     map (λ z. ((start, z), map (exact_total (in_group group z ts)) aggs)) (distinct_values (map (group_of group) ts))
@@ -44,14 +48,14 @@ window_cells group aggs start ts =
 abbrev pub begun_count : ℕ → ℕ → ℕ
 begun_count step b = if b == 0 then 0 else (b - 1) / step + 1
 
--- the cells of the windows that begin below b and end above it, in order of begin and group
+-- the cells that begin at or behind the first window that ends above b, and below b, in order of begin and group
 abbrev pub open_cells : ℕ → ℕ → Option ℕ → List Agg → List Tuple → ℕ → List Cell
 open_cells size step group aggs ts b =
-    flat_map (λ j. window_cells group aggs (j * step) (between (j * step) (j * step + size) ts))
+    flat_map (λ j. window_cells group aggs (j * step) (between (j * step) (j * step + reach size step) ts))
     (range_with_len (window_count size step b) (begun_count step b - window_count size step b))
 
 -- what contracts see of an aggregate: the size of the windows, the step from one to the next, the
--- group's column, the aggregates, the width of a bucket, the cells of the open windows, the next
+-- group's column, the aggregates, the width of a bucket, the cells that open windows need, the next
 -- bucket, and whether it wanted memory
 pub record AggregateState : Type 0 where
   pub size : ℕ
@@ -68,8 +72,8 @@ abbrev pub new_aggregate : ℕ → ℕ → Option ℕ → List Agg → ℕ → A
 new_aggregate size step group aggs width =
     record { size = size; step = step; group = group; aggs = aggs; width = width; cells = []; next = 0; spent = false }
 
--- it took these inputs, those below bucket k, and keeps exactly the totals of each open window and
--- group in which a tuple was seen
+-- it took these inputs, those below bucket k, and keeps exactly the totals of each group and each pane
+-- of an open window, or open window, in which a tuple was seen
 pub record AggregateAfter (a : AggregateState) (xs : List Tagged) (k : ℕ) : Type 0 where
   pub next : a.next ≡ k
   pub below : All (LiesBelow (k * a.width)) xs

@@ -76,7 +76,7 @@ impl Aggregate {
         }
     }
 
-    /// The cells of the open windows, in order of begin and group. It takes no memory.
+    /// The cells that open windows need, in order of begin and group. It takes no memory.
     pub fn cells(&self) -> &Cells
         ensures { result.now.entries ≡ self.now.cells }
     {
@@ -99,8 +99,12 @@ impl Engine for Aggregate {
         if self.spent {
             return Err(StepFault::Spent);
         }
+        let begin = k * self.width;
         let end = (k + 1) * self.width;
-        match self.shape.take_bucket(alloc, &mut self.cells, inputs, end) {
+        match self
+            .shape
+            .take_bucket(alloc, &mut self.cells, inputs, begin, end)
+        {
             Ok(rows) => {
                 self.next = k + 1;
                 Ok(rows)

@@ -1,12 +1,14 @@
-//! The cells of the open windows: the totals of each window and group in which a tuple was seen.
-ghost use Rattle.std.specs.Prelude.{◌≡◌, ◌↔◌, ◌+◌, ◌^◌, ◌<◌, ◌≤◌, IfOk, OnOk, IsTrue, map, All};
+//! The cells that open windows need: the totals of each group and each pane, or window, in which a tuple was seen.
+ghost use Rattle.std.specs.Prelude.{◌≡◌, ◌↔◌, ◌+◌, ◌%◌, ◌^◌, ◌<◌, ◌≤◌, ◌++◌, [], IfOk, OnOk, IsTrue, map, All};
+ghost use Rattle.std.specs.List.{fold};
 ghost use Rattle.std.specs.List.Sorted.{IsStrictlySortedBy};
 ghost use Rattle.std.specs.Map.{keys_of};
 ghost use Rattle.dpc_model.specs.Operators.{window_count};
 ghost use Rattle.dpc_model.specs.declared.tuples.Tagged.{Tagged};
-ghost use Rattle.ops_window.specs.Feeding.{take_cell, take_tuple, fed_cells, row_of, ended_cells, kept_cells, first_key, cells_from, cell_cmp};
+ghost use Rattle.ops_window.specs.Windows.{reach};
+ghost use Rattle.ops_window.specs.Feeding.{take_cell, take_tuple, fed_cells, row_of, ended_cells, kept_cells, first_key, cells_from, cell_cmp, join_cell, cells_before, cells_behind, pane_rows_of, ended_rows_of};
 
-use crate::totals::{finished, first_totals, group_of, grow};
+use crate::totals::{finished, first_totals, group_of, grow, join};
 use dpc_lists::exact::Exact;
 use dpc_lists::faults::NoMemory;
 use dpc_lists::lists::Listed;
@@ -15,8 +17,9 @@ use dpc_model::tuples::{Tagged, Tuple, Tuples, Vals};
 use std::alloc::{AllocError, Global};
 use std::collections::BTreeMap;
 use std::collections::btree_map::Entry;
+use std::ops::Bound;
 
-/// For each open window's begin and each group seen in it, a total for each aggregate.
+/// For each begin, of a pane or a window, and each group seen in it, a total for each aggregate.
 pub type Cells = BTreeMap<(u64, i64), Listed<i128>>;
 
 /// The windows, and what is counted in each.
@@ -105,29 +108,100 @@ fn keep_from(cells: &mut Cells, first: Option<(u64, i64)>) -> Result<(), AllocEr
     Ok(())
 }
 
+/// Joins totals into those of one cell of a window.
+fn join_in(
+    alloc: Global,
+    window: &mut Cells,
+    aggs: &[Agg],
+    key: (u64, i64),
+    totals: &[i128],
+) -> Result<(), NoMemory>
+    ensures { OnOk result (window.new.entries ≡ join_cell aggs.now key.0 window.old.entries (key, totals.now)) }
+{
+    match window.entry(key)? {
+        Entry::Vacant(cell) => {
+            cell.insert(Listed::from_vec(Vec::from_slice(alloc, totals)?));
+            Ok(())
+        }
+        Entry::Occupied(cell) => join(alloc, aggs, totals, cell.into_mut()),
+    }
+}
+
+/// The cells of the window of these times, joined from those of its panes, of which the first is known.
+fn joined(
+    alloc: Global,
+    aggs: &[Agg],
+    cells: &Cells,
+    first: (u64, i64),
+    begin: u64,
+    end: u64,
+) -> Result<Cells, NoMemory>
+    ensures { IfOk result (λ window. window.entries ≡ fold (join_cell aggs.now begin) [] (cells_before end (cells_from (Some first) cells.now.entries))) }
+{
+    let mut window = BTreeMap::new(alloc);
+    for (key, totals) in cells.range((Bound::Included(&first), Bound::Unbounded)) {
+        if end <= key.0 {
+            return Ok(window);
+        }
+        join_in(alloc, &mut window, aggs, (begin, key.1), totals.as_slice())?;
+    }
+    Ok(window)
+}
+
+/// The first cell that begins at or behind a time, sought from this one on.
+fn first_behind(cells: &Cells, from: (u64, i64), time: u64) -> Option<(u64, i64)>
+    ensures first { result ≡ first_key (cells_behind time (cells_from (Some from) cells.now.entries)) }
+    ensures sorted { IsStrictlySortedBy cell_cmp (keys_of cells.now.entries) }
+{
+    for (key, _) in cells.range((Bound::Included(&from), Bound::Unbounded)) {
+        if time <= key.0 {
+            return Some(*key);
+        }
+    }
+    None
+}
+
+/// How many windows of a size, one every step, end at or below a time.
+fn ended_count(size: u64, step: u64, time: u64) -> u64
+    requires size { 0 < size }
+    requires step { 0 < step }
+    ensures { result ≡ window_count size step time }
+{
+    if time < size {
+        0
+    } else {
+        (time - size) / step + 1
+    }
+}
+
 impl Shape {
-    /// How many windows end at or below a time.
-    fn ended_count(&self, time: u64) -> u64
-        requires size { 0 < self.now.size }
+    /// How far a cell reaches.
+    fn reach(&self) -> u64
         requires step { 0 < self.now.step }
-        ensures { result ≡ window_count self.now.size self.now.step time }
+        ensures { result ≡ reach self.now.size self.now.step }
     {
-        if time < self.size {
-            0
+        if self.size % self.step == 0 {
+            self.step
         } else {
-            (time - self.size) / self.step + 1
+            self.size
         }
     }
 
-    /// Takes a tuple into the cells of its windows.
-    fn take_tuple(&self, alloc: Global, cells: &mut Cells, tuple: &Tuple) -> Result<(), NoMemory>
-        requires size { 0 < self.now.size }
+    /// Takes a tuple into the cells in which it lies, where cells reach so far.
+    fn take_tuple(
+        &self,
+        alloc: Global,
+        cells: &mut Cells,
+        reach: u64,
+        tuple: &Tuple,
+    ) -> Result<(), NoMemory>
+        requires reach { 0 < reach }
         requires step { 0 < self.now.step }
         requires time { tuple.now.stime + 1 < 2 ^ 64 }
-        ensures { OnOk result (cells.new.entries ≡ take_tuple self.now.size self.now.step self.now.group self.now.aggs cells.old.entries tuple.now) }
+        ensures { OnOk result (cells.new.entries ≡ take_tuple reach self.now.step self.now.group self.now.aggs cells.old.entries tuple.now) }
     {
         let group = group_of(self.group, tuple);
-        let first = self.ended_count(tuple.stime);
+        let first = ended_count(reach, self.step, tuple.stime);
         let behind = tuple.stime / self.step + 1;
         for number in first..behind {
             let key = (number * self.step, group);
@@ -136,7 +210,7 @@ impl Shape {
         Ok(())
     }
 
-    /// Takes the tuples of port 0 into the cells of their windows.
+    /// Takes the tuples of port 0 into the cells in which they lie.
     fn take_inputs(
         &self,
         alloc: Global,
@@ -148,9 +222,10 @@ impl Shape {
         requires times { All (λ (x : Tagged). x.tuple.stime + 1 < 2 ^ 64) inputs.now }
         ensures { OnOk result (cells.new.entries ≡ fed_cells self.now cells.old.entries inputs.now) }
     {
+        let reach = self.reach();
         for x in inputs {
             if x.port == 0 {
-                self.take_tuple(alloc, cells, &x.tuple)?;
+                self.take_tuple(alloc, cells, reach, &x.tuple)?;
             }
         }
         Ok(())
@@ -184,38 +259,116 @@ impl Shape {
         })
     }
 
-    /// The rows of the cells whose windows end at or below a time, and the first cell behind those.
+    /// Adds the rows of the first cells, as far as their windows end at or below a time.
     fn ended_rows(
         &self,
         alloc: Global,
         cells: &Cells,
         end: u64,
-    ) -> Result<(Vec<Tuple>, Option<(u64, i64)>), NoMemory>
+        rows: &mut Vec<Tuple>,
+    ) -> Result<(), NoMemory>
         requires { 0 < self.now.size }
-        ensures rows { IfOk result (λ r. r.0.items ≡ map (row_of self.now) (ended_cells self.now.size end cells.now.entries)) }
-        ensures first { IfOk result (λ r. r.1 ≡ first_key (kept_cells self.now.size end cells.now.entries)) }
-        ensures sorted { IfOk result (λ r. IsStrictlySortedBy cell_cmp (keys_of cells.now.entries)) }
+        ensures { OnOk result (rows.new.items ≡ rows.old.items ++ map (row_of self.now) (ended_cells self.now.size end cells.now.entries)) }
     {
-        let mut rows = Vec::new(alloc);
         for (key, totals) in cells.iter() {
             if !self.has_ended(key.0, end) {
-                return Ok((rows, Some(*key)));
+                return Ok(());
             }
             rows.push(self.row(alloc, *key, totals.as_slice())?)?;
         }
-        Ok((rows, None))
+        Ok(())
     }
 
-    /// Takes the cells out whose windows end at or below a time, and gives their rows.
-    fn take_rows(&self, alloc: Global, cells: &mut Cells, end: u64) -> Result<Tuples, NoMemory>
-        requires { 0 < self.now.size }
-        ensures rows { IfOk result (λ rows. rows ≡ map (row_of self.now) (ended_cells self.now.size end cells.old.entries)) }
+    /// Adds the rows of the windows from a number on that end at or below a time, joined from their
+    /// panes. Windows without a tuple are passed over together.
+    fn pane_rows(
+        &self,
+        alloc: Global,
+        cells: &Cells,
+        first: u64,
+        end: u64,
+        rows: &mut Vec<Tuple>,
+    ) -> Result<(), NoMemory>
+        requires size { 0 < self.now.size }
+        requires step { 0 < self.now.step }
+        requires whole { self.now.size % self.now.step ≡ 0 }
+        ensures { OnOk result (rows.new.items ≡ rows.old.items ++ pane_rows_of self.now first end cells.now.entries) }
+    {
+        let behind = ended_count(self.size, self.step, end);
+        if behind <= first {
+            return Ok(());
+        }
+        let Some((key, _)) = cells.iter().next() else {
+            return Ok(());
+        };
+        let before = self.size / self.step - 1;
+        let mut number = first;
+        let mut next = first_behind(cells, *key, first * self.step);
+        'windows: while let Some(key) = next {
+            number = number.max((key.0 / self.step).saturating_sub(before));
+            if behind <= number {
+                return Ok(());
+            }
+            let begin = number * self.step;
+            let aggs = self.aggs.as_slice();
+            let window = joined(alloc, aggs, cells, key, begin, begin + self.size)?;
+            self.ended_rows(alloc, &window, end, rows)?;
+            number += 1;
+            next = first_behind(cells, key, begin + self.step);
+        }
+        Ok(())
+    }
+
+    /// The first cell whose window does not end at or below a time.
+    fn first_open(&self, cells: &Cells, end: u64) -> Option<(u64, i64)>
+        ensures first { result ≡ first_key (kept_cells self.now.size end cells.now.entries) }
+        ensures sorted { IsStrictlySortedBy cell_cmp (keys_of cells.now.entries) }
+    {
+        for (key, _) in cells.iter() {
+            if !self.has_ended(key.0, end) {
+                return Some(*key);
+            }
+        }
+        None
+    }
+
+    /// Lets the cells go that no window needs which ends above a time.
+    fn drop_ended(&self, cells: &mut Cells, end: u64) -> Result<(), NoMemory>
+        ensures { OnOk result (cells.new.entries ≡ kept_cells self.now.size end cells.old.entries) }
+    {
+        let Some((key, _)) = cells.iter().next() else {
+            return Ok(());
+        };
+        if !self.has_ended(key.0, end) {
+            return Ok(());
+        }
+        let first = self.first_open(cells, end);
+        keep_from(cells, first)?;
+        Ok(())
+    }
+
+    /// Gives the rows of the windows that end above a time and at or below another, and lets the cells
+    /// go that no later window needs.
+    fn take_rows(
+        &self,
+        alloc: Global,
+        cells: &mut Cells,
+        begin: u64,
+        end: u64,
+    ) -> Result<Tuples, NoMemory>
+        requires size { 0 < self.now.size }
+        requires step { 0 < self.now.step }
+        ensures rows { IfOk result (λ rows. rows ≡ ended_rows_of self.now begin end cells.old.entries) }
         ensures cells { OnOk result (cells.new.entries ≡ kept_cells self.now.size end cells.old.entries) }
     {
-        let (rows, first_open) = self.ended_rows(alloc, cells, end)?;
-        if !rows.is_empty() {
-            keep_from(cells, first_open)?;
+        let mut rows = Vec::new(alloc);
+        if self.reach() == self.size {
+            self.ended_rows(alloc, cells, end, &mut rows)?;
+        } else {
+            let first = ended_count(self.size, self.step, begin);
+            self.pane_rows(alloc, cells, first, end, &mut rows)?;
         }
+        self.drop_ended(cells, end)?;
         Ok(Listed::from_vec(rows))
     }
 
@@ -225,16 +378,16 @@ impl Shape {
         alloc: Global,
         cells: &mut Cells,
         inputs: &[Tagged],
+        begin: u64,
         end: u64,
     ) -> Result<Tuples, NoMemory>
         requires size { 0 < self.now.size }
         requires step { 0 < self.now.step }
         requires times { All (λ (x : Tagged). x.tuple.stime + 1 < 2 ^ 64) inputs.now }
-        ensures rows { IfOk result (λ rows. rows ≡ map (row_of self.now)
-            (ended_cells self.now.size end (fed_cells self.now cells.old.entries inputs.now))) }
+        ensures rows { IfOk result (λ rows. rows ≡ ended_rows_of self.now begin end (fed_cells self.now cells.old.entries inputs.now)) }
         ensures cells { OnOk result (cells.new.entries ≡ kept_cells self.now.size end (fed_cells self.now cells.old.entries inputs.now)) }
     {
         self.take_inputs(alloc, cells, inputs)?;
-        self.take_rows(alloc, cells, end)
+        self.take_rows(alloc, cells, begin, end)
     }
 }

@@ -1,4 +1,4 @@
-//! The totals of one window and group.
+//! The totals of one cell.
 ghost use Rattle.std.specs.Prelude.{◌≡◌, IfOk, OnOk, map};
 ghost use Rattle.ops_window.specs.Windows.{group_of as group_value};
 ghost use Rattle.ops_window.specs.Feeding as feeding;
@@ -80,6 +80,42 @@ pub(crate) fn grow(
 {
     let mut numbers = mem::replace(totals, Listed::from_vec(Vec::new(alloc))).into_vec();
     count_in(aggs, tuple, numbers.as_mut_slice())?;
+    *totals = Listed::from_vec(numbers);
+    Ok(())
+}
+
+/// The total over the tuples of both. The error says that it passes 128 bits.
+fn joined_total(agg: Agg, total: i128, other: i128) -> Result<i128, NoMemory>
+    ensures { IfOk result (λ whole. whole ≡ feeding.joined_total agg total other) }
+{
+    match agg {
+        Agg::Count | Agg::Sum(_) => total.checked_add(other).ok_or(NoMemory),
+        Agg::Min(_) => Ok(total.min(other)),
+        Agg::Max(_) => Ok(total.max(other)),
+    }
+}
+
+/// Joins others in, in place.
+fn join_in(aggs: &[Agg], others: &[i128], totals: &mut [i128]) -> Result<(), NoMemory>
+    ensures { OnOk result (totals.new ≡ feeding.joined_totals aggs.now totals.old others.now) }
+{
+    for i in 0..aggs.len().min(totals.len()).min(others.len()) {
+        totals[i] = joined_total(aggs[i], totals[i], others[i])?;
+    }
+    Ok(())
+}
+
+/// Makes each total one over the tuples of the others too. After an error they are of no use.
+pub(crate) fn join(
+    alloc: Global,
+    aggs: &[Agg],
+    others: &[i128],
+    totals: &mut Listed<i128>,
+) -> Result<(), NoMemory>
+    ensures { OnOk result (totals.new ≡ feeding.joined_totals aggs.now totals.old others.now) }
+{
+    let mut numbers = mem::replace(totals, Listed::from_vec(Vec::new(alloc))).into_vec();
+    join_in(aggs, others, numbers.as_mut_slice())?;
     *totals = Listed::from_vec(numbers);
     Ok(())
 }

@@ -3,7 +3,7 @@ ghost use Rattle.std.specs.Prelude.{◌<◌, IfOk};
 ghost use Rattle.dpc_model.specs.Engines.{FitsBucket};
 
 use dpc_lists::lists::Listed;
-use dpc_model::engines::Engine;
+use dpc_model::engines::{Engine, fits_bucket};
 use dpc_model::operators::Agg;
 use dpc_model::tuples::{Tagged, Tuple, Tuples, Vals};
 use ops_window::aggregate::Aggregate;
@@ -77,5 +77,131 @@ fn copies_are_the_same(rt: HostRuntime) -> Result<(), Fail> {
     aggregate.reset();
     assert!(rt; aggregate.cells().is_empty());
     assert!(rt; !copy.same(&aggregate));
+    Ok(())
+}
+
+/// Adds a tuple of a group and a value at port 0.
+fn add(
+    alloc: Global,
+    inputs: &mut Vec<Tagged>,
+    time: u64,
+    group: i64,
+    value: i64,
+) -> Result<(), AllocError> {
+    let vals = Vals::from_slice(alloc, &[group, value])?;
+    let tuple = Tuple { stime: time, vals };
+    inputs.push(Tagged { port: 0, tuple })?;
+    Ok(())
+}
+
+/// The tuples of two groups below time 60.
+fn early(alloc: Global) -> Result<Vec<Tagged>, AllocError> {
+    let mut inputs = Vec::new(alloc);
+    add(alloc, &mut inputs, 5, 2, -3)?;
+    add(alloc, &mut inputs, 5, 1, 4)?;
+    add(alloc, &mut inputs, 12, 1, 6)?;
+    add(alloc, &mut inputs, 27, 2, 10)?;
+    add(alloc, &mut inputs, 58, 1, 1)?;
+    Ok(inputs)
+}
+
+/// Those from time 60 on.
+fn late(alloc: Global) -> Result<Vec<Tagged>, AllocError> {
+    let mut inputs = Vec::new(alloc);
+    add(alloc, &mut inputs, 61, 1, 9)?;
+    add(alloc, &mut inputs, 119, 2, 7)?;
+    Ok(inputs)
+}
+
+/// For each group of column 0, the least and the greatest value, the sum and the count.
+fn four(alloc: Global) -> Result<Listed<Agg>, AllocError> {
+    let aggs = vec![in alloc; Agg::Min(1), Agg::Max(1), Agg::Sum(1), Agg::Count]?;
+    Ok(Listed::from_vec(aggs))
+}
+
+/// Whether the row at a place is of this time and these values.
+fn has_row(rows: &Tuples, place: usize, time: u64, vals: [i64; 5]) -> bool {
+    match rows.as_slice().get(place) {
+        Some(row) => row.stime == time && row.vals.as_slice() == vals.as_slice(),
+        None => false,
+    }
+}
+
+#[test]
+fn windows_are_joined_from_panes(rt: HostRuntime) -> Result<(), Fail> {
+    let alloc = rt.alloc();
+    let mut aggregate = Aggregate::new(alloc, 30, 10, Some(0), four(alloc)?, 60);
+    let first = early(alloc)?;
+    assert!(rt; fits_bucket(first.as_slice(), 60, 0));
+    let Ok(rows) = aggregate.bucket(alloc, first.as_slice(), 0) else {
+        return Ok(assert!(rt; false));
+    };
+    assert_eq!(rt; rows.len(), 6);
+    assert!(rt; has_row(&rows, 0, 29, [1, 4, 6, 10, 2]));
+    assert!(rt; has_row(&rows, 1, 29, [2, -3, 10, 7, 2]));
+    assert!(rt; has_row(&rows, 2, 39, [1, 6, 6, 6, 1]));
+    assert!(rt; has_row(&rows, 3, 39, [2, 10, 10, 10, 1]));
+    assert!(rt; has_row(&rows, 4, 49, [2, 10, 10, 10, 1]));
+    assert!(rt; has_row(&rows, 5, 59, [1, 1, 1, 1, 1]));
+    assert_eq!(rt; aggregate.cells().len(), 1);
+    let second = late(alloc)?;
+    assert!(rt; fits_bucket(second.as_slice(), 60, 1));
+    let Ok(rows) = aggregate.bucket(alloc, second.as_slice(), 1) else {
+        return Ok(assert!(rt; false));
+    };
+    assert_eq!(rt; rows.len(), 4);
+    assert!(rt; has_row(&rows, 0, 69, [1, 1, 9, 10, 2]));
+    assert!(rt; has_row(&rows, 1, 79, [1, 1, 9, 10, 2]));
+    assert!(rt; has_row(&rows, 2, 89, [1, 9, 9, 9, 1]));
+    assert!(rt; has_row(&rows, 3, 119, [2, 7, 7, 7, 1]));
+    let Ok(rows) = aggregate.bucket(alloc, &[], 2) else {
+        return Ok(assert!(rt; false));
+    };
+    assert_eq!(rt; rows.len(), 2);
+    assert!(rt; has_row(&rows, 0, 129, [2, 7, 7, 7, 1]));
+    assert!(rt; has_row(&rows, 1, 139, [2, 7, 7, 7, 1]));
+    assert!(rt; aggregate.cells().is_empty());
+    Ok(())
+}
+
+#[test]
+fn windows_of_no_whole_steps(rt: HostRuntime) -> Result<(), Fail> {
+    let alloc = rt.alloc();
+    let mut aggregate = Aggregate::new(alloc, 25, 10, Some(0), four(alloc)?, 60);
+    let first = early(alloc)?;
+    assert!(rt; fits_bucket(first.as_slice(), 60, 0));
+    let Ok(rows) = aggregate.bucket(alloc, first.as_slice(), 0) else {
+        return Ok(assert!(rt; false));
+    };
+    assert_eq!(rt; rows.len(), 5);
+    assert!(rt; has_row(&rows, 0, 24, [1, 4, 6, 10, 2]));
+    assert!(rt; has_row(&rows, 1, 24, [2, -3, -3, -3, 1]));
+    assert!(rt; has_row(&rows, 2, 34, [1, 6, 6, 6, 1]));
+    assert!(rt; has_row(&rows, 3, 34, [2, 10, 10, 10, 1]));
+    assert!(rt; has_row(&rows, 4, 44, [2, 10, 10, 10, 1]));
+    assert_eq!(rt; aggregate.cells().len(), 2);
+    Ok(())
+}
+
+#[test]
+fn empty_windows_are_passed_over(rt: HostRuntime) -> Result<(), Fail> {
+    let alloc = rt.alloc();
+    let aggs = Listed::from_vec(vec![in alloc; Agg::Count, Agg::Sum(0)]?);
+    let mut aggregate = Aggregate::new(alloc, 4, 1, None, aggs, 1_000_000_000_000);
+    let mut inputs = Vec::new(alloc);
+    add(alloc, &mut inputs, 999_999_999_996, 8, 0)?;
+    assert!(rt; fits_bucket(inputs.as_slice(), 1_000_000_000_000, 0));
+    let Ok(rows) = aggregate.bucket(alloc, inputs.as_slice(), 0) else {
+        return Ok(assert!(rt; false));
+    };
+    assert_eq!(rt; rows.len(), 4);
+    match rows.as_slice() {
+        [first, ..] => {
+            assert_eq!(rt; first.stime, 999_999_999_996);
+            assert!(rt; first.vals.as_slice() == [1, 8].as_slice());
+        }
+        [] => {}
+    }
+    assert!(rt; aggregate.cells().is_empty());
     Ok(())
 }

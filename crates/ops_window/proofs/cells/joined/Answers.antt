@@ -1,0 +1,27 @@
+use Rattle.std.proofs.Common.{◌≡◌, List, [], ap, sym, ◌∙◌, refl, rules}
+use Rattle.std.specs.List.{fold}
+use Rattle.ops_window.specs.Windows.{Cell}
+use Rattle.ops_window.specs.Feeding.{join_cell, cells_before}
+use Rattle.ops_window.proofs.Walk.{range-from, joins-on, joins-here, joins-end}
+use Rattle.ops_window.proofs.cells.joined.Goals as goal
+
+pub loop-key-init : goal.loop-key-init
+loop-key-init c =
+    ap (λ (w : List Cell). fold (join_cell c.args.aggs.now c.args.begin) w (cells_before c.args.end c.into_iter-key-iterator.result)) c.new-window.ensures.empty
+    ∙ ap (λ (cs : List Cell). fold (join_cell c.args.aggs.now c.args.begin) [] (cells_before c.args.end cs))
+    (c.into_iter-key-iterator.ensures.into_iter_gives ∙ c.range-key-items.ensures.between tt ∙ range-from c.args.first c.args.cells.now.entries)
+
+pub loop-key-preserved : goal.loop-key-preserved
+loop-key-preserved c =
+    joins-on c.args.aggs.now c.args.begin c.args.end c.loop-key.window.entries c.join_in.new.window.entries (c.in-Some.key.now, c.in-Some.totals.now) c.loop-key.key-iterator c.next.new.self
+    c.in-Some.ensures.steps c.if-end-key.false (search rules)
+    ∙ c.loop-key.invariant
+
+pub returns-then-end-key : goal.returns-then-end-key
+returns-then-end-key c =
+    joins-here c.args.aggs.now c.args.begin c.args.end c.loop-key.window.entries (c.in-Some.key.now, c.in-Some.totals.now) c.loop-key.key-iterator c.next.new.self
+    c.in-Some.ensures.steps c.if-end-key.true
+    ∙ c.loop-key.invariant
+
+pub returns : goal.returns
+returns c = joins-end c.args.aggs.now c.args.begin c.args.end c.loop-key.window.entries c.loop-key.key-iterator c.in-None.ensures.steps.0 ∙ c.loop-key.invariant
