@@ -1,8 +1,7 @@
-pub mod Entries
-pub mod Kept
-pub mod Sharing
+pub mod Walks
+pub mod Codes
 pub mod Places
 pub mod Steps
+pub mod Kept
 pub mod Joining
 pub mod Standing
-mod Range

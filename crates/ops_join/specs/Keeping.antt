@@ -7,11 +7,11 @@ use Rattle.ops_join.specs.declared.ends.End.{End}
 use Rattle.ops_join.specs.declared.side.Side.{Side}
 use Rattle.ops_join.specs.Sides.{IsIndexOf}
 
--- the index of a side has its tuples
+-- the chains of a side have its tuples
 abbrev pub IsIndexed : End → List (ℕ × ℕ) → Side → Type 0
-IsIndexed end keys s = IsIndexOf end keys s.first s.tuples.items s.index
+IsIndexed end keys s = IsIndexOf end keys s.first s.tuples.items s.chains.heads.items s.chains.before.items
 
--- whatever the end and the key columns are, an index that had its tuples has them still
+-- whatever the end and the key columns are, chains that had its tuples have them still
 abbrev pub StaysIndexed : Side → Side → Type 0
 StaysIndexed old new = (end : End) (keys : List (ℕ × ℕ)) → IsIndexed end keys old → IsIndexed end keys new
 

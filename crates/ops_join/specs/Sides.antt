@@ -1,14 +1,11 @@
--- The sides of a join: their tuples, and the index that finds them by their key.
-use Rattle.std.specs.Prelude.{◌≡◌, ℕ, ◌+◌, ◌≤◌, ℤ, Bool, false, not, ◌||◌, nat_le, if◌then◌else◌, List, [], ◌∷◌, ◌++◌, map, flat_map, slice_get}
-use Rattle.std.specs.List.{list_any}
+-- The sides of a join: their tuples, and the chains that find them by their key.
+use Rattle.std.specs.Prelude.{◌≡◌, ℕ, ◌+◌, ◌-◌, ◌*◌, ◌/◌, ◌^◌, ◌≤◌, max, ℤ, Bool, false, not, ◌==◌, nat_le, if◌then◌else◌, Some, List, [], ◌∷◌, ◌++◌, map, flat_map, length, take, slice_get, slice_index_or, bit_and, bit_xor}
+use Rattle.std.specs.Int.{w64, cast_unsigned}
+use Rattle.std.specs.List.{fold}
 use Rattle.std.specs.Option.{option_to_list}
-use Rattle.std.specs.Ordering.{nat_cmp, int_cmp, ordering_then, is_eq}
-use Rattle.std.specs.Cmp.Lexicographic.{slice_cmp}
-use Rattle.std.specs.BTreeSet.{BTreeSet, contains}
-use Rattle.std.specs.declared.cmp.Ordering.{Ordering}
 use Rattle.dpc_lists.specs.Lists.{sort_by}
 use Rattle.dpc_model.specs.Values.{column}
-use Rattle.dpc_model.specs.Operators.{keys_agree, are_partners, pairs_with}
+use Rattle.dpc_model.specs.Operators.{are_partners, paired, pairs_with}
 use Rattle.dpc_model.specs.declared.tuples.Tuple.{Tuple}
 use Rattle.ops_join.specs.declared.ends.End.{End}
 use Rattle.ops_join.specs.declared.ends.End.TheVariants.{Left, Right}
@@ -27,14 +24,21 @@ abbrev pub column_of : End → ℕ × ℕ → ℕ
 column_of Left pair = pair.0
 column_of Right pair = pair.1
 
--- the values of a tuple's key columns
-abbrev pub key_of : End → List (ℕ × ℕ) → Tuple → List ℤ
-key_of end keys t = map (λ (pair : ℕ × ℕ). column t (column_of end pair)) keys
+-- the two halves of a product, joined
+unfoldable pub folded : ℕ → ℕ
+folded word = let product = word * 0xd6e8_feb8_6659_fd93 in bit_xor (bit_and product 0xffff_ffff_ffff_ffff) (product / 2 ^ 64)
 
--- whether a tuple of the other side and one of this side agree in their keys
-abbrev pub shares_key : End → List (ℕ × ℕ) → Tuple → Tuple → Bool
-shares_key Left keys of t = keys_agree keys t of
-shares_key Right keys of t = keys_agree keys of t
+-- one more value in a number that stands for values
+abbrev pub mix : ℕ → ℤ → ℕ
+mix h v = folded (bit_xor h (cast_unsigned w64 v))
+
+-- the number that stands for the values of a tuple's key columns
+abbrev pub code_of : End → List (ℕ × ℕ) → Tuple → ℕ
+code_of end keys t = fold (λ (h : ℕ) (pair : ℕ × ℕ). mix h (column t (column_of end pair))) 0 keys
+
+-- the slot of such a number, where there are n slots
+abbrev pub slot_at : ℕ → ℕ → ℕ
+slot_at n h = bit_and h (n - 1)
 
 -- whether a tuple of the other side and one of this side are partners
 abbrev pub is_partner : End → ℕ → List (ℕ × ℕ) → Tuple → Tuple → Bool
@@ -46,29 +50,38 @@ abbrev pub places_from : {X : Type 0} → (X → Bool) → ℕ → List X → Li
 places_from test n [] = []
 places_from test n (x ∷ xs) = if test x then n ∷ places_from test (n + 1) xs else places_from test (n + 1) xs
 
--- whether a place is one of these
-abbrev pub has_place : ℕ → List ℕ → Bool
-has_place p ps = list_any (λ q. is_eq (nat_cmp p q)) ps
-
 -- the elements at these places
 abbrev pub at_places : {X : Type 0} → List X → List ℕ → List X
 at_places xs ps = flat_map (λ p. option_to_list (slice_get xs p)) ps
 
--- the order of the index: by key, then by number
-abbrev pub entry_cmp : List ℤ → ℕ → List ℤ → ℕ → Ordering
-entry_cmp key n other m = ordering_then (slice_cmp int_cmp key other) (nat_cmp n m)
+-- the number behind that of the last element that passes a test, where the first one's is n; d without one
+abbrev pub last_from : {X : Type 0} → (X → Bool) → ℕ → ℕ → List X → ℕ
+last_from test n d [] = d
+last_from test n d (x ∷ xs) = last_from test (n + 1) (if test x then n + 1 else d) xs
 
-abbrev pub index_cmp : List ℤ × ℕ → List ℤ × ℕ → Ordering
-index_cmp x y = ordering_then (slice_cmp int_cmp x.0 y.0) (nat_cmp x.1 y.1)
+-- of the elements, which are numbered from n on, each leads to the one before it in its slot, and each slot up to the top one
+-- to its last; links of at most n lead to none
+pub record AreChains {X : Type 0} (slot : X → ℕ) (top n : ℕ) (xs : List X) (heads before : List ℕ) : Type 0 where
+  pub many : length before ≡ length xs
+  pub last : (s : ℕ) → s ≤ top → max n (slice_index_or heads s 0) ≡ last_from (λ x. slot x == s) n n xs
+  pub back : (i : ℕ) (x : X) → slice_get xs i ≡ Some x → max n (slice_index_or before i 0) ≡ last_from (λ y. slot y == slot x) n n (take i xs)
 
--- whether one of the tuples, which are numbered from n on, has this key and this number
-abbrev pub has_entry : End → List (ℕ × ℕ) → ℕ → List Tuple → List ℤ → ℕ → Bool
-has_entry end keys n [] key m = false
-has_entry end keys n (t ∷ ts) key m = is_eq (entry_cmp (key_of end keys t) n key m) || has_entry end keys (n + 1) ts key m
+-- the slot of a tuple, where there are so many slots
+abbrev pub slot_of : End → List (ℕ × ℕ) → ℕ → Tuple → ℕ
+slot_of end keys slots t = slot_at slots (code_of end keys t)
 
--- of the entries with numbers from n on, the index has exactly those of these tuples, which are numbered from n on
-pub record IsIndexOf (end : End) (keys : List (ℕ × ℕ)) (n : ℕ) (ts : List Tuple) (index : BTreeSet (List ℤ × ℕ)) : Type 0 where
-  pub has : (q : List ℤ × ℕ) → n ≤ q.1 → contains index_cmp index q ≡ has_entry end keys n ts q.0 q.1
+-- the chains of these tuples, which are numbered from n on, by their keys
+pub record IsIndexOf (end : End) (keys : List (ℕ × ℕ)) (n : ℕ) (ts : List Tuple) (heads before : List ℕ) : Type 0 where
+  pub chains : AreChains (slot_of end keys (length heads)) (length heads - 1) n ts heads before
+
+-- the places of the pairs that pass a test, in order of the right place and then of the left one; the first right one's is n
+abbrev pub pairs_by_right : {X Y : Type 0} → (X → Y → Bool) → List X → ℕ → List Y → List (ℕ × ℕ)
+pairs_by_right test xs n [] = []
+pairs_by_right test xs n (y ∷ ys) = map (λ p. (p, n)) (places_from (λ x. test x y) 0 xs) ++ pairs_by_right test xs (n + 1) ys
+
+-- the row of a pair of places
+abbrev pub row_at : List Tuple → List Tuple → ℕ × ℕ → List Tuple
+row_at ls rs pair = flat_map (λ l. map (paired l) (option_to_list (slice_get rs pair.1))) (option_to_list (slice_get ls pair.0))
 
 -- what contracts see of the sides: the key columns of left and right, and the tuples of each side
 pub record SidesState : Type 0 where

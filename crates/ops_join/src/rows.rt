@@ -1,15 +1,12 @@
 //! The rows of pairs of partners.
-ghost use Rattle.std.specs.Prelude.{◌≡◌, ℕ, ◌++◌, ◌≤◌, drop, length, flat_map, ◌||◌, IfOk, OnOk};
-ghost use Rattle.std.specs.List.{list_any};
-ghost use Rattle.std.specs.Ordering.{nat_cmp};
-ghost use Rattle.std.specs.BTreeSet.{contains};
+ghost use Rattle.std.specs.Prelude.{◌≡◌, ℕ, [], ◌++◌, ◌<◌, ◌≤◌, map, reverse, drop, length, flat_map, All, IfOk, OnOk};
 ghost use Rattle.dpc_lists.specs.Lists.{sort_by};
 ghost use Rattle.dpc_model.specs.Streams.{InOrder};
 ghost use Rattle.dpc_model.specs.Operators.{paired, pairs_with, are_partners};
 ghost use Rattle.dpc_model.specs.Fragments.{at_port};
 ghost use Rattle.dpc_model.specs.declared.tuples.Tuple.{Tuple};
 ghost use Rattle.ops_join.specs.Joins.{kept_from};
-ghost use Rattle.ops_join.specs.Sides.{is_partner, places_from, has_place, taken, bucket_rows};
+ghost use Rattle.ops_join.specs.Sides.{at_places, pairs_by_right, row_at, taken, bucket_rows};
 ghost use Rattle.ops_join.specs.declared.ends.End.TheVariants.{Left, Right};
 
 use crate::ends::End;
@@ -18,7 +15,6 @@ use dpc_lists::exact::Exact;
 use dpc_lists::faults::NoMemory;
 use dpc_model::tuples::{Tagged, Tuple};
 use std::alloc::{AllocError, Global};
-use std::collections::BTreeSet;
 
 /// The row of a pair.
 fn row(alloc: Global, left: &Tuple, right: &Tuple) -> Result<Tuple, AllocError>
@@ -32,6 +28,15 @@ fn row(alloc: Global, left: &Tuple, right: &Tuple) -> Result<Tuple, AllocError>
     })
 }
 
+/// The pairs in order of the left place, those of one left place as they stood.
+fn by_left(pairs: Vec<(usize, usize)>) -> Result<Vec<(usize, usize)>, AllocError>
+    ensures { IfOk result (λ sorted. sorted.items ≡ sort_by (λ (pair : ℕ × ℕ). pair.0) pairs.items) }
+{
+    let mut pairs = pairs;
+    pairs.sort_by_key(|pair| pair.0)?;
+    Ok(pairs)
+}
+
 /// The rows in order of time, those of one time as they stood.
 fn sorted(rows: Vec<Tuple>) -> Result<Vec<Tuple>, AllocError>
     ensures { IfOk result (λ sorted. sorted.items ≡ sort_by (λ (t : Tuple). t.stime) rows.items) }
@@ -41,63 +46,74 @@ fn sorted(rows: Vec<Tuple>) -> Result<Vec<Tuple>, AllocError>
     Ok(rows)
 }
 
+/// Takes out left places, which stand the last first, and adds the pairs of each with a right one.
+fn add_pairs(
+    places: &mut Vec<usize>,
+    right: usize,
+    pairs: &mut Vec<(usize, usize)>,
+) -> Result<(), NoMemory>
+    ensures places { OnOk result (places.new.items ≡ []) }
+    ensures pairs { OnOk result (pairs.new.items ≡ pairs.old.items ++ map (λ p. (p, right)) (reverse places.old.items)) }
+{
+    while let Some(place) = places.pop() {
+        pairs.push((place, right))?;
+    }
+    Ok(())
+}
+
 impl Sides {
-    /// Adds the rows of a left tuple with the right ones from place `from` on.
+    /// Takes out places of partners of a left tuple, which stand the last first, and adds their rows.
     fn add_rows(
         &self,
         alloc: Global,
-        within: u64,
         left: &Tuple,
-        from: usize,
+        places: &mut Vec<usize>,
         rows: &mut Vec<Tuple>,
     ) -> Result<(), NoMemory>
-        requires { from ≤ length self.now.right }
-        ensures { OnOk result (rows.new.items ≡ rows.old.items ++ pairs_with within self.now.keys (drop from self.now.right) left.now) }
+        requires { All (λ p. p < length self.now.right) (reverse places.old.items) }
+        ensures places { OnOk result (places.new.items ≡ []) }
+        ensures rows { OnOk result (rows.new.items
+            ≡ rows.old.items ++ map (paired left.now) (at_places self.now.right (reverse places.old.items))) }
     {
         let right = self.right();
-        let places = self.partners(alloc, within, End::Right, left, from)?;
-        for place in places.as_slice() {
-            rows.push(row(alloc, left, &right[*place])?)?;
+        while let Some(place) = places.pop() {
+            rows.push(row(alloc, left, &right[place])?)?;
         }
         Ok(())
     }
 
-    /// Adds the places of the left tuples that are partners of a right one.
-    fn add_partners(
-        &self,
-        alloc: Global,
-        within: u64,
-        right: &Tuple,
-        places: &mut BTreeSet<usize>,
-    ) -> Result<(), NoMemory>
-        ensures { OnOk result ((p : ℕ) → contains nat_cmp places.new p
-            ≡ (contains nat_cmp places.old p || has_place p
-            (places_from (is_partner Left within self.now.keys right.now) 0 self.now.left))) }
-    {
-        let partners = self.partners(alloc, within, End::Left, right, 0)?;
-        for place in partners.as_slice() {
-            places.insert(*place)?;
-        }
-        Ok(())
-    }
-
-    /// The places of the left tuples that have a partner among the right ones from place `from` on.
-    fn with_partners(
+    /// The places of all left tuples with their partners from place `from` on, by the right place.
+    fn late_pairs(
         &self,
         alloc: Global,
         within: u64,
         from: usize,
-    ) -> Result<BTreeSet<usize>, NoMemory>
+    ) -> Result<Vec<(usize, usize)>, NoMemory>
         requires { from ≤ length self.now.right }
-        ensures { IfOk result (λ places. (p : ℕ) → contains nat_cmp places p
-            ≡ has_place p (places_from (λ l. list_any (are_partners within self.now.keys l) (drop from self.now.right)) 0 self.now.left)) }
+        ensures { IfOk result (λ pairs. pairs.items
+            ≡ pairs_by_right (are_partners within self.now.keys) self.now.left from (drop from self.now.right)) }
     {
         let right = self.right();
-        let mut places = BTreeSet::new(alloc);
+        let mut places = Vec::new(alloc);
+        let mut pairs = Vec::new(alloc);
         for i in from..right.len() {
-            self.add_partners(alloc, within, &right[i], &mut places)?;
+            self.partners(within, End::Left, &right[i], &mut places)?;
+            add_pairs(&mut places, i, &mut pairs)?;
         }
-        Ok(places)
+        Ok(pairs)
+    }
+
+    /// The rows of these pairs.
+    fn rows_of(&self, alloc: Global, pairs: &[(usize, usize)]) -> Result<Vec<Tuple>, NoMemory>
+        requires { All (λ (pair : ℕ × ℕ). (pair.0 < length self.now.left) × (pair.1 < length self.now.right)) pairs.now }
+        ensures { IfOk result (λ rows. rows.items ≡ flat_map (row_at self.now.left self.now.right) pairs.now) }
+    {
+        let (left, right) = (self.left(), self.right());
+        let mut rows = Vec::with_capacity(alloc, pairs.len())?;
+        for pair in pairs {
+            rows.push(row(alloc, &left[pair.0], &right[pair.1])?)?;
+        }
+        Ok(rows)
     }
 
     /// The rows of all left tuples with the right ones from place `from` on.
@@ -105,12 +121,8 @@ impl Sides {
         requires { from ≤ length self.now.right }
         ensures { IfOk result (λ rows. rows.items ≡ flat_map (pairs_with within self.now.keys (drop from self.now.right)) self.now.left) }
     {
-        let left = self.left();
-        let places = self.with_partners(alloc, within, from)?;
-        let mut rows = Vec::new(alloc);
-        for place in &places {
-            self.add_rows(alloc, within, &left[*place], from, &mut rows)?;
-        }
+        let pairs = by_left(self.late_pairs(alloc, within, from)?)?;
+        let rows = self.rows_of(alloc, pairs.as_slice())?;
         Ok(rows)
     }
 
@@ -127,8 +139,11 @@ impl Sides {
             ++ flat_map (pairs_with within self.now.keys self.now.right) (drop from self.now.left)) }
     {
         let left = self.left();
+        let mut places = Vec::new(alloc);
         for i in from..left.len() {
-            self.add_rows(alloc, within, &left[i], 0, rows)?;
+            let tuple = &left[i];
+            self.partners(within, End::Right, tuple, &mut places)?;
+            self.add_rows(alloc, tuple, &mut places, rows)?;
         }
         Ok(())
     }

@@ -1,50 +1,36 @@
 //! One side of a join.
-ghost use Rattle.std.specs.Prelude.{◌≡◌, ◌+◌, ◌^◌, ◌<◌, ◌↔◌, List, [], ◌∷◌, ◌++◌, length, drop, IfOk, OnOk, OnErr, IsTrue};
+ghost use Rattle.std.specs.Prelude.{◌≡◌, ◌+◌, ◌^◌, ◌<◌, ◌↔◌, List, [], ◌∷◌, ◌++◌, length, drop, reverse, IfOk, OnOk, OnErr, IsTrue};
 ghost use Rattle.dpc_model.specs.Streams.{InOrder};
 ghost use Rattle.ops_join.specs.Joins.{kept_from};
-ghost use Rattle.ops_join.specs.Sides.{key_of as key_at, is_over as is_first_over};
+ghost use Rattle.ops_join.specs.Sides.{is_partner, places_from, is_over as is_first_over};
 
+use crate::chains::{Chains, code_of, copied_deque};
 use crate::ends::End;
+use crate::partners::are_partners;
 use dpc_lists::exact::Exact;
 use dpc_lists::faults::NoMemory;
-use dpc_lists::inlined::Inlined;
 use dpc_model::tuples::Tuple;
 use std::alloc::{AllocError, Global};
-use std::collections::{BTreeSet, VecDeque};
+use std::collections::VecDeque;
 
-/// The values of a tuple's key columns.
-pub type Key = Inlined<i64, 2>;
+/// The least count of slots.
+const FEWEST_SLOTS: usize = 8;
 
-/// The tuples of one side, in order of place, and where those of a key stand.
+/// The tuples of one side, in order of place, and what finds them by their key.
 #[derive(Drop)]
 pub struct Side {
     pub tuples: VecDeque<Tuple>,
     /// The number of the first tuple. Numbers count from the first tuple that was ever taken.
     pub first: u64,
-    /// The key and the number of each tuple, and of some that went: at most about as many.
-    pub index: BTreeSet<(Key, u64)>,
+    /// The chains of the tuples. Once there was a tuple, there are at least as many slots as tuples.
+    pub chains: Chains,
     ghost fits: { first + length tuples.items < 2 ^ 64 },
-}
-
-/// The values of the tuple's key columns.
-pub fn key_of(
-    alloc: Global,
-    keys: &[(u64, u64)],
-    end: End,
-    tuple: &Tuple,
-) -> Result<Key, AllocError>
-    ensures { IfOk result (λ key. key ≡ key_at end keys.now tuple.now) }
-{
-    let mut key = Key::new(alloc);
-    for pair in keys {
-        key.push(tuple.column(end.column(pair)))?;
-    }
-    Ok(key)
 }
 
 impl Side {
     ghost use Rattle.std.specs.Prelude.{ℕ};
     ghost use Rattle.ops_join.specs.declared.ends.End.{End};
+    ghost use Rattle.ops_join.specs.Sides.{IsIndexOf};
     ghost use Rattle.ops_join.specs.Keeping.{IsIndexed, StaysIndexed};
 
     /// A side with no tuple. It takes no memory.
@@ -55,7 +41,7 @@ impl Side {
         Side {
             tuples: VecDeque::new(alloc),
             first: 0,
-            index: BTreeSet::new(alloc),
+            chains: Chains::new(alloc),
         }
     }
 
@@ -66,7 +52,43 @@ impl Side {
     {
         self.tuples.clear();
         self.first = 0;
-        self.index.clear();
+        self.chains.clear();
+    }
+
+    /// Chains of these tuples with so many slots.
+    fn linked(
+        &self,
+        alloc: Global,
+        end: End,
+        keys: &[(u64, u64)],
+        slots: usize,
+    ) -> Result<Chains, AllocError>
+        requires { 0 < slots }
+        ensures slots { IfOk result (λ chains. length chains.heads.items ≡ slots) }
+        ensures indexed { IfOk result (λ chains. IsIndexOf end keys.now self.now.first self.now.tuples.items
+            chains.heads.items chains.before.items) }
+    {
+        let mut chains = Chains::with_slots(alloc, slots, self.tuples.capacity())?;
+        for i in 0..self.tuples.len() {
+            let code = code_of(keys, end, &self.tuples[i]);
+            chains.push(code, self.first + i as u64 + 1)?;
+        }
+        Ok(chains)
+    }
+
+    /// Makes more slots where there are as many tuples. After an error nothing changed.
+    fn widen(&mut self, alloc: Global, end: End, keys: &[(u64, u64)]) -> Result<(), AllocError>
+        ensures slots { OnOk result (0 < length self.new.chains.heads.items) }
+        ensures tuples { self.new.tuples.items ≡ self.old.tuples.items }
+        ensures first { self.new.first ≡ self.old.first }
+        ensures indexed { IsIndexed end keys.now self.old → IsIndexed end keys.now self.new }
+    {
+        let slots = self.chains.heads.len();
+        if slots <= self.tuples.len() {
+            let wider = slots.saturating_mul(2).max(FEWEST_SLOTS);
+            self.chains = self.linked(alloc, end, keys, wider)?;
+        }
+        Ok(())
     }
 
     /// Takes a copy of a tuple. After an error the tuples and their entries stay.
@@ -85,11 +107,11 @@ impl Side {
         if number == u64::MAX {
             return Err(NoMemory);
         }
-        let key = key_of(alloc, keys, end, tuple)?;
-        let tuple = tuple.copy(alloc)?;
+        let copy = tuple.copy(alloc)?;
+        self.widen(alloc, end, keys)?;
         self.tuples.reserve(1)?;
-        self.index.insert((key, number))?;
-        self.tuples.push_back_reserved(tuple);
+        self.chains.push(code_of(keys, end, tuple), number + 1)?;
+        self.tuples.push_back_reserved(copy);
         Ok(())
     }
 
@@ -103,26 +125,15 @@ impl Side {
         }
     }
 
-    /// Lets the first tuple go. Its entry stays.
+    /// Lets the first tuple go. The links to it lead to none from then on.
     fn drop_first(&mut self)
         requires { 0 < length self.old.tuples.items }
         ensures tuples { self.new.tuples.items ≡ drop 1 self.old.tuples.items }
         ensures indexed { StaysIndexed self.old self.new }
     {
         self.tuples.pop_front();
+        self.chains.drop_first();
         self.first += 1;
-    }
-
-    /// Lets the entries go of tuples that went, once they outnumber those of tuples: one walk over the
-    /// index in place of a search for each.
-    fn sweep(&mut self)
-        ensures tuples { self.new.tuples.items ≡ self.old.tuples.items }
-        ensures indexed { StaysIndexed self.old self.new }
-    {
-        if self.index.len() / 2 > self.tuples.len() {
-            let first = self.first;
-            self.index.retain(|(_, number)| first <= *number);
-        }
     }
 
     /// Lets the tuples go that can meet no partner from this time on. It takes no memory.
@@ -134,7 +145,45 @@ impl Side {
         while self.is_over(within, begin) {
             self.drop_first();
         }
-        self.sweep();
+    }
+
+    /// Finds the places of tuples that are partners of one of the other side, the last first.
+    pub fn partners(
+        &self,
+        within: u64,
+        end: End,
+        keys: &[(u64, u64)],
+        of: &Tuple,
+        places: &mut Vec<usize>,
+    ) -> Result<(), NoMemory>
+        requires indexed { IsIndexed end keys.now self.now }
+        requires empty { places.old.items ≡ [] }
+        ensures { OnOk result (places.new.items ≡ reverse (places_from (is_partner end within keys.now of.now) 0 self.now.tuples.items)) }
+    {
+        let mut link = self.chains.last(code_of(keys, end.other(), of));
+        while self.first < link {
+            let place = (link - self.first - 1) as usize;
+            let tuple = &self.tuples[place];
+            if are_partners(within, keys, end, of, tuple) {
+                places.push(place)?;
+            }
+            link = self.chains.before[place];
+        }
+        Ok(())
+    }
+
+    /// The same tuples and chains again.
+    pub fn copy(&self, alloc: Global) -> Result<Side, AllocError>
+        ensures tuples { IfOk result (λ other. other.tuples.items ≡ self.now.tuples.items) }
+        ensures indexed { IfOk result (λ other. StaysIndexed self.now other) }
+    {
+        let tuples = copied_deque(alloc, &self.tuples)?;
+        let chains = self.chains.copy(alloc)?;
+        Ok(Side {
+            tuples,
+            first: self.first,
+            chains,
+        })
     }
 
     /// Whether the two have the same tuples.

@@ -1,26 +1,20 @@
 //! The two sides of a join.
-ghost use Rattle.std.specs.Prelude.{◌≡◌, ◌≤◌, ◌<◌, ◌↔◌, [], ◌∷◌, filter, length, nat_le, IfOk, OnOk, OnErr, IsTrue, All};
+ghost use Rattle.std.specs.Prelude.{◌≡◌, ◌↔◌, [], ◌∷◌, reverse, IfOk, OnOk, OnErr, IsTrue};
 ghost use Rattle.dpc_model.specs.Streams.{InOrder};
-ghost use Rattle.dpc_model.specs.Operators.{is_within};
 ghost use Rattle.dpc_model.specs.Fragments.{at_port};
 ghost use Rattle.ops_join.specs.Joins.{kept_from};
-ghost use Rattle.ops_join.specs.Sides.{port_of, shares_key, is_partner, places_from, new_sides, tuples_of, taken};
+ghost use Rattle.ops_join.specs.Sides.{port_of, is_partner, places_from, new_sides, tuples_of, taken};
 ghost use Rattle.ops_join.specs.Keeping.{IsIndexed};
 
 use crate::ends::End;
-use crate::side::{Side, key_of};
+use crate::side::Side;
 use dpc_lists::exact::Exact;
 use dpc_lists::faults::NoMemory;
-use dpc_lists::inlined::Inlined;
 use dpc_lists::lists::Listed;
 use dpc_model::tuples::{Tagged, Tuple};
 use std::alloc::Global;
 use std::collections::VecDeque;
 use std::marker::Model;
-use std::ops::Bound;
-
-/// Places of tuples on one side.
-pub type Places = Inlined<usize, 4>;
 
 /// The tuples of both sides, by the key columns of a join. Contracts see a `SidesState`.
 #[derive(Drop)]
@@ -40,13 +34,6 @@ impl Model for Sides {
     ghost view = { λ s. record { keys = s.keys; left = s.left.tuples.items; right = s.right.tuples.items } };
 
     ghost invariant = { λ s. IsIndexed Left s.keys s.left × IsIndexed Right s.keys s.right };
-}
-
-/// Whether two times are at most so far apart.
-fn are_near(within: u64, time: u64, other: u64) -> bool
-    ensures { result ≡ is_within within time other }
-{
-    time.saturating_sub(other) <= within && other.saturating_sub(time) <= within
 }
 
 impl Sides {
@@ -132,69 +119,20 @@ impl Sides {
         self.right.forget(within, begin);
     }
 
-    /// The places of a side's tuples from place `from` on that share their key with one of the other
-    /// side, in order.
-    fn sharing(&self, alloc: Global, end: End, of: &Tuple, from: usize) -> Result<Places, NoMemory>
-        requires { from ≤ length (tuples_of end self.now) }
-        ensures places { IfOk result (λ places. places
-            ≡ filter (λ p. nat_le from p) (places_from (shares_key end self.now.keys of.now) 0 (tuples_of end self.now))) }
-        ensures inside { IfOk result (λ places. All (λ p. p < length (tuples_of end self.now)) places) }
-    {
-        let side = self.side(end);
-        let key = key_of(alloc, self.keys.as_slice(), end.other(), of)?;
-        let start = (key, side.first + from as u64);
-        let mut places = Places::new(alloc);
-        for (key, number) in side
-            .index
-            .range((Bound::Included(&start), Bound::Unbounded))
-        {
-            if *key != start.0 {
-                return Ok(places);
-            }
-            places.push(number.saturating_sub(side.first) as usize)?;
-        }
-        Ok(places)
-    }
-
-    /// The places of a side's tuples from place `from` on that are partners of one of the other side,
-    /// in order.
+    /// Finds the places of a side's tuples that are partners of one of the other side, the last first.
     pub fn partners(
         &self,
-        alloc: Global,
         within: u64,
         end: End,
         of: &Tuple,
-        from: usize,
-    ) -> Result<Places, NoMemory>
-        requires { from ≤ length (tuples_of end self.now) }
-        ensures places { IfOk result (λ places. places
-            ≡ filter (λ p. nat_le from p) (places_from (is_partner end within self.now.keys of.now) 0 (tuples_of end self.now))) }
-        ensures inside { IfOk result (λ places. All (λ p. p < length (tuples_of end self.now)) places) }
+        places: &mut Vec<usize>,
+    ) -> Result<(), NoMemory>
+        requires { places.old.items ≡ [] }
+        ensures { OnOk result (places.new.items
+            ≡ reverse (places_from (is_partner end within self.now.keys of.now) 0 (tuples_of end self.now))) }
     {
         let side = self.side(end);
-        let mut places = Places::new(alloc);
-        let sharing = self.sharing(alloc, end, of, from)?;
-        for place in sharing.as_slice() {
-            if are_near(within, side.tuples[*place].stime, of.stime) {
-                places.push(*place)?;
-            }
-        }
-        Ok(places)
-    }
-
-    /// Takes these tuples again.
-    fn take_copies(
-        &mut self,
-        alloc: Global,
-        end: End,
-        tuples: &VecDeque<Tuple>,
-    ) -> Result<(), NoMemory>
-        ensures { OnOk result (self.new ≡ taken end tuples.now.items self.old) }
-    {
-        for tuple in tuples.iter() {
-            self.push(alloc, end, tuple)?;
-        }
-        Ok(())
+        side.partners(within, end, self.keys.as_slice(), of, places)
     }
 
     /// The same tuples again.
@@ -202,10 +140,9 @@ impl Sides {
         ensures { IfOk result (λ other. other ≡ self.now) }
     {
         let keys = self.keys.copy(alloc)?;
-        let mut other = Sides::new(alloc, keys);
-        other.take_copies(alloc, End::Left, self.left())?;
-        other.take_copies(alloc, End::Right, self.right())?;
-        Ok(other)
+        let left = self.left.copy(alloc)?;
+        let right = self.right.copy(alloc)?;
+        Ok(Sides { keys, left, right })
     }
 
     /// Whether the two have the same key columns and the same tuples.

@@ -19,9 +19,5 @@ loop-self-preserved c =
 
 pub returns-clause-tuples : goal.returns-clause-tuples
 returns-clause-tuples c =
-    c.sweep.ensures.tuples
-    ∙ sym (kept-ordered c.args.within c.args.begin c.loop-self.self.tuples.items c.loop-self.invariant.order (sym c.loop-self-test.ensures))
+    sym (kept-ordered c.args.within c.args.begin c.loop-self.self.tuples.items c.loop-self.invariant.order (sym c.loop-self-test.ensures))
     ∙ c.loop-self.invariant.tuples
-
-pub returns-clause-indexed : goal.returns-clause-indexed
-returns-clause-indexed c = λ end keys i. c.sweep.ensures.indexed end keys (c.loop-self.invariant.indexed end keys i)
