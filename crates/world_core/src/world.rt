@@ -9,6 +9,7 @@ ghost use Rattle.world_parts.specs.declared.faults.EventFault.TheVariants as par
 ghost use Rattle.world_core.specs.Runs.{world_of};
 ghost use Rattle.world_core.specs.declared.faults.ApplyFault.TheVariants as fault;
 
+use actor_roster::roster::Roster;
 use crate::faults::ApplyFault;
 use dpc_lists::faults::NoMemory;
 use dpc_model::messages::Event;
@@ -25,7 +26,7 @@ mod telling;
 /// memory, or would pass a limit of runs, leaves it spent. Contracts see a `RunOf`.
 #[derive(Drop)]
 pub struct World {
-    plan: Plan,
+    roster: Roster,
     parts: WorldParts,
     events: Vec<Event>,
     spent: bool,
@@ -44,30 +45,30 @@ impl Model for World {
 
     ghost coded = { Prim.hlevel (codes, coded_formula) };
 
-    ghost view = { λ w. record { plan = w.plan; events = w.events.items; spent = w.spent } };
+    ghost view = { λ w. record { plan = w.roster; events = w.events.items; spent = w.spent } };
 
-    ghost invariant = { λ w. CanRun w.plan × (w.spent ≡ false → StandsForWorld w.plan w.parts (run w.plan w.events.items)) };
+    ghost invariant = { λ w. CanRun w.roster × (w.spent ≡ false → StandsForWorld w.roster w.parts (run w.roster w.events.items)) };
 }
 
 /// What an event makes of all actors and envelopes.
-fn happen(alloc: Global, plan: &Plan, parts: &mut WorldParts, e: Event) -> Result<(), EventFault>
-    requires plan { CanRun plan.now }
-    requires some { IsSomeWorld plan.now parts.old }
-    ensures ok { OnOk result (Happened plan.now parts.old parts.new e) }
+fn happen(alloc: Global, roster: &Roster, parts: &mut WorldParts, e: Event) -> Result<(), EventFault>
+    requires plan { CanRun roster.now }
+    requires some { IsSomeWorld roster.now parts.old }
+    ensures ok { OnOk result (Happened roster.now parts.old parts.new e) }
     ensures long { (envelopes items : ℕ) → result ≡ Err (part_fault.TooLong envelopes items)
-        → WouldPass plan.now parts.old e envelopes items }
+        → WouldPass roster.now parts.old e envelopes items }
 {
     match e {
-        Event::Phase(number) => parts.open_phase(plan, number),
-        Event::Emit(actor, time) => parts.emit(alloc, plan, u64::from(actor), time)?,
-        Event::Release(actor, time) => parts.release(alloc, plan, u64::from(actor), time)?,
-        Event::Cut(a, b) => parts.cut(plan, u64::from(a), u64::from(b))?,
-        Event::Heal(a, b) => parts.heal(plan, u64::from(a), u64::from(b)),
-        Event::Crash(actor) => parts.crash(plan, u64::from(actor)),
-        Event::Restart(actor, inc) => parts.restart(alloc, plan, u64::from(actor), inc)?,
-        Event::Deliver(k) => parts.deliver(alloc, plan, k)?,
-        Event::Tick(actor, now) => parts.tick(alloc, plan, u64::from(actor), now)?,
-        Event::Mill(actor, count) => parts.mill(alloc, plan, u64::from(actor), count)?,
+        Event::Phase(number) => parts.open_phase(roster, number),
+        Event::Emit(actor, time) => parts.emit(alloc, roster, u64::from(actor), time)?,
+        Event::Release(actor, time) => parts.release(alloc, roster, u64::from(actor), time)?,
+        Event::Cut(a, b) => parts.cut(roster, u64::from(a), u64::from(b))?,
+        Event::Heal(a, b) => parts.heal(roster, u64::from(a), u64::from(b)),
+        Event::Crash(actor) => parts.crash(roster, u64::from(actor)),
+        Event::Restart(actor, inc) => parts.restart(alloc, roster, u64::from(actor), inc)?,
+        Event::Deliver(k) => parts.deliver(alloc, roster, k)?,
+        Event::Tick(actor, now) => parts.tick(alloc, roster, u64::from(actor), now)?,
+        Event::Mill(actor, count) => parts.mill(alloc, roster, u64::from(actor), count)?,
     }
     Ok(())
 }
@@ -79,8 +80,9 @@ impl World {
         ensures { IfOk result (λ w. w ≡ record { plan = plan; events = []; spent = false }) }
     {
         let parts = WorldParts::new(alloc, &plan)?;
+        let roster = Roster::new(alloc, plan)?;
         Ok(World {
-            plan,
+            roster,
             parts,
             events: Vec::new(alloc),
             spent: false,
@@ -106,7 +108,7 @@ impl World {
         // spent, but where all goes well
         self.spent = true;
         self.events.reserve(1)?;
-        happen(alloc, &self.plan, &mut self.parts, e)?;
+        happen(alloc, &self.roster, &mut self.parts, e)?;
         let Ok(()) = self.events.push(e) else {
             unreachable!()
         };
@@ -118,7 +120,7 @@ impl World {
     pub fn plan(&self) -> &Plan
         ensures { result.now ≡ self.now.plan }
     {
-        &self.plan
+        self.roster.plan()
     }
 
     /// The events in order.

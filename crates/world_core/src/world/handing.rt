@@ -44,7 +44,7 @@ impl World {
         requires { self.now.spent ≡ false }
         ensures { StandsForRole self.now.plan (role_of self.now.plan actor) (option_copied result) (node_at (world_of self.now) actor) }
     {
-        self.parts.node(&self.plan, actor)
+        self.parts.node(&self.roster, actor)
     }
 
     /// Work for the next ready buckets of an actor: all of them, or the most that may be milled at once.
@@ -58,7 +58,7 @@ impl World {
         if self.spent {
             return Err(ApplyFault::Spent);
         }
-        let order = self.parts.order(alloc, &self.plan, actor)?;
+        let order = self.parts.order(alloc, &self.roster, actor)?;
         Ok(order)
     }
 
@@ -90,7 +90,7 @@ impl World {
         self.spent = true;
         let event = event_of(milled.order())?;
         self.events.reserve(1)?;
-        if let Err(fault) = self.parts.commit(alloc, &self.plan, milled) {
+        if let Err(fault) = self.parts.commit(alloc, &self.roster, milled) {
             let fault = CommitFault::from(fault);
             self.spent = is_loss(fault);
             return Err(fault);

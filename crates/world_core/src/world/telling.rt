@@ -24,7 +24,7 @@ impl World {
         requires { self.now.spent ≡ false }
         ensures { result ≡ link_up (world_of self.now) a b }
     {
-        self.parts.link_up(&self.plan, a, b)
+        self.parts.link_up(&self.roster, a, b)
     }
 
     /// Whether an actor is there and is up.
@@ -32,7 +32,7 @@ impl World {
         requires { self.now.spent ≡ false }
         ensures { result ≡ is_up (world_of self.now) actor }
     {
-        self.parts.is_up(&self.plan, actor)
+        self.parts.is_up(&self.roster, actor)
     }
 
     /// How many buckets of an actor may be milled.
@@ -40,7 +40,7 @@ impl World {
         requires { self.now.spent ≡ false }
         ensures { result ≡ ready_at (world_of self.now) actor }
     {
-        self.parts.ready(&self.plan, actor)
+        self.parts.ready(&self.roster, actor)
     }
 
     /// The last incarnation of a node.
@@ -48,7 +48,7 @@ impl World {
         requires { self.now.spent ≡ false }
         ensures { result ≡ (slot_of (world_of self.now) actor).last_inc }
     {
-        self.parts.last_inc(&self.plan, actor)
+        self.parts.last_inc(&self.roster, actor)
     }
 
     /// The state of the node that an actor is; `None` exactly where it is none, or is down.
@@ -56,7 +56,7 @@ impl World {
         requires { self.now.spent ≡ false }
         ensures { result ≡ option_map (λ (p : PlainNode). p.state) (node_at (world_of self.now) actor) }
     {
-        self.parts.state(&self.plan, actor)
+        self.parts.state(&self.roster, actor)
     }
 
     /// Whether envelope number k was sent, and may come now.
@@ -64,7 +64,7 @@ impl World {
         requires { self.now.spent ≡ false }
         ensures { result ≡ may_come (world_of self.now) (slice_get (world_of self.now).envelopes k) }
     {
-        self.parts.may_come(&self.plan, k)
+        self.parts.may_come(&self.roster, k)
     }
 
     /// Whether every client is settled.

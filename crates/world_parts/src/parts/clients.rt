@@ -7,10 +7,10 @@ ghost use Rattle.world_parts.specs.declared.faults.EventFault.TheVariants as fau
 ghost use Rattle.law_fit.specs.Fits.{CanRun};
 ghost use Rattle.world_parts.specs.Events.{IsSomeWorld, IsComing, Happened, WouldPass};
 
+use actor_roster::roster::Roster;
 use crate::envelopes::as_mails;
 use crate::faults::EventFault;
 use crate::parts::{WorldParts, is_clock};
-use dpc_model::plans::Plan;
 use node_core::packets::Packet;
 use std::alloc::Global;
 
@@ -19,16 +19,16 @@ impl WorldParts {
     pub(crate) fn deliver_to_client(
         &mut self,
         alloc: Global,
-        plan: &Plan,
+        roster: &Roster,
         k: usize,
         client: u64,
     ) -> Result<(), EventFault>
-        requires plan { CanRun plan.now }
-        requires some { IsSomeWorld plan.now self.old }
-        requires comes { IsComing plan.now self.old k (IsClient client) }
-        ensures ok { OnOk result (Happened plan.now self.old self.new (event.Deliver k)) }
+        requires plan { CanRun roster.now }
+        requires some { IsSomeWorld roster.now self.old }
+        requires comes { IsComing roster.now self.old k (IsClient client) }
+        ensures ok { OnOk result (Happened roster.now self.old self.new (event.Deliver k)) }
         ensures long { (envelopes items : ℕ) → result ≡ Err (fault.TooLong envelopes items)
-            → WouldPass plan.now self.old (event.Deliver k) envelopes items }
+            → WouldPass roster.now self.old (event.Deliver k) envelopes items }
     {
         let envelope = &self.envelopes[k];
         let Packet::Plain(message) = &envelope.packet else {
@@ -42,17 +42,17 @@ impl WorldParts {
     pub(crate) fn tick_client(
         &mut self,
         alloc: Global,
-        plan: &Plan,
+        roster: &Roster,
         actor: u64,
         client: u64,
         now: u64,
     ) -> Result<(), EventFault>
-        requires plan { CanRun plan.now }
-        requires some { IsSomeWorld plan.now self.old }
-        requires role { role_of plan.now actor ≡ IsClient client }
-        ensures ok { OnOk result (Happened plan.now self.old self.new (event.Tick actor now)) }
+        requires plan { CanRun roster.now }
+        requires some { IsSomeWorld roster.now self.old }
+        requires role { role_of roster.now actor ≡ IsClient client }
+        ensures ok { OnOk result (Happened roster.now self.old self.new (event.Tick actor now)) }
         ensures long { (envelopes items : ℕ) → result ≡ Err (fault.TooLong envelopes items)
-            → WouldPass plan.now self.old (event.Tick actor now) envelopes items }
+            → WouldPass roster.now self.old (event.Tick actor now) envelopes items }
     {
         let client = client as usize;
         if !is_clock(self.clients[client].clock(), now) {

@@ -8,12 +8,12 @@ ghost use Rattle.world_parts.specs.declared.faults.CommitFault.TheVariants as fa
 ghost use Rattle.world_parts.specs.Events.{IsWorldOf, IsSomeWorld, Happened, WouldPass};
 ghost use Rattle.world_parts.specs.Handing.{IsHandedOut, IsTimely, IsStaleAt};
 
+use actor_roster::roster::Roster;
 use crate::faults::CommitFault;
 use crate::parts::WorldParts;
 use crate::slots::{down_point, needed_by};
 use dpc_lists::faults::NoMemory;
-use dpc_model::actors::{Role, role_of};
-use dpc_model::plans::Plan;
+use dpc_model::actors::Role;
 use fragment_mill::mill::FragMill;
 use mill_work::milling::Milled;
 use mill_work::order::Order;
@@ -25,17 +25,17 @@ impl WorldParts {
     pub fn order(
         &self,
         alloc: Global,
-        plan: &Plan,
+        roster: &Roster,
         actor: u64,
     ) -> Result<Option<Order<FragMill>>, NoMemory>
-        requires plan { CanRun plan.now }
-        requires some { IsSomeWorld plan.now self.now }
-        ensures none { IfOk result (λ told. (x : World) (most : ℕ) → IsWorldOf plan.now self.now x most
+        requires plan { CanRun roster.now }
+        requires some { IsSomeWorld roster.now self.now }
+        ensures none { IfOk result (λ told. (x : World) (most : ℕ) → IsWorldOf roster.now self.now x most
             → (IsNone told ↔ (ready_at x actor ≡ 0))) }
-        ensures some { IfOk result (λ told. IfSome told (IsHandedOut plan.now self.now actor)) }
+        ensures some { IfOk result (λ told. IfSome told (IsHandedOut roster.now self.now actor)) }
     {
-        let place = self.node_place(plan, actor);
-        let Role::Node(_, _) = role_of(plan, actor) else {
+        let place = self.node_place(roster, actor);
+        let Role::Node(_, _) = roster.role_of(actor) else {
             return Ok(None);
         };
         let order = self.nodes[place].order(alloc)?;
@@ -47,23 +47,23 @@ impl WorldParts {
     pub fn commit(
         &mut self,
         alloc: Global,
-        plan: &Plan,
+        roster: &Roster,
         milled: Milled<FragMill>,
     ) -> Result<(), CommitFault>
-        requires plan { CanRun plan.now }
-        requires some { IsSomeWorld plan.now self.old }
-        ensures ok { OnOk result (Happened plan.now self.old self.new (event.Mill milled.order.node (length milled.order.buckets))) }
-        ensures fits { OnOk result (IsTimely plan.now self.old milled.order) }
+        requires plan { CanRun roster.now }
+        requires some { IsSomeWorld roster.now self.old }
+        ensures ok { OnOk result (Happened roster.now self.old self.new (event.Mill milled.order.node (length milled.order.buckets))) }
+        ensures fits { OnOk result (IsTimely roster.now self.old milled.order) }
         ensures long { (envelopes items : ℕ) → result ≡ Err (fault.TooLong envelopes items)
-            → WouldPass plan.now self.old (event.Mill milled.order.node (length milled.order.buckets)) envelopes items }
+            → WouldPass roster.now self.old (event.Mill milled.order.node (length milled.order.buckets)) envelopes items }
         ensures stale { (had needed : Point) → result ≡ Err (fault.Stale had needed) → (self.new ≡ self.old)
-            × IsStaleAt plan.now self.old milled.order had needed }
+            × IsStaleAt roster.now self.old milled.order had needed }
     {
         let actor = milled.order().node;
-        let place = self.node_place(plan, actor);
-        let Role::Node(_, _) = role_of(plan, actor) else {
+        let place = self.node_place(roster, actor);
+        let Role::Node(_, _) = roster.role_of(actor) else {
             return Err(CommitFault::Stale {
-                had: down_point(self.last_inc(plan, actor)),
+                had: down_point(self.last_inc(roster, actor)),
                 needed: needed_by(milled.order()),
             });
         };

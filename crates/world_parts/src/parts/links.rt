@@ -7,10 +7,9 @@ ghost use Rattle.dpc_model.specs.declared.messages.Event.TheVariants as event;
 ghost use Rattle.law_fit.specs.Fits.{CanRun};
 ghost use Rattle.world_parts.specs.Events.{IsSomeWorld, Happened};
 
+use actor_roster::roster::Roster;
 use crate::parts::WorldParts;
 use dpc_lists::faults::NoMemory;
-use dpc_model::actors::are_linked;
-use dpc_model::plans::Plan;
 
 /// Whether these are the same two actors, in either order.
 fn same_pair(a: u64, b: u64, pair: (u64, u64)) -> bool
@@ -35,29 +34,29 @@ fn mend(cuts: &mut Vec<(u64, u64)>, a: u64, b: u64)
 
 impl WorldParts {
     /// Whether two actors have a link, and it is up.
-    pub fn link_up(&self, plan: &Plan, a: u64, b: u64) -> bool
-        ensures { (x : World) → StandsForWorld plan.now self.now x → result ≡ link_up x a b }
+    pub fn link_up(&self, roster: &Roster, a: u64, b: u64) -> bool
+        ensures { (x : World) → StandsForWorld roster.now self.now x → result ≡ link_up x a b }
     {
-        are_linked(plan, a, b) && !is_among(self.cuts.as_slice(), a, b)
+        roster.are_linked(a, b) && !is_among(self.cuts.as_slice(), a, b)
     }
 
     /// A link is cut, where it is up.
-    pub fn cut(&mut self, plan: &Plan, a: u64, b: u64) -> Result<(), NoMemory>
-        requires plan { CanRun plan.now }
-        requires some { IsSomeWorld plan.now self.old }
-        ensures { OnOk result (Happened plan.now self.old self.new (event.Cut a b)) }
+    pub fn cut(&mut self, roster: &Roster, a: u64, b: u64) -> Result<(), NoMemory>
+        requires plan { CanRun roster.now }
+        requires some { IsSomeWorld roster.now self.old }
+        ensures { OnOk result (Happened roster.now self.old self.new (event.Cut a b)) }
     {
-        if self.link_up(plan, a, b) {
+        if self.link_up(roster, a, b) {
             self.cuts.push((a, b))?;
         }
         Ok(())
     }
 
     /// A link is up again.
-    pub fn heal(&mut self, plan: &Plan, a: u64, b: u64)
-        requires plan { CanRun plan.now }
-        requires some { IsSomeWorld plan.now self.old }
-        ensures { Happened plan.now self.old self.new (event.Heal a b) }
+    pub fn heal(&mut self, roster: &Roster, a: u64, b: u64)
+        requires plan { CanRun roster.now }
+        requires some { IsSomeWorld roster.now self.old }
+        ensures { Happened roster.now self.old self.new (event.Heal a b) }
     {
         mend(&mut self.cuts, a, b);
     }

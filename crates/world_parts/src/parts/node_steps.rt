@@ -7,10 +7,10 @@ ghost use Rattle.world_parts.specs.declared.faults.EventFault.TheVariants as fau
 ghost use Rattle.law_fit.specs.Fits.{CanRun};
 ghost use Rattle.world_parts.specs.Events.{IsSomeWorld, IsComing, Happened, WouldPass};
 
+use actor_roster::roster::Roster;
 use crate::faults::EventFault;
 use crate::parts::WorldParts;
-use dpc_model::actors::{Role, role_of};
-use dpc_model::plans::Plan;
+use dpc_model::actors::Role;
 use std::alloc::Global;
 
 impl WorldParts {
@@ -18,18 +18,18 @@ impl WorldParts {
     pub fn mill(
         &mut self,
         alloc: Global,
-        plan: &Plan,
+        roster: &Roster,
         actor: u64,
         count: u64,
     ) -> Result<(), EventFault>
-        requires plan { CanRun plan.now }
-        requires some { IsSomeWorld plan.now self.old }
-        ensures ok { OnOk result (Happened plan.now self.old self.new (event.Mill actor count)) }
+        requires plan { CanRun roster.now }
+        requires some { IsSomeWorld roster.now self.old }
+        ensures ok { OnOk result (Happened roster.now self.old self.new (event.Mill actor count)) }
         ensures long { (envelopes items : ℕ) → result ≡ Err (fault.TooLong envelopes items)
-            → WouldPass plan.now self.old (event.Mill actor count) envelopes items }
+            → WouldPass roster.now self.old (event.Mill actor count) envelopes items }
     {
-        let place = self.node_place(plan, actor);
-        if let Role::Node(_, _) = role_of(plan, actor) {
+        let place = self.node_place(roster, actor);
+        if let Role::Node(_, _) = roster.role_of(actor) {
             let mails = self.nodes[place].mill(alloc, count)?;
             self.post(actor, mails)?;
         }
@@ -40,20 +40,20 @@ impl WorldParts {
     pub(crate) fn deliver_to_node(
         &mut self,
         alloc: Global,
-        plan: &Plan,
+        roster: &Roster,
         k: usize,
         frag: u64,
         replica: u64,
     ) -> Result<(), EventFault>
-        requires plan { CanRun plan.now }
-        requires some { IsSomeWorld plan.now self.old }
-        requires comes { IsComing plan.now self.old k (IsNode frag replica) }
-        ensures ok { OnOk result (Happened plan.now self.old self.new (event.Deliver k)) }
+        requires plan { CanRun roster.now }
+        requires some { IsSomeWorld roster.now self.old }
+        requires comes { IsComing roster.now self.old k (IsNode frag replica) }
+        ensures ok { OnOk result (Happened roster.now self.old self.new (event.Deliver k)) }
         ensures long { (envelopes items : ℕ) → result ≡ Err (fault.TooLong envelopes items)
-            → WouldPass plan.now self.old (event.Deliver k) envelopes items }
+            → WouldPass roster.now self.old (event.Deliver k) envelopes items }
     {
         let to = self.envelopes[k].to();
-        let place = self.node_place(plan, to);
+        let place = self.node_place(roster, to);
         let envelope = &self.envelopes[k];
         let mails = self.nodes[place].deliver(alloc, envelope.sender(), &envelope.packet)?;
         self.post(to, mails)?;
@@ -64,20 +64,20 @@ impl WorldParts {
     pub(crate) fn tick_node(
         &mut self,
         alloc: Global,
-        plan: &Plan,
+        roster: &Roster,
         actor: u64,
         frag: u64,
         replica: u64,
         now: u64,
     ) -> Result<(), EventFault>
-        requires plan { CanRun plan.now }
-        requires some { IsSomeWorld plan.now self.old }
-        requires role { role_of plan.now actor ≡ IsNode frag replica }
-        ensures ok { OnOk result (Happened plan.now self.old self.new (event.Tick actor now)) }
+        requires plan { CanRun roster.now }
+        requires some { IsSomeWorld roster.now self.old }
+        requires role { role_of roster.now actor ≡ IsNode frag replica }
+        ensures ok { OnOk result (Happened roster.now self.old self.new (event.Tick actor now)) }
         ensures long { (envelopes items : ℕ) → result ≡ Err (fault.TooLong envelopes items)
-            → WouldPass plan.now self.old (event.Tick actor now) envelopes items }
+            → WouldPass roster.now self.old (event.Tick actor now) envelopes items }
     {
-        let place = self.node_place(plan, actor);
+        let place = self.node_place(roster, actor);
         let mails = self.nodes[place].tick(alloc, now)?;
         self.post(actor, mails)?;
         Ok(())

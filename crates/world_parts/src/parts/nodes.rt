@@ -5,28 +5,28 @@ ghost use Rattle.world_model.specs.Worlds.{node_place};
 ghost use Rattle.law_fit.specs.Fits.{CanRun};
 ghost use Rattle.world_parts.specs.Events.{IsSomeWorld, Happened};
 
+use actor_roster::roster::Roster;
 use crate::parts::WorldParts;
 use dpc_lists::faults::NoMemory;
-use dpc_model::actors::{Role, role_of};
-use dpc_model::plans::Plan;
+use dpc_model::actors::Role;
 use std::alloc::Global;
 
 impl WorldParts {
     /// The place of a node among the nodes.
-    pub(crate) fn node_place(&self, plan: &Plan, actor: u64) -> usize
-        ensures { result ≡ node_place plan.now actor }
+    pub(crate) fn node_place(&self, roster: &Roster, actor: u64) -> usize
+        ensures { result ≡ node_place roster.now actor }
     {
-        (actor as usize).saturating_sub(plan.sources.len())
+        (actor as usize).saturating_sub(roster.plan().sources.len())
     }
 
     /// A node loses all that it has.
-    pub fn crash(&mut self, plan: &Plan, actor: u64)
-        requires plan { CanRun plan.now }
-        requires some { IsSomeWorld plan.now self.old }
-        ensures { Happened plan.now self.old self.new (event.Crash actor) }
+    pub fn crash(&mut self, roster: &Roster, actor: u64)
+        requires plan { CanRun roster.now }
+        requires some { IsSomeWorld roster.now self.old }
+        ensures { Happened roster.now self.old self.new (event.Crash actor) }
     {
-        if let Role::Node(_, _) = role_of(plan, actor) {
-            let place = self.node_place(plan, actor);
+        if let Role::Node(_, _) = roster.role_of(actor) {
+            let place = self.node_place(roster, actor);
             self.nodes[place].crash();
         }
     }
@@ -35,17 +35,17 @@ impl WorldParts {
     pub fn restart(
         &mut self,
         alloc: Global,
-        plan: &Plan,
+        roster: &Roster,
         actor: u64,
         inc: u64,
     ) -> Result<(), NoMemory>
-        requires plan { CanRun plan.now }
-        requires some { IsSomeWorld plan.now self.old }
-        ensures { OnOk result (Happened plan.now self.old self.new (event.Restart actor inc)) }
+        requires plan { CanRun roster.now }
+        requires some { IsSomeWorld roster.now self.old }
+        ensures { OnOk result (Happened roster.now self.old self.new (event.Restart actor inc)) }
     {
-        if let Role::Node(frag, replica) = role_of(plan, actor) {
-            let place = self.node_place(plan, actor);
-            self.nodes[place].restart(alloc, plan, frag, replica, inc)?;
+        if let Role::Node(frag, replica) = roster.role_of(actor) {
+            let place = self.node_place(roster, actor);
+            self.nodes[place].restart(alloc, roster.plan(), frag, replica, inc)?;
         }
         Ok(())
     }

@@ -8,21 +8,21 @@ ghost use Rattle.world_model.specs.Worlds.{is_release_time};
 ghost use Rattle.law_fit.specs.Fits.{CanRun};
 ghost use Rattle.world_parts.specs.Events.{IsSomeWorld, IsComing, Happened, WouldPass};
 
+use actor_roster::roster::Roster;
 use crate::envelopes::as_mails;
 use crate::faults::EventFault;
 use crate::parts::{WorldParts, is_clock};
-use dpc_model::actors::{Role, role_of};
-use dpc_model::plans::Plan;
+use dpc_model::actors::Role;
 use node_core::packets::Packet;
 use std::alloc::Global;
 
 /// The source that an actor is, where the time is one of the run.
-fn source_at(plan: &Plan, actor: u64, time: u64) -> Option<usize>
-    ensures some { IfSome result (λ s. (role_of plan.now actor ≡ IsSource s) × (is_release_time plan.now time ≡ true)) }
-    ensures none { IsNone result → (s : ℕ) → role_of plan.now actor ≡ IsSource s → is_release_time plan.now time ≡ false }
+fn source_at(roster: &Roster, actor: u64, time: u64) -> Option<usize>
+    ensures some { IfSome result (λ s. (role_of roster.now actor ≡ IsSource s) × (is_release_time roster.now time ≡ true)) }
+    ensures none { IsNone result → (s : ℕ) → role_of roster.now actor ≡ IsSource s → is_release_time roster.now time ≡ false }
 {
-    match role_of(plan, actor) {
-        Role::Source(source) if 1 <= time && time <= plan.end => Some(source as usize),
+    match roster.role_of(actor) {
+        Role::Source(source) if 1 <= time && time <= roster.plan().end => Some(source as usize),
         _ => None,
     }
 }
@@ -32,21 +32,21 @@ impl WorldParts {
     pub fn emit(
         &mut self,
         alloc: Global,
-        plan: &Plan,
+        roster: &Roster,
         actor: u64,
         time: u64,
     ) -> Result<(), EventFault>
-        requires plan { CanRun plan.now }
-        requires some { IsSomeWorld plan.now self.old }
-        ensures ok { OnOk result (Happened plan.now self.old self.new (event.Emit actor time)) }
+        requires plan { CanRun roster.now }
+        requires some { IsSomeWorld roster.now self.old }
+        ensures ok { OnOk result (Happened roster.now self.old self.new (event.Emit actor time)) }
         ensures long { (envelopes items : ℕ) → result ≡ Err (fault.TooLong envelopes items)
-            → WouldPass plan.now self.old (event.Emit actor time) envelopes items }
+            → WouldPass roster.now self.old (event.Emit actor time) envelopes items }
     {
         let _ = &self.items; // the invariant, for events that change nothing
-        let Some(source) = source_at(plan, actor, time) else {
+        let Some(source) = source_at(roster, actor, time) else {
             return Ok(());
         };
-        let outs = self.sources[source].emit(alloc, plan, time)?;
+        let outs = self.sources[source].emit(alloc, roster.plan(), time)?;
         let mails = as_mails(alloc, outs)?;
         self.post(actor, mails)
     }
@@ -55,21 +55,21 @@ impl WorldParts {
     pub fn release(
         &mut self,
         alloc: Global,
-        plan: &Plan,
+        roster: &Roster,
         actor: u64,
         time: u64,
     ) -> Result<(), EventFault>
-        requires plan { CanRun plan.now }
-        requires some { IsSomeWorld plan.now self.old }
-        ensures ok { OnOk result (Happened plan.now self.old self.new (event.Release actor time)) }
+        requires plan { CanRun roster.now }
+        requires some { IsSomeWorld roster.now self.old }
+        ensures ok { OnOk result (Happened roster.now self.old self.new (event.Release actor time)) }
         ensures long { (envelopes items : ℕ) → result ≡ Err (fault.TooLong envelopes items)
-            → WouldPass plan.now self.old (event.Release actor time) envelopes items }
+            → WouldPass roster.now self.old (event.Release actor time) envelopes items }
     {
         let _ = &self.items; // the invariant, for events that change nothing
-        let Some(source) = source_at(plan, actor, time) else {
+        let Some(source) = source_at(roster, actor, time) else {
             return Ok(());
         };
-        let outs = self.sources[source].release(alloc, plan, time)?;
+        let outs = self.sources[source].release(alloc, roster.plan(), time)?;
         let mails = as_mails(alloc, outs)?;
         self.post(actor, mails)
     }
@@ -78,23 +78,23 @@ impl WorldParts {
     pub(crate) fn deliver_to_source(
         &mut self,
         alloc: Global,
-        plan: &Plan,
+        roster: &Roster,
         k: usize,
         source: u64,
     ) -> Result<(), EventFault>
-        requires plan { CanRun plan.now }
-        requires some { IsSomeWorld plan.now self.old }
-        requires comes { IsComing plan.now self.old k (IsSource source) }
-        ensures ok { OnOk result (Happened plan.now self.old self.new (event.Deliver k)) }
+        requires plan { CanRun roster.now }
+        requires some { IsSomeWorld roster.now self.old }
+        requires comes { IsComing roster.now self.old k (IsSource source) }
+        ensures ok { OnOk result (Happened roster.now self.old self.new (event.Deliver k)) }
         ensures long { (envelopes items : ℕ) → result ≡ Err (fault.TooLong envelopes items)
-            → WouldPass plan.now self.old (event.Deliver k) envelopes items }
+            → WouldPass roster.now self.old (event.Deliver k) envelopes items }
     {
         let envelope = &self.envelopes[k];
         let Packet::Plain(message) = &envelope.packet else {
             return Ok(());
         };
         let (sender, to) = (envelope.sender(), envelope.to());
-        let outs = self.sources[source as usize].deliver(alloc, plan, sender, message)?;
+        let outs = self.sources[source as usize].deliver(alloc, roster.plan(), sender, message)?;
         let mails = as_mails(alloc, outs)?;
         self.post(to, mails)
     }
@@ -103,17 +103,17 @@ impl WorldParts {
     pub(crate) fn tick_source(
         &mut self,
         alloc: Global,
-        plan: &Plan,
+        roster: &Roster,
         actor: u64,
         source: u64,
         now: u64,
     ) -> Result<(), EventFault>
-        requires plan { CanRun plan.now }
-        requires some { IsSomeWorld plan.now self.old }
-        requires role { role_of plan.now actor ≡ IsSource source }
-        ensures ok { OnOk result (Happened plan.now self.old self.new (event.Tick actor now)) }
+        requires plan { CanRun roster.now }
+        requires some { IsSomeWorld roster.now self.old }
+        requires role { role_of roster.now actor ≡ IsSource source }
+        ensures ok { OnOk result (Happened roster.now self.old self.new (event.Tick actor now)) }
         ensures long { (envelopes items : ℕ) → result ≡ Err (fault.TooLong envelopes items)
-            → WouldPass plan.now self.old (event.Tick actor now) envelopes items }
+            → WouldPass roster.now self.old (event.Tick actor now) envelopes items }
     {
         let source = source as usize;
         if !is_clock(self.sources[source].clock(), now) {

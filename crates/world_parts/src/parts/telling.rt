@@ -9,11 +9,11 @@ ghost use Rattle.world_model.specs.Schedules.{may_come};
 ghost use Rattle.world_parts.specs.Parts.{StandsForWorld};
 ghost use Rattle.world_parts.specs.Telling.{StandsForRole};
 
-use crate::parts::WorldParts;
+use actor_roster::roster::Roster;
 use client_fold::client::Client;
-use dpc_model::actors::{Role, role_of};
+use crate::parts::WorldParts;
+use dpc_model::actors::Role;
 use dpc_model::messages::NodeState;
-use dpc_model::plans::Plan;
 use node_core::node::Node;
 
 impl WorldParts {
@@ -27,62 +27,62 @@ impl WorldParts {
     }
 
     /// The last incarnation of a node.
-    pub fn last_inc(&self, plan: &Plan, actor: u64) -> u64
-        ensures { (x : World) → StandsForWorld plan.now self.now x → result ≡ (slot_of x actor).last_inc }
+    pub fn last_inc(&self, roster: &Roster, actor: u64) -> u64
+        ensures { (x : World) → StandsForWorld roster.now self.now x → result ≡ (slot_of x actor).last_inc }
     {
-        match self.nodes.get(self.node_place(plan, actor)) {
+        match self.nodes.get(self.node_place(roster, actor)) {
             Some(slot) => slot.last_inc,
             None => 0,
         }
     }
 
     /// The node that an actor is, where it is one and is up.
-    pub fn node(&self, plan: &Plan, actor: u64) -> Option<&Node>
-        ensures { (x : World) → StandsForWorld plan.now self.now x
-            → StandsForRole plan.now (role_of plan.now actor) (option_copied result) (node_at x actor) }
+    pub fn node(&self, roster: &Roster, actor: u64) -> Option<&Node>
+        ensures { (x : World) → StandsForWorld roster.now self.now x
+            → StandsForRole roster.now (role_of roster.now actor) (option_copied result) (node_at x actor) }
     {
-        let Role::Node(_, _) = role_of(plan, actor) else {
+        let Role::Node(_, _) = roster.role_of(actor) else {
             return None;
         };
-        let slot = self.nodes.get(self.node_place(plan, actor))?;
+        let slot = self.nodes.get(self.node_place(roster, actor))?;
         slot.node.as_ref()
     }
 
     /// Whether an actor is there and is up.
-    pub fn is_up(&self, plan: &Plan, actor: u64) -> bool
-        ensures { (x : World) → StandsForWorld plan.now self.now x → result ≡ is_up x actor }
+    pub fn is_up(&self, roster: &Roster, actor: u64) -> bool
+        ensures { (x : World) → StandsForWorld roster.now self.now x → result ≡ is_up x actor }
     {
-        match role_of(plan, actor) {
+        match roster.role_of(actor) {
             Role::Source(_) | Role::Client(_) => true,
-            Role::Node(_, _) => self.node(plan, actor).is_some(),
+            Role::Node(_, _) => self.node(roster, actor).is_some(),
             Role::Nobody => false,
         }
     }
 
     /// How many buckets of an actor may be milled.
-    pub fn ready(&self, plan: &Plan, actor: u64) -> u64
-        ensures { (x : World) → StandsForWorld plan.now self.now x → result ≡ ready_at x actor }
+    pub fn ready(&self, roster: &Roster, actor: u64) -> u64
+        ensures { (x : World) → StandsForWorld roster.now self.now x → result ≡ ready_at x actor }
     {
-        match self.node(plan, actor) {
+        match self.node(roster, actor) {
             Some(node) => node.ready(),
             None => 0,
         }
     }
 
     /// The state of the node that an actor is, where it is one and is up.
-    pub fn state(&self, plan: &Plan, actor: u64) -> Option<NodeState>
-        ensures { (x : World) → StandsForWorld plan.now self.now x → result ≡ option_map (λ (p : PlainNode). p.state) (node_at x actor) }
+    pub fn state(&self, roster: &Roster, actor: u64) -> Option<NodeState>
+        ensures { (x : World) → StandsForWorld roster.now self.now x → result ≡ option_map (λ (p : PlainNode). p.state) (node_at x actor) }
     {
-        let node = self.node(plan, actor)?;
+        let node = self.node(roster, actor)?;
         Some(node.state())
     }
 
     /// Whether envelope number k was sent, and may come now.
-    pub fn may_come(&self, plan: &Plan, k: u64) -> bool
-        ensures { (x : World) → StandsForWorld plan.now self.now x → result ≡ may_come x (slice_get x.envelopes k) }
+    pub fn may_come(&self, roster: &Roster, k: u64) -> bool
+        ensures { (x : World) → StandsForWorld roster.now self.now x → result ≡ may_come x (slice_get x.envelopes k) }
     {
         match self.ends(k) {
-            Some((sender, to)) => self.link_up(plan, sender, to) && self.is_up(plan, to),
+            Some((sender, to)) => self.link_up(roster, sender, to) && self.is_up(roster, to),
             None => false,
         }
     }

@@ -14,7 +14,7 @@ use Rattle.world_core.proofs.Work.{still-fits, still-stale, long-told, stale-tol
 use Rattle.world_core.proofs.world.World.commit.Goals as goal
 
 pub commit-requires-clause-some : goal.commit-requires-clause-some
-commit-requires-clause-some c = some-stands c.self.inside.plan c.self.inside.parts c.self.inside.events.items c.self.invariant.0 (c.self.invariant.1 c.if-self.false)
+commit-requires-clause-some c = some-stands c.self.inside.roster c.self.inside.parts c.self.inside.events.items c.self.invariant.0 (c.self.invariant.1 c.if-self.false)
 
 pub returns-in-Err-clause-long : goal.returns-in-Err-clause-long
 returns-in-Err-clause-long c = λ envelopes items told.
@@ -22,19 +22,19 @@ returns-in-Err-clause-long c = λ envelopes items told.
     let e = event.Mill o.node (length o.buckets) in
     let past = (c.in-Err.ensures {u = tt}).long envelopes items (ap Err (long-told c.in-Err.fault c.from-fault.result envelopes items c.from-fault.ensures told)) in
     subst (λ (r : RunOf). WouldReach (world_of r) e envelopes items) c.self.view_is
-    (would-reach c.self.inside.plan c.self.inside.parts c.self.inside.events.items e envelopes items c.self.invariant.0 (c.self.invariant.1 c.if-self.false) past)
+    (would-reach c.self.inside.roster c.self.inside.parts c.self.inside.events.items e envelopes items c.self.invariant.0 (c.self.invariant.1 c.if-self.false) past)
 
 pub returns-in-Err-clause-stale : goal.returns-in-Err-clause-stale
 returns-in-Err-clause-stale c = λ had needed told.
     let o = c.args.milled.order in
     let at = (c.in-Err.ensures {u = tt}).stale had needed (ap Err (stale-told c.in-Err.fault c.from-fault.result had needed c.from-fault.ensures told)) in (
-      same-run c.self.inside.plan _ c.self.inside.events.items _ c.self.inside.spent c.args.self.now c.reserve.ensures.items (c.is_loss-self-inside.ensures ∙ stale-kept c.from-fault.result had needed told ∙ sym c.if-self.false) c.self.view_is,
+      same-run c.self.inside.roster _ c.self.inside.events.items _ c.self.inside.spent c.args.self.now c.reserve.ensures.items (c.is_loss-self-inside.ensures ∙ stale-kept c.from-fault.result had needed told ∙ sym c.if-self.false) c.self.view_is,
       subst (λ (r : RunOf). IsStaleAt r o had needed) c.self.view_is (still-stale _ c.self.inside.parts o had needed c.self.invariant.0 (c.self.invariant.1 c.if-self.false) at.1),
     )
 
 pub invariant_of-self-2 : goal.invariant_of-self-2
 invariant_of-self-2 c =
-    let plan = c.self.inside.plan in
+    let plan = c.self.inside.roster in
     let old = c.self.inside.events.items in
     let o = c.args.milled.order in
     let e = event.Mill o.node (length o.buckets) in
@@ -47,7 +47,7 @@ invariant_of-self-2 c =
 
 pub returns-clause-within : goal.returns-clause-within
 returns-clause-within c =
-    let plan = c.self.inside.plan in
+    let plan = c.self.inside.roster in
     let events = c.self.inside.events.items in
     let o = c.args.milled.order in
     let e = event.Mill o.node (length o.buckets) in
@@ -64,4 +64,4 @@ returns-clause-keeps c = promises-kept _ _ c.self.invariant.0.checked
 
 pub returns-clause-step : goal.returns-clause-step
 returns-clause-step c =
-    subst (λ (r : RunOf). IsSafeStep (world_of r) (event.Mill c.args.milled.order.node (length c.args.milled.order.buckets))) c.self.view_is (next-safe c.self.inside.plan c.self.inside.events.items (event.Mill c.args.milled.order.node (length c.args.milled.order.buckets)) c.self.invariant.0.checked)
+    subst (λ (r : RunOf). IsSafeStep (world_of r) (event.Mill c.args.milled.order.node (length c.args.milled.order.buckets))) c.self.view_is (next-safe c.self.inside.roster c.self.inside.events.items (event.Mill c.args.milled.order.node (length c.args.milled.order.buckets)) c.self.invariant.0.checked)

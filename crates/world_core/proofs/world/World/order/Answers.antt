@@ -7,13 +7,13 @@ use Rattle.world_core.proofs.Work.{work-told}
 use Rattle.world_core.proofs.world.World.order.Goals as goal
 
 pub order-requires-clause-some : goal.order-requires-clause-some
-order-requires-clause-some c = some-stands c.self.inside.plan c.self.inside.parts c.self.inside.events.items c.self.invariant.0 (c.self.invariant.1 c.if-self.false)
+order-requires-clause-some c = some-stands c.self.inside.roster c.self.inside.parts c.self.inside.events.items c.self.invariant.0 (c.self.invariant.1 c.if-self.false)
 
 pub returns-clause-none : goal.returns-clause-none
 returns-clause-none c =
-    let here = run-stands c.self.inside.plan c.self.inside.parts c.self.inside.events.items c.self.invariant.0 (c.self.invariant.1 c.if-self.false) in
+    let here = run-stands c.self.inside.roster c.self.inside.parts c.self.inside.events.items c.self.invariant.0 (c.self.invariant.1 c.if-self.false) in
     subst (λ (r : RunOf). IsNone c.in_ok-order.order ↔ (ready_at (world_of r) c.args.actor ≡ 0)) c.self.view_is
-    ((c.in_ok-order.ensures {u = tt}).none (run c.self.inside.plan c.self.inside.events.items) (1 + length c.self.inside.events.items) here)
+    ((c.in_ok-order.ensures {u = tt}).none (run c.self.inside.roster c.self.inside.events.items) (1 + length c.self.inside.events.items) here)
 
 pub returns-clause-some : goal.returns-clause-some
 returns-clause-some c =

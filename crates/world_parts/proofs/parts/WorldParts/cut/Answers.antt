@@ -6,9 +6,9 @@ use Rattle.world_parts.proofs.parts.WorldParts.cut.Goals as goal
 pub returns-in_ok-push : goal.returns-in_ok-push
 returns-in_ok-push c =
     let within : IsWithinLimits c.args.self.now = search rules in
-    is_cut c.args.plan.now c.args.self.now _ c.args.a c.args.b within (search rules) (λ x h. sym c.if-link_up.true ∙ c.link_up.ensures x h)
+    is_cut c.args.roster.now c.args.self.now _ c.args.a c.args.b within (search rules) (λ x h. sym c.if-link_up.true ∙ c.link_up.ensures x h)
 
 pub returns-else-link_up : goal.returns-else-link_up
 returns-else-link_up c =
     let within : IsWithinLimits c.args.self.now = search rules in
-    stays_cut c.args.plan.now c.args.self.now c.args.a c.args.b within (λ x h. sym c.if-link_up.false ∙ c.link_up.ensures x h)
+    stays_cut c.args.roster.now c.args.self.now c.args.a c.args.b within (λ x h. sym c.if-link_up.false ∙ c.link_up.ensures x h)

@@ -26,20 +26,20 @@ env-is e sender packet is same = ap (λ (a : ℕ). record e { sender = a; packet
 
 pub index-requires : goal.index-requires
 index-requires c =
-    let low : c.args.k < length c.self.inside.envelopes.items = coming-low c.args.plan.now _ _ c.args.k c.args.frag c.args.replica c.self.view_is c.requires.comes in
+    let low : c.args.k < length c.self.inside.envelopes.items = coming-low c.args.roster.now _ _ c.args.k c.args.frag c.args.replica c.self.view_is c.requires.comes in
     search (rules, low)
 
 pub index_mut-requires : goal.index_mut-requires
 index_mut-requires c =
     let low : c.node_place-place.result < length c.self.inside.nodes.items =
-    read-low c.args.plan.now _ _ c.to-to.result c.args.frag c.args.replica c.node_place-place.result c.self.view_is c.requires.some
-    (coming-role c.args.plan.now _ _ c.args.k c.args.frag c.args.replica (with-to c.to-to.result c.index.result.now) c.index.result.now c.self.view_is c.requires.comes c.index.ensures
+    read-low c.args.roster.now _ _ c.to-to.result c.args.frag c.args.replica c.node_place-place.result c.self.view_is c.requires.some
+    (coming-role c.args.roster.now _ _ c.args.k c.args.frag c.args.replica (with-to c.to-to.result c.index.result.now) c.index.result.now c.self.view_is c.requires.comes c.index.ensures
     (front-is c.index.result.now c.to-to.result c.to-to.ensures)) c.node_place-place.ensures in
     search (rules, low)
 
 pub deliver-requires : goal.deliver-requires
 deliver-requires c =
-    read-come c.args.plan.now _ _ c.args.k c.args.frag c.args.replica c.node_place-place.result (with-to c.to-to.result c.index.result.now)
+    read-come c.args.roster.now _ _ c.args.k c.args.frag c.args.replica c.node_place-place.result (with-to c.to-to.result c.index.result.now)
     (with-ends c.sender.result c.envelope.inside.packet c.index-envelope.result.now) c.index_mut.result.now c.requires.plan
     (record {
       same = c.self.view_is;
@@ -56,9 +56,9 @@ deliver-requires c =
     })
 
 -- what the node made of the envelope leads on, with its mails posted
-led : (c : In_ok-mails) → Leads c.args.plan.now c.args.self.now (with_posted c.to-to.result c.in_ok-mails.mails.items (with_slot c.node_place-place.result c.deliver.new.self (the_view c.self.inside))) (event.Deliver c.args.k)
+led : (c : In_ok-mails) → Leads c.args.roster.now c.args.self.now (with_posted c.to-to.result c.in_ok-mails.mails.items (with_slot c.node_place-place.result c.deliver.new.self (the_view c.self.inside))) (event.Deliver c.args.k)
 led c =
-    taken-leads c.args.plan.now _ _ c.args.k c.args.frag c.args.replica c.node_place-place.result (with-to c.to-to.result c.index.result.now)
+    taken-leads c.args.roster.now _ _ c.args.k c.args.frag c.args.replica c.node_place-place.result (with-to c.to-to.result c.index.result.now)
     (with-ends c.sender.result c.envelope.inside.packet c.index-envelope.result.now) c.index_mut.result.now c.deliver.new.self c.in_ok-mails.mails.items c.requires.plan
     (record {
       same = c.self.view_is;
@@ -76,8 +76,8 @@ led c =
 
 pub returns-in_err-post-clause-long : goal.returns-in_err-post-clause-long
 returns-in_err-post-clause-long c =
-    posted-passes c.args.plan.now _ _ (event.Deliver c.args.k) c.from_residual-in_err-post.result c.in_err-post.field-0.0 c.from_residual-in_err-post.ensures.1 c.in_err-post.ensures.long
+    posted-passes c.args.roster.now _ _ (event.Deliver c.args.k) c.from_residual-in_err-post.result c.in_err-post.field-0.0 c.from_residual-in_err-post.ensures.1 c.in_err-post.ensures.long
     (led (goal.at.returns-in_err-post-clause-long c).In_ok-mails)
 
 pub returns-clause-ok : goal.returns-clause-ok
-returns-clause-ok c = posted-happened c.args.plan.now _ _ _ (event.Deliver c.args.k) c.in_ok-post.ensures.ok c.in_ok-post.ensures.within (led (goal.at.returns-clause-ok c).In_ok-mails)
+returns-clause-ok c = posted-happened c.args.roster.now _ _ _ (event.Deliver c.args.k) c.in_ok-post.ensures.ok c.in_ok-post.ensures.within (led (goal.at.returns-clause-ok c).In_ok-mails)

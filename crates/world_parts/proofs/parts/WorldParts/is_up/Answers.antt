@@ -10,4 +10,4 @@ copied (Some x) = refl
 pub returns-in-Node : goal.returns-in-Node
 returns-in-Node c x h =
     c.is_some.ensures ∙ copied c.node.result
-    ∙ up_told c.args.plan.now c.args.self.now x c.args.actor c.in-Node.field-0 c.in-Node.field-1 (option_copied c.node.result) h (sym c.role_of.ensures ∙ c.in-Node.is) (c.node.ensures x h)
+    ∙ up_told c.args.roster.now c.args.self.now x c.args.actor c.in-Node.field-0 c.in-Node.field-1 (option_copied c.node.result) h (sym c.role_of.ensures ∙ c.in-Node.is) (c.node.ensures x h)

@@ -7,4 +7,4 @@ use Rattle.world_parts.proofs.parts.WorldParts.open_phase.Goals as goal
 pub returns : goal.returns
 returns c =
     let within : IsWithinLimits c.args.self.now = search rules in
-    nothing-happened c.args.plan.now c.args.self.now (Phase c.args.number) within (λ x h. refl)
+    nothing-happened c.args.roster.now c.args.self.now (Phase c.args.number) within (λ x h. refl)

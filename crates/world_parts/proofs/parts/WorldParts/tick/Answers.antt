@@ -6,4 +6,4 @@ use Rattle.world_parts.proofs.parts.WorldParts.tick.Goals as goal
 pub returns-in-Nobody-clause-ok : goal.returns-in-Nobody-clause-ok
 returns-in-Nobody-clause-ok c =
     let within : IsWithinLimits c.args.self.now = search rules in
-    nobody_ticks c.args.plan.now c.args.self.now c.args.actor c.args.now within (sym c.role_of.ensures ∙ c.in-Nobody.is)
+    nobody_ticks c.args.roster.now c.args.self.now c.args.actor c.args.now within (sym c.role_of.ensures ∙ c.in-Nobody.is)

@@ -11,17 +11,17 @@ use Rattle.world_parts.proofs.parts.WorldParts.tick_source.Goals as goal
 
 pub index-requires : goal.index-requires
 index-requires c =
-    let low = source-low c.args.plan.now c.args.self.now c.args.actor c.args.source c.requires.some c.requires.role in
+    let low = source-low c.args.roster.now c.args.self.now c.args.actor c.args.source c.requires.some c.requires.role in
     let same = ap (λ (v : WorldPartsValue). length v.sources) c.self.view_is in omega (arith, low, same, c.self.inside.sources.ok)
 
 pub index_mut-requires : goal.index_mut-requires
 index_mut-requires c =
-    let low = source-low c.args.plan.now c.args.self.now c.args.actor c.args.source c.requires.some c.requires.role in
+    let low = source-low c.args.roster.now c.args.self.now c.args.actor c.args.source c.requires.some c.requires.role in
     let same = ap (λ (v : WorldPartsValue). length v.sources) c.self.view_is in omega (arith, low, same, c.self.inside.sources.ok)
 
 pub returns-then-not-is_clock-clause-ok : goal.returns-then-not-is_clock-clause-ok
 returns-then-not-is_clock-clause-ok c =
-    let plan = c.args.plan.now in
+    let plan = c.args.roster.now in
     let old = c.args.self.now in
     let a = c.args.actor in
     let s = c.args.source in
@@ -33,7 +33,7 @@ returns-then-not-is_clock-clause-ok c =
 
 pub returns-clause-ok : goal.returns-clause-ok
 returns-clause-ok c =
-    let plan = c.args.plan.now in
+    let plan = c.args.roster.now in
     let old = c.args.self.now in
     let a = c.args.actor in
     let s = c.args.source in
@@ -47,7 +47,7 @@ returns-clause-ok c =
 
 pub returns-clause-long : goal.returns-clause-long
 returns-clause-long c = λ envelopes items e.
-    let plan = c.args.plan.now in
+    let plan = c.args.roster.now in
     let old = c.args.self.now in
     let a = c.args.actor in
     let s = c.args.source in
