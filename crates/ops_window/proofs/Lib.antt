@@ -7,8 +7,8 @@ pub mod Feeds
 pub mod Held
 pub mod Ends
 pub mod Joins
-pub mod Panes
 pub mod Reach
+pub mod Panes
 pub mod Step
 pub mod Standing
 mod Kept

@@ -3,15 +3,15 @@ use Rattle.std.proofs.Common.{◌≡◌, ℕ, zero, suc, ◌+◌, ◌-◌, ◌*�
 use Rattle.std.proofs.lemmas.Grind.{common_steps}
 use Rattle.std.proofs.lemmas.Bool.{eqb-true, lt-ltb, le-ltb}
 use Rattle.std.proofs.lemmas.Bool.Decides.{Decides-int_eq}
-use Rattle.std.proofs.lemmas.Cmp.{int_eq_equiv, int_cmp_total, tied_itself}
+use Rattle.std.proofs.lemmas.Cmp.{int_cmp_total, tied_itself}
 use Rattle.std.proofs.lemmas.List.{append-nil}
 use Rattle.std.proofs.lemmas.List.Sums.{fold-append}
 use Rattle.std.specs.declared.cmp.Ordering.TheVariants.{Less, Equal}
 use Rattle.std.specs.Ordering.{int_cmp}
-use Rattle.std.specs.List.{fold, flat_map, list_any, AllByRecursion}
+use Rattle.std.specs.List.{fold, list_any, AllByRecursion}
 use Rattle.std.specs.List.Sorted.{IsStrictlySortedBy}
 use Rattle.std.specs.Map.{keys_of}
-use Rattle.dpc_lists.specs.Lists.{range_with_len, is_nil}
+use Rattle.dpc_lists.specs.Lists.{is_nil}
 use Rattle.dpc_model.specs.Operators.{between, distinct_values}
 use Rattle.dpc_model.specs.declared.tuples.Tuple.{Tuple}
 use Rattle.dpc_model.specs.declared.operators.Agg.{Agg}
@@ -21,6 +21,7 @@ use Rattle.ops_window.proofs.Lookups.{is_key-parts, lookup-insert_entry, insert-
 use Rattle.ops_window.proofs.WindowCells.{totals_over, cells_of, distinct-has, distinct-sorted, groups-have, window_cells-at}
 use Rattle.ops_window.proofs.CellOrder.{cells_of-each, cells_of-sorted, same_cells}
 use Rattle.ops_window.proofs.Ends.{flat_map-split}
+use Rattle.ops_window.proofs.Reach.{times-le}
 use Rattle.ops_window.proofs.Joins.{joined_over, totals-joined}
 
 -- ---- one pane
@@ -81,7 +82,7 @@ module _ (aggs : List Agg) (begin : ℕ) where
         (elim (s == begin) as (λ b. (s == begin) ≡ b → totals_at (s, q) (fold (join_cell aggs begin) w (window_cells group aggs start us)) ≡ cond b (joined_over aggs (totals_at (s, q) w) (totals_over aggs (in_group group q us))) (totals_at (s, q) w)) [
           | true ↦ λ e.
               let same : s ≡ begin = eqb-true s begin e in
-              rw same (within q w (totals_at (begin, q) w) (in_group group q us) refl refl (rw same at e))
+              rw same (within q w (rw same at e))
           | false ↦ λ e. elsewhere start (λ z. map (exact_total (in_group group z us)) aggs) s q w (distinct_values (map (group_of group) us)) e
         ]) refl
       where
@@ -91,10 +92,10 @@ module _ (aggs : List Agg) (begin : ℕ) where
         any-totals None (v ∷ vs) = refl
         any-totals (Some zs) (v ∷ vs) = refl
 
-        within : (q : ℤ) (w : List Cell) (o : Option (List ℤ)) (vs : List Tuple) → totals_at (begin, q) w ≡ o → in_group group q us ≡ vs → (begin == begin) ≡ true →
+        within : (q : ℤ) (w : List Cell) → (begin == begin) ≡ true →
             totals_at (begin, q) (fold (join_cell aggs begin) w (window_cells group aggs start us)) ≡ joined_over aggs (totals_at (begin, q) w) (totals_over aggs (in_group group q us))
-        within q w o vs e f g =
-            here start (λ z. map (exact_total (in_group group z us)) aggs) q w (distinct_values (map (group_of group) us)) g (distinct-sorted (map (group_of group) us))
+        within q w e =
+            here start (λ z. map (exact_total (in_group group z us)) aggs) q w (distinct_values (map (group_of group) us)) e (distinct-sorted (map (group_of group) us))
             ∙ rw (distinct-has q (map (group_of group) us), groups-have group q us) (any-totals (totals_at (begin, q) w) (in_group group q us))
 
   joins-sorted : (w cs : List Cell) → IsStrictlySortedBy cell_cmp (keys_of w) → IsStrictlySortedBy cell_cmp (keys_of (fold (join_cell aggs begin) w cs))
@@ -179,9 +180,6 @@ module _ (time : ℕ) where
 times-below : (step i j : ℕ) → 0 < step → i < j → i * step < j * step
 times-below step i j positive h = grind (arith, common_steps)
 
-times-up_to : (step i j : ℕ) → i ≤ j → i * step ≤ j * step
-times-up_to step i j h = grind (arith, common_steps)
-
 -- the window of number j out of the cells of panes from number a on
 pub window-joined : (step : ℕ) (group : Option ℕ) (aggs : List Agg) (ts : List Tuple) (a m j n : ℕ) → 0 < step → a ≤ j → j + n ≤ a + m →
     joined_cells (n * step) aggs (j * step) (cells_of step step group aggs ts a m) ≡ window_cells group aggs (j * step) (between (j * step) (j * step + n * step) ts)
@@ -198,12 +196,12 @@ window-joined step group aggs ts a m j n positive low high =
     ap (λ (cs : List Cell). cells_behind (j * step) cs) first
     ∙ behind-split (j * step) earlier from
     (cells_of-each step step group aggs ts (λ s. s < j * step) a (j - a) (λ i l h. times-below step i j positive (omega (arith, low, h))))
-    (cells_of-each step step group aggs ts (λ s. j * step ≤ s) j (a + m - j) (λ i l h. times-up_to step j i l))
+    (cells_of-each step step group aggs ts (λ s. j * step ≤ s) j (a + m - j) (λ i l h. times-le step j i l))
     ∙ second in
     let before : cells_before ((j + n) * step) (own ++ later) ≡ own =
     before-split ((j + n) * step) own later
     (cells_of-each step step group aggs ts (λ s. s < (j + n) * step) j n (λ i l h. times-below step i (j + n) positive h))
-    (cells_of-each step step group aggs ts (λ s. (j + n) * step ≤ s) (j + n) (a + m - (j + n)) (λ i l h. times-up_to step (j + n) i l)) in
+    (cells_of-each step step group aggs ts (λ s. (j + n) * step ≤ s) (j + n) (a + m - (j + n)) (λ i l h. times-le step (j + n) i l)) in
     ap (λ (cs : List Cell). fold (join_cell aggs (j * step)) [] (cells_before (j * step + n * step) cs)) behind
     ∙ ap (λ (to : ℕ). fold (join_cell aggs (j * step)) [] (cells_before to (own ++ later))) (sym end)
     ∙ ap (λ (cs : List Cell). fold (join_cell aggs (j * step)) [] cs) before

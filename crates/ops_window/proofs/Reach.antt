@@ -1,10 +1,14 @@
 -- How far a cell reaches: over a window, or over one of the panes of which a window is made.
-use Rattle.std.proofs.Common.{◌≡◌, ℕ, zero, suc, ◌+◌, ◌*◌, ◌/◌, ◌%◌, ◌<◌, ◌≤◌, ◌==◌, Bool, true, false, cond, refl, sym, ◌∙◌, subst, arith, nat_lt}
+use Rattle.std.proofs.Common.{◌≡◌, ℕ, zero, suc, ◌*◌, ◌/◌, ◌%◌, ◌<◌, ◌≤◌, ◌==◌, Bool, true, false, cond, refl, arith, nat_lt}
+use Rattle.std.proofs.lemmas.Grind.{common_steps}
 use Rattle.std.proofs.lemmas.Bool.{eqb-true, eqb-false, ltb-true, ltb-false}
 use Rattle.std.proofs.lemmas.Nat.{div-add-mod'}
 use Rattle.dpc_model.specs.Operators.{window_count}
 use Rattle.dpc_model.proofs.WindowCausality.{window_before, window_after, window_count-le}
 use Rattle.ops_window.specs.Windows.{reach}
+
+pub times-le : (step i j : ℕ) → i ≤ j → i * step ≤ j * step
+times-le step i j h = grind (arith, common_steps)
 
 -- a window of whole steps is made of some
 pub whole-steps : (size step : ℕ) → size % step ≡ 0 → size ≡ size / step * step

@@ -17,7 +17,7 @@ use Rattle.ops_window.specs.Windows.{Cell}
 use Rattle.ops_window.specs.Feeding.{cell_cmp, cell_row, join_cell, ended_cells, cells_before, cells_behind, cells_from, first_key, joined_rows, pane_rows}
 use Rattle.ops_window.proofs.Kept.{kept-from}
 use Rattle.ops_window.proofs.Ends.{flat_map-none}
-use Rattle.ops_window.proofs.Reach.{whole-steps, some-steps}
+use Rattle.ops_window.proofs.Reach.{times-le, whole-steps, some-steps}
 
 -- ---- the first cell
 
@@ -92,8 +92,9 @@ from-first c cells cells' e s =
     let sorted : IsStrictlySortedBy cell_cmp (keys_of (c ∷ cells')) = subst (λ (cs : List Cell). IsStrictlySortedBy cell_cmp (keys_of cs)) e s in
     rw e (kept-from (λ n. false) (c ∷ cells') sorted)
 
--- ---- numbers
+-- ---- windows
 
+-- numbers that give nothing are passed over
 skip : {X : Type 0} (f : ℕ → List X) (n a b c : ℕ) → a + n ≡ b → ((j : ℕ) → a ≤ j → j < b → f j ≡ []) → flat_map f (range_with_len a (c - a)) ≡ flat_map f (range_with_len b (c - b))
 skip f zero a b c e h = let same : b ≡ a = omega arith in rw same refl
 skip f (suc n) a b c e h = by (c - a) refl (skip f n (a + 1) b c (omega (arith, e)) (λ j low high. h j (omega (arith, low)) high))
@@ -121,38 +122,31 @@ module _ (size step : ℕ) (group : Option ℕ) (aggs : List Agg) (b : ℕ) (cel
   no-rows j rest e f = rows-of j rest e ∙ ap (λ (cs : List Cell). map (cell_row size group aggs) (ended_cells size b (fold (join_cell aggs (j * step)) [] cs))) f
 
   module _ (number : ℕ) where
-    pub walk-past : behind ≤ number → pane_rows size step group aggs number b cells ≡ []
-    walk-past h = let none : behind - number ≡ 0 = omega arith in rw none refl
-
+    -- where no cell is left, no window has a row
     pub walk-none : first_key (cells_behind (number * step) cells) ≡ None → pane_rows size step group aggs number b cells ≡ []
     walk-none e =
         flat_map-none rows number (behind - number)
-        (λ j low. no-rows j [] (sym (behind-more (number * step) (j * step) cells (times number j low)) ∙ ap (λ (cs : List Cell). cells_behind (j * step) cs) (no-key (cells_behind (number * step) cells) e)) refl)
-      where
-        times : (i j : ℕ) → i ≤ j → i * step ≤ j * step
-        times i j h = grind (arith, common_steps)
+        (λ j low. no-rows j [] (sym (behind-more (number * step) (j * step) cells (times-le step number j low)) ∙ ap (λ (cs : List Cell). cells_behind (j * step) cs) (no-key (cells_behind (number * step) cells) e)) refl)
 
     module _ (some : 0 < size) (positive : 0 < step) (whole : size % step ≡ 0) (sorted : IsStrictlySortedBy cell_cmp (keys_of cells))
         (k : ℕ × ℤ) (first : first_key (cells_behind (number * step) cells) ≡ Some k) (next : ℕ) (is-next : next ≡ max number (k.0 / step - (size / step - 1))) where
       abbrev rest : List Cell
       rest = cells_behind (number * step) cells
 
-      times : (i j : ℕ) → i ≤ j → i * step ≤ j * step
-      times i j h = grind (arith, common_steps)
-
       pane-begin : k.0 / step * step ≤ k.0
       pane-begin = (le-div_iff_mul-le {k = step} {x = k.0 / step} {y = k.0} positive).0 (omega arith)
 
       -- from the first cell on
       from-there : (j : ℕ) → number ≤ j → j * step ≤ k.0 → cells_behind (j * step) cells ≡ rest
-      from-there j low late = sym (behind-more (number * step) (j * step) cells (times number j low)) ∙ behind-head (j * step) k rest first late
+      from-there j low late = sym (behind-more (number * step) (j * step) cells (times-le step number j low)) ∙ behind-head (j * step) k rest first late
 
+      -- a window that ends at or below the first cell's begin has no row
       passed : (j : ℕ) → number ≤ j → j < next → rows j ≡ []
       passed j low high =
           let n = size / step in
           let few : j + n ≤ k.0 / step = (let at = some-steps size step some whole in omega (arith, is-next, low, high, at)) in
-          let end : (j + n) * step ≤ k.0 / step * step = times (j + n) (k.0 / step) few in
-          let begin : j * step ≤ (j + n) * step = times j (j + n) (omega arith) in
+          let end : (j + n) * step ≤ k.0 / step * step = times-le step (j + n) (k.0 / step) few in
+          let begin : j * step ≤ (j + n) * step = times-le step j (j + n) (omega arith) in
           let whole-is : j * step + size ≡ (j + n) * step = (let e = whole-steps size step whole in omega (arith, e)) in
           let bound = pane-begin in
           no-rows j rest (from-there j low (omega (arith, begin, end, bound))) (before-head (j * step + size) k rest first (omega (arith, whole-is, end, bound)))
@@ -166,7 +160,7 @@ module _ (size step : ℕ) (group : Option ℕ) (aggs : List Agg) (b : ℕ) (cel
           by : (x : Bool) → nat_le number (k.0 / step - (size / step - 1)) ≡ x → next * step ≤ k.0
           by true e =
               let few : next ≤ k.0 / step = grind (arith, common_steps) in
-              let under = times next (k.0 / step) few in
+              let under = times-le step next (k.0 / step) few in
               let bound = pane-begin in
               omega (arith, under, bound)
           by false e =
@@ -179,9 +173,11 @@ module _ (size step : ℕ) (group : Option ℕ) (aggs : List Agg) (b : ℕ) (cel
       from-key : cells_from (Some k) cells ≡ rest
       from-key = ap (λ (o : Option (ℕ × ℤ)). cells_from o cells) (sym first) ∙ kept-from (λ n. nat_lt n (number * step)) cells sorted
 
+      -- where that window is open, no other row is left
       pub walk-stop : behind ≤ next → pane_rows size step group aggs number b cells ≡ []
       walk-stop h = let none : behind - next ≡ 0 = omega arith in skipped ∙ rw none refl
 
+      -- else its rows come next
       pub walk-on : next < behind →
           pane_rows size step group aggs number b cells
           ≡ map (cell_row size group aggs) (ended_cells size b (fold (join_cell aggs (next * step)) [] (cells_before (next * step + size) (cells_from (Some k) cells))))
@@ -192,10 +188,11 @@ module _ (size step : ℕ) (group : Option ℕ) (aggs : List Agg) (b : ℕ) (cel
           ∙ ap (λ (n : ℕ). flat_map rows (range_with_len next n)) count
           ∙ ap (λ (ts : List Tuple). ts ++ pane_rows size step group aggs (next + 1) b cells) (rows-of next (cells_from (Some k) cells) (from-there next low-next begins ∙ sym from-key))
 
+      -- and the walk goes on from the first cell behind its begin
       pub walk-key : first_key (cells_behind (next * step + step) (cells_from (Some k) cells)) ≡ first_key (cells_behind ((next + 1) * step) cells)
       walk-key =
           let later : next * step + step ≡ (next + 1) * step = omega arith in
           let low = low-next in
           ap (λ (cs : List Cell). first_key (cells_behind (next * step + step) cs)) from-key
           ∙ ap (λ (time : ℕ). first_key (cells_behind time rest)) later
-          ∙ ap first_key (behind-more (number * step) ((next + 1) * step) cells (times number (next + 1) (omega (arith, low))))
+          ∙ ap first_key (behind-more (number * step) ((next + 1) * step) cells (times-le step number (next + 1) (omega (arith, low))))

@@ -48,7 +48,8 @@ window_cells group aggs start ts =
 abbrev pub begun_count : ℕ → ℕ → ℕ
 begun_count step b = if b == 0 then 0 else (b - 1) / step + 1
 
--- the cells that begin at or behind the first window that ends above b, and below b, in order of begin and group
+-- the cells that windows open at b need, in order of begin and group: those that begin below b, from the
+-- begin of the first window on that ends above b
 abbrev pub open_cells : ℕ → ℕ → Option ℕ → List Agg → List Tuple → ℕ → List Cell
 open_cells size step group aggs ts b =
     flat_map (λ j. window_cells group aggs (j * step) (between (j * step) (j * step + reach size step) ts))

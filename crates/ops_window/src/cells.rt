@@ -1,14 +1,13 @@
 //! The cells that open windows need: the totals of each group and each pane, or window, in which a tuple was seen.
-ghost use Rattle.std.specs.Prelude.{◌≡◌, ◌↔◌, ◌+◌, ◌%◌, ◌^◌, ◌<◌, ◌≤◌, ◌++◌, [], IfOk, OnOk, IsTrue, map, All};
-ghost use Rattle.std.specs.List.{fold};
+ghost use Rattle.std.specs.Prelude.{◌≡◌, ◌↔◌, ◌+◌, ◌^◌, ◌<◌, ◌≤◌, ◌++◌, IfOk, OnOk, IsTrue, map, All};
 ghost use Rattle.std.specs.List.Sorted.{IsStrictlySortedBy};
 ghost use Rattle.std.specs.Map.{keys_of};
 ghost use Rattle.dpc_model.specs.Operators.{window_count};
 ghost use Rattle.dpc_model.specs.declared.tuples.Tagged.{Tagged};
 ghost use Rattle.ops_window.specs.Windows.{reach};
-ghost use Rattle.ops_window.specs.Feeding.{take_cell, take_tuple, fed_cells, row_of, ended_cells, kept_cells, first_key, cells_from, cell_cmp, join_cell, cells_before, cells_behind, pane_rows_of, ended_rows_of};
+ghost use Rattle.ops_window.specs.Feeding.{take_cell, take_tuple, fed_cells, row_of, ended_cells, kept_cells, first_key, cells_from, cell_cmp, ended_rows_of};
 
-use crate::totals::{finished, first_totals, group_of, grow, join};
+use crate::totals::{finished, first_totals, group_of, grow};
 use dpc_lists::exact::Exact;
 use dpc_lists::faults::NoMemory;
 use dpc_lists::lists::Listed;
@@ -17,7 +16,6 @@ use dpc_model::tuples::{Tagged, Tuple, Tuples, Vals};
 use std::alloc::{AllocError, Global};
 use std::collections::BTreeMap;
 use std::collections::btree_map::Entry;
-use std::ops::Bound;
 
 /// For each begin, of a pane or a window, and each group seen in it, a total for each aggregate.
 pub type Cells = BTreeMap<(u64, i64), Listed<i128>>;
@@ -108,61 +106,8 @@ fn keep_from(cells: &mut Cells, first: Option<(u64, i64)>) -> Result<(), AllocEr
     Ok(())
 }
 
-/// Joins totals into those of one cell of a window.
-fn join_in(
-    alloc: Global,
-    window: &mut Cells,
-    aggs: &[Agg],
-    key: (u64, i64),
-    totals: &[i128],
-) -> Result<(), NoMemory>
-    ensures { OnOk result (window.new.entries ≡ join_cell aggs.now key.0 window.old.entries (key, totals.now)) }
-{
-    match window.entry(key)? {
-        Entry::Vacant(cell) => {
-            cell.insert(Listed::from_vec(Vec::from_slice(alloc, totals)?));
-            Ok(())
-        }
-        Entry::Occupied(cell) => join(alloc, aggs, totals, cell.into_mut()),
-    }
-}
-
-/// The cells of the window of these times, joined from those of its panes, of which the first is known.
-fn joined(
-    alloc: Global,
-    aggs: &[Agg],
-    cells: &Cells,
-    first: (u64, i64),
-    begin: u64,
-    end: u64,
-) -> Result<Cells, NoMemory>
-    ensures { IfOk result (λ window. window.entries ≡ fold (join_cell aggs.now begin) [] (cells_before end (cells_from (Some first) cells.now.entries))) }
-{
-    let mut window = BTreeMap::new(alloc);
-    for (key, totals) in cells.range((Bound::Included(&first), Bound::Unbounded)) {
-        if end <= key.0 {
-            return Ok(window);
-        }
-        join_in(alloc, &mut window, aggs, (begin, key.1), totals.as_slice())?;
-    }
-    Ok(window)
-}
-
-/// The first cell that begins at or behind a time, sought from this one on.
-fn first_behind(cells: &Cells, from: (u64, i64), time: u64) -> Option<(u64, i64)>
-    ensures first { result ≡ first_key (cells_behind time (cells_from (Some from) cells.now.entries)) }
-    ensures sorted { IsStrictlySortedBy cell_cmp (keys_of cells.now.entries) }
-{
-    for (key, _) in cells.range((Bound::Included(&from), Bound::Unbounded)) {
-        if time <= key.0 {
-            return Some(*key);
-        }
-    }
-    None
-}
-
 /// How many windows of a size, one every step, end at or below a time.
-fn ended_count(size: u64, step: u64, time: u64) -> u64
+pub(crate) fn ended_count(size: u64, step: u64, time: u64) -> u64
     requires size { 0 < size }
     requires step { 0 < step }
     ensures { result ≡ window_count size step time }
@@ -260,7 +205,7 @@ impl Shape {
     }
 
     /// Adds the rows of the first cells, as far as their windows end at or below a time.
-    fn ended_rows(
+    pub(crate) fn ended_rows(
         &self,
         alloc: Global,
         cells: &Cells,
@@ -275,46 +220,6 @@ impl Shape {
                 return Ok(());
             }
             rows.push(self.row(alloc, *key, totals.as_slice())?)?;
-        }
-        Ok(())
-    }
-
-    /// Adds the rows of the windows from a number on that end at or below a time, joined from their
-    /// panes. Windows without a tuple are passed over together.
-    fn pane_rows(
-        &self,
-        alloc: Global,
-        cells: &Cells,
-        first: u64,
-        end: u64,
-        rows: &mut Vec<Tuple>,
-    ) -> Result<(), NoMemory>
-        requires size { 0 < self.now.size }
-        requires step { 0 < self.now.step }
-        requires whole { self.now.size % self.now.step ≡ 0 }
-        ensures { OnOk result (rows.new.items ≡ rows.old.items ++ pane_rows_of self.now first end cells.now.entries) }
-    {
-        let behind = ended_count(self.size, self.step, end);
-        if behind <= first {
-            return Ok(());
-        }
-        let Some((key, _)) = cells.iter().next() else {
-            return Ok(());
-        };
-        let before = self.size / self.step - 1;
-        let mut number = first;
-        let mut next = first_behind(cells, *key, first * self.step);
-        'windows: while let Some(key) = next {
-            number = number.max((key.0 / self.step).saturating_sub(before));
-            if behind <= number {
-                return Ok(());
-            }
-            let begin = number * self.step;
-            let aggs = self.aggs.as_slice();
-            let window = joined(alloc, aggs, cells, key, begin, begin + self.size)?;
-            self.ended_rows(alloc, &window, end, rows)?;
-            number += 1;
-            next = first_behind(cells, key, begin + self.step);
         }
         Ok(())
     }

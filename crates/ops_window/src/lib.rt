@@ -3,4 +3,5 @@
 
 pub mod aggregate;
 pub mod cells;
+mod joining;
 mod totals;

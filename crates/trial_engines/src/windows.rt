@@ -1,9 +1,10 @@
 //! What no clause says: rows counted by a person, and that calls succeed where there is memory.
-ghost use Rattle.std.specs.Prelude.{◌<◌, IfOk};
+ghost use Rattle.std.specs.Prelude.{◌≡◌, ◌+◌, ◌<◌, IfOk, OnOk};
 ghost use Rattle.dpc_model.specs.Engines.{FitsBucket};
 
 use dpc_lists::lists::Listed;
 use dpc_model::engines::{Engine, fits_bucket};
+use dpc_model::faults::StepFault;
 use dpc_model::operators::Agg;
 use dpc_model::tuples::{Tagged, Tuple, Tuples, Vals};
 use ops_window::aggregate::Aggregate;
@@ -119,12 +120,38 @@ fn four(alloc: Global) -> Result<Listed<Agg>, AllocError> {
     Ok(Listed::from_vec(aggs))
 }
 
-/// Whether the row at a place is of this time and these values.
-fn has_row(rows: &Tuples, place: usize, time: u64, vals: [i64; 5]) -> bool {
-    match rows.as_slice().get(place) {
-        Some(row) => row.stime == time && row.vals.as_slice() == vals.as_slice(),
-        None => false,
+/// Whether these are the rows: of each its time and its values.
+fn are_rows(rows: &Tuples, wanted: &[(u64, [i64; 5])]) -> bool {
+    for i in 0..wanted.len() {
+        let (time, vals) = &wanted[i];
+        match rows.as_slice().get(i) {
+            Some(row) if row.stime == *time && row.vals.as_slice() == vals.as_slice() => {}
+            _ => return false,
+        }
     }
+    rows.len() == wanted.len()
+}
+
+/// Whether the next bucket, of width 60, adds these rows, and leaves so many cells.
+fn adds(
+    alloc: Global,
+    aggregate: &mut Aggregate,
+    inputs: &[Tagged],
+    k: u64,
+    wanted: &[(u64, [i64; 5])],
+    cells: usize,
+) -> Result<bool, StepFault>
+    requires next { k ≡ aggregate.old.next }
+    requires range { k < 10 }
+    requires width { aggregate.old.width ≡ 60 }
+    ensures next { OnOk result (aggregate.new.next ≡ k + 1) }
+    ensures width { aggregate.new.width ≡ 60 }
+{
+    if !fits_bucket(inputs, 60, k) {
+        return Err(StepFault::Spent);
+    }
+    let rows = aggregate.bucket(alloc, inputs, k)?;
+    Ok(are_rows(&rows, wanted) && aggregate.cells().len() == cells)
 }
 
 #[test]
@@ -132,35 +159,25 @@ fn windows_are_joined_from_panes(rt: HostRuntime) -> Result<(), Fail> {
     let alloc = rt.alloc();
     let mut aggregate = Aggregate::new(alloc, 30, 10, Some(0), four(alloc)?, 60);
     let first = early(alloc)?;
-    assert!(rt; fits_bucket(first.as_slice(), 60, 0));
-    let Ok(rows) = aggregate.bucket(alloc, first.as_slice(), 0) else {
-        return Ok(assert!(rt; false));
-    };
-    assert_eq!(rt; rows.len(), 6);
-    assert!(rt; has_row(&rows, 0, 29, [1, 4, 6, 10, 2]));
-    assert!(rt; has_row(&rows, 1, 29, [2, -3, 10, 7, 2]));
-    assert!(rt; has_row(&rows, 2, 39, [1, 6, 6, 6, 1]));
-    assert!(rt; has_row(&rows, 3, 39, [2, 10, 10, 10, 1]));
-    assert!(rt; has_row(&rows, 4, 49, [2, 10, 10, 10, 1]));
-    assert!(rt; has_row(&rows, 5, 59, [1, 1, 1, 1, 1]));
-    assert_eq!(rt; aggregate.cells().len(), 1);
+    let rows = [
+        (29, [1, 4, 6, 10, 2]),
+        (29, [2, -3, 10, 7, 2]),
+        (39, [1, 6, 6, 6, 1]),
+        (39, [2, 10, 10, 10, 1]),
+        (49, [2, 10, 10, 10, 1]),
+        (59, [1, 1, 1, 1, 1]),
+    ];
+    assert!(rt; adds(alloc, &mut aggregate, first.as_slice(), 0, &rows, 1)?);
     let second = late(alloc)?;
-    assert!(rt; fits_bucket(second.as_slice(), 60, 1));
-    let Ok(rows) = aggregate.bucket(alloc, second.as_slice(), 1) else {
-        return Ok(assert!(rt; false));
-    };
-    assert_eq!(rt; rows.len(), 4);
-    assert!(rt; has_row(&rows, 0, 69, [1, 1, 9, 10, 2]));
-    assert!(rt; has_row(&rows, 1, 79, [1, 1, 9, 10, 2]));
-    assert!(rt; has_row(&rows, 2, 89, [1, 9, 9, 9, 1]));
-    assert!(rt; has_row(&rows, 3, 119, [2, 7, 7, 7, 1]));
-    let Ok(rows) = aggregate.bucket(alloc, &[], 2) else {
-        return Ok(assert!(rt; false));
-    };
-    assert_eq!(rt; rows.len(), 2);
-    assert!(rt; has_row(&rows, 0, 129, [2, 7, 7, 7, 1]));
-    assert!(rt; has_row(&rows, 1, 139, [2, 7, 7, 7, 1]));
-    assert!(rt; aggregate.cells().is_empty());
+    let rows = [
+        (69, [1, 1, 9, 10, 2]),
+        (79, [1, 1, 9, 10, 2]),
+        (89, [1, 9, 9, 9, 1]),
+        (119, [2, 7, 7, 7, 1]),
+    ];
+    assert!(rt; adds(alloc, &mut aggregate, second.as_slice(), 1, &rows, 1)?);
+    let rows = [(129, [2, 7, 7, 7, 1]), (139, [2, 7, 7, 7, 1])];
+    assert!(rt; adds(alloc, &mut aggregate, &[], 2, &rows, 0)?);
     Ok(())
 }
 
@@ -169,17 +186,14 @@ fn windows_of_no_whole_steps(rt: HostRuntime) -> Result<(), Fail> {
     let alloc = rt.alloc();
     let mut aggregate = Aggregate::new(alloc, 25, 10, Some(0), four(alloc)?, 60);
     let first = early(alloc)?;
-    assert!(rt; fits_bucket(first.as_slice(), 60, 0));
-    let Ok(rows) = aggregate.bucket(alloc, first.as_slice(), 0) else {
-        return Ok(assert!(rt; false));
-    };
-    assert_eq!(rt; rows.len(), 5);
-    assert!(rt; has_row(&rows, 0, 24, [1, 4, 6, 10, 2]));
-    assert!(rt; has_row(&rows, 1, 24, [2, -3, -3, -3, 1]));
-    assert!(rt; has_row(&rows, 2, 34, [1, 6, 6, 6, 1]));
-    assert!(rt; has_row(&rows, 3, 34, [2, 10, 10, 10, 1]));
-    assert!(rt; has_row(&rows, 4, 44, [2, 10, 10, 10, 1]));
-    assert_eq!(rt; aggregate.cells().len(), 2);
+    let rows = [
+        (24, [1, 4, 6, 10, 2]),
+        (24, [2, -3, -3, -3, 1]),
+        (34, [1, 6, 6, 6, 1]),
+        (34, [2, 10, 10, 10, 1]),
+        (44, [2, 10, 10, 10, 1]),
+    ];
+    assert!(rt; adds(alloc, &mut aggregate, first.as_slice(), 0, &rows, 2)?);
     Ok(())
 }
 
@@ -189,19 +203,12 @@ fn empty_windows_are_passed_over(rt: HostRuntime) -> Result<(), Fail> {
     let aggs = Listed::from_vec(vec![in alloc; Agg::Count, Agg::Sum(0)]?);
     let mut aggregate = Aggregate::new(alloc, 4, 1, None, aggs, 1_000_000_000_000);
     let mut inputs = Vec::new(alloc);
-    add(alloc, &mut inputs, 999_999_999_996, 8, 0)?;
+    add(alloc, &mut inputs, 999_999_999_999, 8, 0)?;
     assert!(rt; fits_bucket(inputs.as_slice(), 1_000_000_000_000, 0));
     let Ok(rows) = aggregate.bucket(alloc, inputs.as_slice(), 0) else {
         return Ok(assert!(rt; false));
     };
-    assert_eq!(rt; rows.len(), 4);
-    match rows.as_slice() {
-        [first, ..] => {
-            assert_eq!(rt; first.stime, 999_999_999_996);
-            assert!(rt; first.vals.as_slice() == [1, 8].as_slice());
-        }
-        [] => {}
-    }
-    assert!(rt; aggregate.cells().is_empty());
+    assert!(rt; is_row(&rows, 999_999_999_999, 1, 8));
+    assert_eq!(rt; aggregate.cells().len(), 1);
     Ok(())
 }

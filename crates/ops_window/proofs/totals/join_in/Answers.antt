@@ -1,4 +1,4 @@
-use Rattle.std.proofs.Common.{◌≡◌, arith, sym, ◌∙◌, pos, get_or, FitsSigned, rules, add-one}
+use Rattle.std.proofs.Common.{arith, sym, ◌∙◌, pos, FitsSigned, rules, add-one}
 use Rattle.std.specs.Int.{w128}
 use Rattle.std.proofs.lemmas.Int.{to_z-of_z}
 use Rattle.dpc_model.specs.declared.operators.Agg.TheVariants.{Count}

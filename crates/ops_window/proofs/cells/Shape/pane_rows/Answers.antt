@@ -1,4 +1,4 @@
-use Rattle.std.proofs.Common.{◌≡◌, ◌+◌, ◌-◌, ◌*◌, ◌/◌, ◌<◌, ◌≤◌, max, ◌∷◌, ◌++◌, ℕ, ℤ, List, [], Option, Some, ap, sym, ◌∙◌, refl, arith, rules, map}
+use Rattle.std.proofs.Common.{◌≡◌, ◌+◌, ◌-◌, ◌*◌, ◌/◌, max, ◌++◌, List, [], Some, ap, sym, ◌∙◌, refl, arith, rules, map}
 use Rattle.std.proofs.lemmas.List.{append-nil, append_assoc}
 use Rattle.std.specs.List.{fold}
 use Rattle.dpc_model.specs.declared.operators.Agg.{Agg}
@@ -7,7 +7,7 @@ use Rattle.dpc_model.proofs.WindowCausality.{window_before}
 use Rattle.ops_window.specs.Windows.{Cell}
 use Rattle.ops_window.specs.Feeding.{row_of, join_cell, ended_cells, first_key, cells_before, cells_behind, cells_from, pane_rows, pane_rows_of}
 use Rattle.ops_window.proofs.Reach.{step-le}
-use Rattle.ops_window.proofs.Walk.{walk-past, walk-none, walk-stop, walk-on, walk-key, from-first}
+use Rattle.ops_window.proofs.Walk.{walk-none, walk-stop, walk-on, walk-key, from-first}
 use Rattle.ops_window.proofs.cells.Shape.pane_rows.Goals as goal
 
 pub returns-in_default : goal.returns-in_default
@@ -29,7 +29,7 @@ pub returns-then-behind-number : goal.returns-then-behind-number
 returns-then-behind-number c =
     let self = c.args.self.now in
     let stop = walk-stop self.size self.step self.group self.aggs c.args.end c.args.cells.now.entries c.windows.number c.requires.size c.requires.step c.requires.whole c.windows.invariant.sorted
-        c.in-Some-next.key (sym c.windows.invariant.next ∙ c.in-Some-next.is) c.max-number.result (search rules) (let e = c.ended_count-behind.ensures in omega (arith, e)) in
+    c.in-Some-next.key (sym c.windows.invariant.next ∙ c.in-Some-next.is) c.max-number.result (search rules) (let e = c.ended_count-behind.ensures in omega (arith, e)) in
     sym (append-nil c.windows.rows.items) ∙ ap (λ (ts : List Tuple). c.windows.rows.items ++ ts) (sym stop) ∙ c.windows.invariant.rows
 
 pub overflow_mul-begin : goal.overflow_mul-begin
@@ -59,7 +59,7 @@ windows-preserved c =
     let next = c.max-number.result in
     let is-next : next ≡ max c.windows.number (c.in-Some-next.key.0 / self.step - (self.size / self.step - 1)) = search rules in
     let on = walk-on self.size self.step self.group self.aggs c.args.end cells c.windows.number c.requires.size c.requires.step c.requires.whole c.windows.invariant.sorted
-        c.in-Some-next.key first next is-next (let e = c.ended_count-behind.ensures in omega (arith, e)) in
+    c.in-Some-next.key first next is-next (let e = c.ended_count-behind.ensures in omega (arith, e)) in
     let window-of = λ (aggs : List Agg). fold (join_cell aggs (next * self.step)) [] (cells_before (next * self.step + self.size) (cells_from (Some c.in-Some-next.key) cells)) in
     let own = window-of self.aggs in
     let later = pane_rows_of self (next + 1) c.args.end cells in

@@ -1,8 +1,8 @@
-use Rattle.std.proofs.Common.{List, ap, sym, ◌∙◌, refl}
+use Rattle.std.proofs.Common.{List, ap, sym, ◌∙◌}
 use Rattle.ops_window.specs.Windows.{Cell}
 use Rattle.ops_window.specs.Feeding.{first_key, cells_behind}
 use Rattle.ops_window.proofs.Walk.{range-from, behind-on, behind-here}
-use Rattle.ops_window.proofs.cells.first_behind.Goals as goal
+use Rattle.ops_window.proofs.joining.first_behind.Goals as goal
 
 pub loop-key-init : goal.loop-key-init
 loop-key-init c =

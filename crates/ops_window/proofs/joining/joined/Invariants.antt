@@ -1,7 +1,7 @@
 use Rattle.std.proofs.Common.{◌≡◌, [], Some}
 use Rattle.std.specs.List.{fold}
 use Rattle.ops_window.specs.Feeding.{join_cell, cells_before, cells_from}
-use Rattle.ops_window.proofs.cells.joined.Given as goal
+use Rattle.ops_window.proofs.joining.joined.Given as goal
 
 abbrev pub invariant-loop-key : goal.invariant-loop-key
 invariant-loop-key l =

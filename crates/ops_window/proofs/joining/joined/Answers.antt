@@ -1,9 +1,9 @@
-use Rattle.std.proofs.Common.{◌≡◌, List, [], ap, sym, ◌∙◌, refl, rules}
+use Rattle.std.proofs.Common.{List, [], ap, ◌∙◌, rules}
 use Rattle.std.specs.List.{fold}
 use Rattle.ops_window.specs.Windows.{Cell}
 use Rattle.ops_window.specs.Feeding.{join_cell, cells_before}
 use Rattle.ops_window.proofs.Walk.{range-from, joins-on, joins-here, joins-end}
-use Rattle.ops_window.proofs.cells.joined.Goals as goal
+use Rattle.ops_window.proofs.joining.joined.Goals as goal
 
 pub loop-key-init : goal.loop-key-init
 loop-key-init c =
