@@ -7,7 +7,7 @@ ghost use Rattle.inlet.specs.Batches.{IsRead};
 ghost use Rattle.inlet.specs.Forgotten.{HasRoom, IsTaken, times_of};
 
 use crate::draft::BatchDraft;
-use crate::items::{shared, times};
+use crate::items::{append, shared, times};
 use crate::tentative::Tentative;
 use dpc_lists::faults::NoMemory;
 use dpc_lists::lists::Listed;
@@ -149,17 +149,14 @@ impl Inlet {
             tentative,
             passed,
         } = draft;
-        let mut stable = VecDeque::from_vec(stable);
-        let count = stable.len() as u64;
-        self.kept.reserve(stable.len())?;
-        if held {
-            self.tentative.append(tentative)?;
-        } else {
+        let (old_len, count) = (self.kept.len(), stable.len() as u64);
+        append(&mut self.kept, stable)?;
+        if !held {
             self.tentative.replace(tentative);
+        } else if let Err(NoMemory) = self.tentative.append(tentative) {
+            self.kept.truncate(old_len);
+            return Err(NoMemory);
         }
-        let Ok(()) = self.kept.append(&mut stable) else {
-            unreachable!()
-        };
         self.count += count;
         self.bound = bound;
         self.passed = passed;

@@ -1,5 +1,5 @@
 //! The items that were taken of a batch, and the tuples that an inlet lets go.
-ghost use Rattle.std.specs.Prelude.{◌≡◌, ◌≤◌, ◌∷◌, [], map, option_to_list, length, IfOk};
+ghost use Rattle.std.specs.Prelude.{◌≡◌, ◌≤◌, ◌∷◌, ◌++◌, [], map, option_to_list, length, IfOk, OnOk, OnErr};
 ghost use Rattle.std.specs.Borrow.{Bor};
 ghost use Rattle.dpc_model.specs.Reading.{tuples_in};
 ghost use Rattle.dpc_model.specs.declared.tuples.Tuple.{Tuple};
@@ -54,13 +54,27 @@ fn time_in(item: &Item) -> Option<u64>
 pub fn times(alloc: Global, items: &[&Item]) -> Result<Listed<u64>, AllocError>
     ensures { IfOk result (λ times. times ≡ map (λ (t : Tuple). t.stime) (tuples_in (map (λ (item : Bor Item). item.now) items.now))) }
 {
-    let mut times = Vec::new(alloc);
+    let mut times = Vec::with_capacity(alloc, items.len())?;
     for item in items {
         if let Some(time) = time_in(item) {
             times.push(time)?;
         }
     }
     Ok(Listed::from_vec(times))
+}
+
+/// Appends tuples behind those that are kept; where none is, none is moved. Want of memory changes nothing.
+pub fn append(kept: &mut VecDeque<Tuple>, tuples: Vec<Tuple>) -> Result<(), NoMemory>
+    ensures ok { OnOk result (kept.new.items ≡ kept.old.items ++ tuples.items) }
+    ensures err { OnErr result (kept.new.items ≡ kept.old.items) }
+{
+    let mut more = VecDeque::from_vec(tuples);
+    if kept.is_empty() {
+        *kept = more;
+        return Ok(());
+    }
+    kept.append(&mut more)?;
+    Ok(())
 }
 
 /// Lets the first tuples go that are below a time.

@@ -155,7 +155,12 @@ impl OutputBuffer {
         ensures err { OnErr result (self.new ≡ self.old) }
     {
         let mut tuples = VecDeque::from_vec(tuples.into_vec());
-        self.kept.append(&mut tuples)?;
+        if self.kept.is_empty() {
+            // none is moved
+            self.kept = tuples;
+        } else {
+            self.kept.append(&mut tuples)?;
+        }
         self.cut();
         Ok(())
     }

@@ -14,7 +14,19 @@ use fragment_mill::mill::FragMill;
 use soutput::batches::Sends;
 use soutput::fresh::Fresh;
 use soutput::output::SOutput;
-use std::alloc::Global;
+use std::alloc::{AllocError, Global};
+
+/// Appends tuples behind others; where there are none, none is moved.
+fn append(outputs: &mut Vec<Tuple>, mut tuples: Vec<Tuple>) -> Result<(), AllocError>
+    ensures { OnOk result (outputs.new.items ≡ outputs.old.items ++ tuples.items) }
+{
+    if outputs.is_empty() {
+        *outputs = tuples;
+        return Ok(());
+    }
+    outputs.append(&mut tuples)?;
+    Ok(())
+}
 
 /// Processes the next bucket, and appends what it adds.
 pub(crate) fn run(
@@ -35,7 +47,7 @@ pub(crate) fn run(
     let Ok(output) = keeper.ahead(alloc, bucket, k) else {
         return Err(NoMemory);
     };
-    outputs.append(&mut output.into_vec())?;
+    append(outputs, output.into_vec())?;
     Ok(())
 }
 
