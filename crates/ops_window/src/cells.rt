@@ -5,7 +5,7 @@ ghost use Rattle.std.specs.Map.{keys_of};
 ghost use Rattle.dpc_model.specs.Operators.{window_count};
 ghost use Rattle.dpc_model.specs.declared.tuples.Tagged.{Tagged};
 ghost use Rattle.ops_window.specs.Windows.{reach};
-ghost use Rattle.ops_window.specs.Feeding.{take_cell, take_tuple, fed_cells, row_of, ended_cells, kept_cells, first_key, cells_from, cell_cmp, ended_rows_of};
+ghost use Rattle.ops_window.specs.Feeding.{take_cell, take_tuple, fed_cells, row_of, ended_cells, kept_cells, first_key, cells_from, cell_cmp, ended_rows_of, left_cells};
 
 use crate::totals::{finished, first_totals, group_of, grow};
 use dpc_lists::exact::Exact;
@@ -263,17 +263,18 @@ impl Shape {
     ) -> Result<Tuples, NoMemory>
         requires size { 0 < self.now.size }
         requires step { 0 < self.now.step }
+        requires order { begin ≤ end }
         ensures rows { IfOk result (λ rows. rows ≡ ended_rows_of self.now begin end cells.old.entries) }
-        ensures cells { OnOk result (cells.new.entries ≡ kept_cells self.now.size end cells.old.entries) }
+        ensures cells { OnOk result (cells.new.entries ≡ left_cells self.now.size self.now.step end cells.old.entries) }
     {
         let mut rows = Vec::new(alloc);
         if self.reach() == self.size {
             self.ended_rows(alloc, cells, end, &mut rows)?;
+            self.drop_ended(cells, end)?;
         } else {
             let first = ended_count(self.size, self.step, begin);
-            self.pane_rows(alloc, cells, first, end, &mut rows)?;
+            self.take_windows(alloc, cells, first, end, &mut rows)?;
         }
-        self.drop_ended(cells, end)?;
         Ok(Listed::from_vec(rows))
     }
 
@@ -288,9 +289,10 @@ impl Shape {
     ) -> Result<Tuples, NoMemory>
         requires size { 0 < self.now.size }
         requires step { 0 < self.now.step }
+        requires order { begin ≤ end }
         requires times { All (λ (x : Tagged). x.tuple.stime + 1 < 2 ^ 64) inputs.now }
         ensures rows { IfOk result (λ rows. rows ≡ ended_rows_of self.now begin end (fed_cells self.now cells.old.entries inputs.now)) }
-        ensures cells { OnOk result (cells.new.entries ≡ kept_cells self.now.size end (fed_cells self.now cells.old.entries inputs.now)) }
+        ensures cells { OnOk result (cells.new.entries ≡ left_cells self.now.size self.now.step end (fed_cells self.now cells.old.entries inputs.now)) }
     {
         self.take_inputs(alloc, cells, inputs)?;
         self.take_rows(alloc, cells, begin, end)
