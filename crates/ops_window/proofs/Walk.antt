@@ -1,5 +1,5 @@
 -- The walk over windows that are made of panes, from one that holds a cell to the next.
-use Rattle.std.proofs.Common.{◌≡◌, ℕ, zero, suc, ◌+◌, ◌-◌, ◌*◌, ◌/◌, ◌%◌, ◌<◌, ◌≤◌, max, Bool, true, false, cond, List, [], ◌∷◌, ◌++◌, map, refl, sym, ◌∙◌, ap, subst, arith, ℤ, ◌&&◌, Option, Some, None, nat_lt, nat_le}
+use Rattle.std.proofs.Common.{◌≡◌, ℕ, zero, suc, ◌+◌, ◌-◌, ◌*◌, ◌/◌, ◌%◌, ◌<◌, ◌≤◌, max, Bool, true, false, cond, List, [], ◌∷◌, ◌++◌, map, refl, sym, ◌∙◌, ap, subst, arith, ℤ, Option, Some, None, nat_lt, nat_le}
 use Rattle.std.proofs.lemmas.Grind.{common_steps}
 use Rattle.std.proofs.lemmas.List.{append_cancel_right}
 use Rattle.std.proofs.lemmas.Bool.{ltb-true, ltb-false, lt-ltb, le-ltb}
@@ -11,7 +11,7 @@ use Rattle.dpc_model.proofs.WindowCausality.{window_before}
 use Rattle.dpc_model.specs.declared.tuples.Tuple.{Tuple}
 use Rattle.dpc_model.specs.declared.operators.Agg.{Agg}
 use Rattle.ops_window.specs.Windows.{Cell}
-use Rattle.ops_window.specs.Feeding.{cell_cmp, cell_row, join_cell, ended_cells, cells_before, cells_behind, first_cells, later_cells, first_key, next_window, joined_rows, pane_rows}
+use Rattle.ops_window.specs.Feeding.{cell_row, join_cell, ended_cells, cells_before, cells_behind, first_cells, later_cells, first_key, next_window, joined_rows, pane_rows}
 use Rattle.ops_window.proofs.Ends.{flat_map-none}
 use Rattle.ops_window.proofs.Reach.{times-le, whole-steps, some-steps}
 

@@ -1,21 +1,17 @@
 //! Windows that are joined from their panes.
-ghost use Rattle.std.specs.Prelude.{◌≡◌, ◌*◌, ◌%◌, ◌<◌, ◌≤◌, ◌++◌, IfOk, OnOk};
+ghost use Rattle.std.specs.Prelude.{◌≡◌, ◌*◌, ◌%◌, ◌<◌, ◌≤◌, ◌++◌, OnOk};
 ghost use Rattle.std.specs.List.{fold};
-ghost use Rattle.std.specs.List.Sorted.{IsStrictlySortedBy};
-ghost use Rattle.std.specs.Map.{keys_of};
 ghost use Rattle.dpc_model.specs.Operators.{window_count};
-ghost use Rattle.ops_window.specs.Feeding.{cell_cmp, join_cell, cells_before, cells_behind, cells_from, first_key, next_window, pane_rows_of};
+ghost use Rattle.ops_window.specs.Feeding.{join_cell, cells_before, cells_behind, next_window, pane_rows_of};
 
-use crate::cells::{Cells, Shape, ended_count};
+use crate::cells::{Cells, Shape, ended_count, take_before};
 use crate::totals::join;
 use dpc_lists::faults::NoMemory;
 use dpc_lists::lists::Listed;
 use dpc_model::operators::Agg;
 use dpc_model::tuples::Tuple;
-use std::alloc::{AllocError, Global};
-use std::collections::BTreeMap;
+use std::alloc::Global;
 use std::collections::btree_map::Entry;
-use std::mem;
 
 /// Joins totals into those of one cell of a window.
 fn join_in(
@@ -55,44 +51,6 @@ fn join_before(
         join_in(alloc, window, aggs, (begin, key.1), totals.as_slice())?;
     }
     Ok(())
-}
-
-/// The first cell that begins at or behind a time.
-fn first_behind(cells: &Cells, time: u64) -> Option<(u64, i64)>
-    ensures first { result ≡ first_key (cells_behind time cells.now.entries) }
-    ensures sorted { IsStrictlySortedBy cell_cmp (keys_of cells.now.entries) }
-{
-    for (key, _) in cells.iter() {
-        if time <= key.0 {
-            return Some(*key);
-        }
-    }
-    None
-}
-
-/// Takes the cells from this one on out, and none where there is none.
-fn take_from(
-    alloc: Global,
-    cells: &mut Cells,
-    first: Option<(u64, i64)>,
-) -> Result<Cells, AllocError>
-    ensures from { IfOk result (λ rest. rest.entries ≡ cells_from first cells.old.entries) }
-    ensures parts { IfOk result (λ rest. cells.old.entries ≡ cells.new.entries ++ rest.entries) }
-{
-    match first {
-        Some(key) => cells.split_off(&key),
-        None => Ok(BTreeMap::new(alloc)),
-    }
-}
-
-/// Takes the first cells out, as far as they begin below a time.
-fn take_before(alloc: Global, cells: &mut Cells, time: u64) -> Result<Cells, AllocError>
-    ensures taken { IfOk result (λ taken. taken.entries ≡ cells_before time cells.old.entries) }
-    ensures left { OnOk result (cells.new.entries ≡ cells_behind time cells.old.entries) }
-{
-    let first = first_behind(cells, time);
-    let rest = take_from(alloc, cells, first)?;
-    Ok(mem::replace(cells, rest))
 }
 
 impl Shape {

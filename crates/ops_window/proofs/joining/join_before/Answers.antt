@@ -1,7 +1,4 @@
-use Rattle.std.proofs.Common.{◌≡◌, List, [], ap, sym, ◌∙◌, refl, rules}
-use Rattle.std.specs.List.{fold}
-use Rattle.ops_window.specs.Windows.{Cell}
-use Rattle.ops_window.specs.Feeding.{join_cell, cells_before}
+use Rattle.std.proofs.Common.{◌∙◌, rules}
 use Rattle.ops_window.proofs.Walk.{joins-on, joins-here, joins-end}
 use Rattle.ops_window.proofs.joining.join_before.Goals as goal
 

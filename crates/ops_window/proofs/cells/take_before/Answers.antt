@@ -2,7 +2,7 @@ use Rattle.std.proofs.Common.{◌≡◌, ℕ, ℤ, nat_lt, Option, ◌∙◌, ap
 use Rattle.ops_window.specs.Feeding.{cells_from, cells_behind}
 use Rattle.ops_window.proofs.Kept.{kept-from}
 use Rattle.ops_window.proofs.Walk.{rest-taken}
-use Rattle.ops_window.proofs.joining.take_before.Goals as goal
+use Rattle.ops_window.proofs.cells.take_before.Goals as goal
 
 pub returns-clause-left : goal.returns-clause-left
 returns-clause-left c =
