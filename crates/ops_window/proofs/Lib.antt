@@ -12,4 +12,4 @@ pub mod Panes
 pub mod Step
 pub mod Standing
 mod Kept
-mod Walk
+pub mod Walk

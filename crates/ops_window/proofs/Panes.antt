@@ -1,5 +1,5 @@
 -- The cells of a window are those of its panes, joined.
-use Rattle.std.proofs.Common.{◌≡◌, ℕ, zero, suc, ◌+◌, ◌-◌, ◌*◌, ◌<◌, ◌≤◌, ◌==◌, ◌&&◌, ◌||◌, not, Bool, true, false, cond, List, [], ◌∷◌, ◌++◌, map, refl, sym, ◌∙◌, ap, subst, arith, ℤ, int_eq, Option, Some, None, nat_lt, nat_le}
+use Rattle.std.proofs.Common.{◌≡◌, ℕ, zero, suc, ◌+◌, ◌-◌, ◌*◌, ◌<◌, ◌≤◌, ◌==◌, ◌&&◌, ◌||◌, not, Bool, true, false, cond, List, [], ◌∷◌, ◌++◌, map, refl, sym, ◌∙◌, ap, subst, arith, ℤ, int_eq, Option, Some, None}
 use Rattle.std.proofs.lemmas.Grind.{common_steps}
 use Rattle.std.proofs.lemmas.Bool.{eqb-true, lt-ltb, le-ltb}
 use Rattle.std.proofs.lemmas.Bool.Decides.{Decides-int_eq}
@@ -104,13 +104,6 @@ module _ (aggs : List Agg) (begin : ℕ) where
 
 -- ---- panes one after the other
 
-no-time : (s : ℕ) (ts : List Tuple) → between s s ts ≡ []
-no-time s [] = refl
-no-time s (t ∷ ts) = let none : (nat_le s t.stime && nat_lt t.stime s) ≡ false = never s t.stime in rw none (no-time s ts)
-  where
-    never : (s n : ℕ) → (nat_le s n && nat_lt n s) ≡ false
-    never s n = grind (arith, common_steps)
-
 module _ (step : ℕ) (group : Option ℕ) (aggs : List Agg) (ts : List Tuple) (begin : ℕ) where
   -- what a window holds of the tuples below a time
   abbrev Holds : List Cell → ℕ → Type 0
@@ -141,22 +134,26 @@ module _ (step : ℕ) (group : Option ℕ) (aggs : List Agg) (ts : List Tuple) (
       ∙ rest s q
       ∙ ap (λ (to : ℕ). cond (s == begin) (totals_over aggs (in_group group q (between begin to ts))) None) count
 
--- the cells of the panes from number a on, joined
-pub panes-joined : (step : ℕ) (group : Option ℕ) (aggs : List Agg) (ts : List Tuple) (a n : ℕ) → 0 < step →
-    fold (join_cell aggs (a * step)) [] (cells_of step step group aggs ts a n) ≡ window_cells group aggs (a * step) (between (a * step) ((a + n) * step) ts)
-unfolding IsStrictlySortedBy
+-- the cells of a pane, with those of the next ones joined in
+panes-joined : (step : ℕ) (group : Option ℕ) (aggs : List Agg) (ts : List Tuple) (a n : ℕ) → 0 < step →
+    fold (join_cell aggs (a * step)) (cells_of step step group aggs ts a 1) (cells_of step step group aggs ts (a + 1) n) ≡ window_cells group aggs (a * step) (between (a * step) ((a + 1 + n) * step) ts)
 panes-joined step group aggs ts a n positive =
-    let us = between (a * step) ((a + n) * step) ts in
-    let length-is : (a + n) * step ≡ a * step + n * step = omega arith in
-    let alone : IsStrictlySortedBy cell_cmp (keys_of (window_cells group aggs (a * step) (between (a * step) (a * step + n * step) ts) ++ [])) = cells_of-sorted (n * step) step group aggs ts a 1 positive in
+    let us = between (a * step) ((a + 1 + n) * step) ts in
+    let first = cells_of step step group aggs ts a 1 in
+    let own = window_cells group aggs (a * step) (between (a * step) (a * step + step) ts) in
+    let end : a * step + step ≡ (a + 1) * step = omega arith in
+    let length-is : a * step + (1 + n) * step ≡ (a + 1 + n) * step = omega arith in
+    let alone : IsStrictlySortedBy cell_cmp (keys_of (window_cells group aggs (a * step) (between (a * step) (a * step + (1 + n) * step) ts) ++ [])) =
+    cells_of-sorted ((1 + n) * step) step group aggs ts a 1 positive in
     let sorted : IsStrictlySortedBy cell_cmp (keys_of (window_cells group aggs (a * step) us)) =
-    subst (λ (cs : List Cell). IsStrictlySortedBy cell_cmp (keys_of cs)) (append-nil _ ∙ ap (λ (to : ℕ). window_cells group aggs (a * step) (between (a * step) to ts)) (sym length-is)) alone in
-    same_cells (fold (join_cell aggs (a * step)) [] (cells_of step step group aggs ts a n)) (window_cells group aggs (a * step) us)
-    (joins-sorted aggs (a * step) [] (cells_of step step group aggs ts a n) tt) sorted
-    (λ k. panes step group aggs ts (a * step) [] a n (omega arith) (λ s q. start s q) k.0 k.1 ∙ sym (window_cells-at group aggs k.0 (a * step) k.1 us))
-  where
-    start : (s : ℕ) (q : ℤ) → totals_at (s, q) [] ≡ cond (s == a * step) (totals_over aggs (in_group group q (between (a * step) (a * step) ts))) None
-    start s q = rw (no-time (a * step) ts) (elim (s == a * step) as (λ b. None ≡ cond b (totals_over aggs (in_group group q [])) None) [ true ↦ refl | false ↦ refl ])
+    subst (λ (cs : List Cell). IsStrictlySortedBy cell_cmp (keys_of cs)) (append-nil _ ∙ ap (λ (to : ℕ). window_cells group aggs (a * step) (between (a * step) to ts)) length-is) alone in
+    let holds : Holds step group aggs ts (a * step) first ((a + 1) * step) =
+    λ s q. ap (λ (cs : List Cell). totals_at (s, q) cs) (append-nil own)
+    ∙ window_cells-at group aggs s (a * step) q (between (a * step) (a * step + step) ts)
+    ∙ ap (λ (to : ℕ). cond (s == a * step) (totals_over aggs (in_group group q (between (a * step) to ts))) None) end in
+    same_cells (fold (join_cell aggs (a * step)) first (cells_of step step group aggs ts (a + 1) n)) (window_cells group aggs (a * step) us)
+    (joins-sorted aggs (a * step) first (cells_of step step group aggs ts (a + 1) n) (cells_of-sorted step step group aggs ts a 1 positive)) sorted
+    (λ k. panes step group aggs ts (a * step) first (a + 1) n (times-le step a (a + 1) (omega arith)) holds k.0 k.1 ∙ sym (window_cells-at group aggs k.0 (a * step) k.1 us))
 
 -- ---- a window's panes among the cells
 
@@ -173,37 +170,50 @@ module _ (time : ℕ) where
   before-split [] ys h k = none-before ys k
   before-split (x ∷ xs) ys h k = rw (lt-ltb x.0.0 time h.0) (ap (λ cs. x ∷ cs) (before-split xs ys h.1 k))
 
-  behind-split : (xs ys : List Cell) → AllByRecursion (λ (c : Cell). c.0.0 < time) xs → AllByRecursion (λ (c : Cell). time ≤ c.0.0) ys → cells_behind time (xs ++ ys) ≡ ys
+  pub behind-split : (xs ys : List Cell) → AllByRecursion (λ (c : Cell). c.0.0 < time) xs → AllByRecursion (λ (c : Cell). time ≤ c.0.0) ys → cells_behind time (xs ++ ys) ≡ ys
   behind-split [] ys h k = all-behind ys k
   behind-split (x ∷ xs) ys h k = rw (lt-ltb x.0.0 time h.0) (behind-split xs ys h.1 k)
 
-times-below : (step i j : ℕ) → 0 < step → i < j → i * step < j * step
+pub times-below : (step i j : ℕ) → 0 < step → i < j → i * step < j * step
 times-below step i j positive h = grind (arith, common_steps)
 
--- the window of number j out of the cells of panes from number a on
-pub window-joined : (step : ℕ) (group : Option ℕ) (aggs : List Agg) (ts : List Tuple) (a m j n : ℕ) → 0 < step → a ≤ j → j + n ≤ a + m →
-    joined_cells (n * step) aggs (j * step) (cells_of step step group aggs ts a m) ≡ window_cells group aggs (j * step) (between (j * step) (j * step + n * step) ts)
-window-joined step group aggs ts a m j n positive low high =
-    let earlier = cells_of step step group aggs ts a (j - a) in
-    let own = cells_of step step group aggs ts j n in
-    let later = cells_of step step group aggs ts (j + n) (a + m - (j + n)) in
-    let from = cells_of step step group aggs ts j (a + m - j) in
-    let f = λ (i : ℕ). window_cells group aggs (i * step) (between (i * step) (i * step + step) ts) in
-    let end : (j + n) * step ≡ j * step + n * step = omega arith in
-    let first : cells_of step step group aggs ts a m ≡ earlier ++ from = flat_map-split f a (j - a) (a + m - j) m j (omega (arith, low, high)) (omega (arith, low)) in
-    let second : from ≡ own ++ later = flat_map-split f j n (a + m - (j + n)) (a + m - j) (j + n) (omega (arith, low, high)) refl in
-    let behind : cells_behind (j * step) (cells_of step step group aggs ts a m) ≡ own ++ later =
-    ap (λ (cs : List Cell). cells_behind (j * step) cs) first
-    ∙ behind-split (j * step) earlier from
-    (cells_of-each step step group aggs ts (λ s. s < j * step) a (j - a) (λ i l h. times-below step i j positive (omega (arith, low, h))))
-    (cells_of-each step step group aggs ts (λ s. j * step ≤ s) j (a + m - j) (λ i l h. times-le step j i l))
-    ∙ second in
-    let before : cells_before ((j + n) * step) (own ++ later) ≡ own =
-    before-split ((j + n) * step) own later
-    (cells_of-each step step group aggs ts (λ s. s < (j + n) * step) j n (λ i l h. times-below step i (j + n) positive h))
-    (cells_of-each step step group aggs ts (λ s. (j + n) * step ≤ s) (j + n) (a + m - (j + n)) (λ i l h. times-le step (j + n) i l)) in
-    ap (λ (cs : List Cell). fold (join_cell aggs (j * step)) [] (cells_before (j * step + n * step) cs)) behind
-    ∙ ap (λ (to : ℕ). fold (join_cell aggs (j * step)) [] (cells_before to (own ++ later))) (sym end)
-    ∙ ap (λ (cs : List Cell). fold (join_cell aggs (j * step)) [] cs) before
-    ∙ panes-joined step group aggs ts j n positive
-    ∙ ap (λ (to : ℕ). window_cells group aggs (j * step) (between (j * step) to ts)) end
+module _ (step : ℕ) (group : Option ℕ) (aggs : List Agg) (ts : List Tuple) (positive : 0 < step) where
+  abbrev of-panes : ℕ → ℕ → List Cell
+  of-panes a n = cells_of step step group aggs ts a n
+
+  abbrev of-pane : ℕ → List Cell
+  of-pane i = window_cells group aggs (i * step) (between (i * step) (i * step + step) ts)
+
+  behind-panes : (a m j : ℕ) → a ≤ j → j ≤ a + m → cells_behind (j * step) (of-panes a m) ≡ of-panes j (a + m - j)
+  behind-panes a m j low high =
+      ap (λ (cs : List Cell). cells_behind (j * step) cs) (flat_map-split of-pane a (j - a) (a + m - j) m j (omega (arith, low, high)) (omega (arith, low)))
+      ∙ behind-split (j * step) (of-panes a (j - a)) (of-panes j (a + m - j))
+      (cells_of-each step step group aggs ts (λ s. s < j * step) a (j - a) (λ i l h. times-below step i j positive (omega (arith, low, h))))
+      (cells_of-each step step group aggs ts (λ s. j * step ≤ s) j (a + m - j) (λ i l h. times-le step j i l))
+
+  before-panes : (j n m : ℕ) → n ≤ m → cells_before ((j + n) * step) (of-panes j m) ≡ of-panes j n
+  before-panes j n m le =
+      ap (λ (cs : List Cell). cells_before ((j + n) * step) cs) (flat_map-split of-pane j n (m - n) m (j + n) (omega (arith, le)) refl)
+      ∙ before-split ((j + n) * step) (of-panes j n) (of-panes (j + n) (m - n))
+      (cells_of-each step step group aggs ts (λ s. s < (j + n) * step) j n (λ i l h. times-below step i (j + n) positive h))
+      (cells_of-each step step group aggs ts (λ s. (j + n) * step ≤ s) (j + n) (m - n) (λ i l h. times-le step (j + n) i l))
+
+  -- the window of number j out of the cells of panes from number a on
+  pub window-joined : (a m j n : ℕ) → a ≤ j → j + 1 + n ≤ a + m →
+      joined_cells ((1 + n) * step) step aggs (j * step) (of-panes a m) ≡ window_cells group aggs (j * step) (between (j * step) (j * step + (1 + n) * step) ts)
+  window-joined a m j n low high =
+      let second : j * step + step ≡ (j + 1) * step = omega arith in
+      let end : j * step + (1 + n) * step ≡ (j + 1 + n) * step = omega arith in
+      let first : cells_before (j * step + step) (cells_behind (j * step) (of-panes a m)) ≡ of-panes j 1 =
+      ap (λ (cs : List Cell). cells_before (j * step + step) cs) (behind-panes a m j low (omega (arith, high)))
+      ∙ ap (λ (time : ℕ). cells_before time (of-panes j (a + m - j))) second
+      ∙ before-panes j 1 (a + m - j) (omega (arith, high)) in
+      let others : cells_before (j * step + (1 + n) * step) (cells_behind (j * step + step) (of-panes a m)) ≡ of-panes (j + 1) n =
+      ap (λ (time : ℕ). cells_before (j * step + (1 + n) * step) (cells_behind time (of-panes a m))) second
+      ∙ ap (λ (cs : List Cell). cells_before (j * step + (1 + n) * step) cs) (behind-panes a m (j + 1) (omega (arith, low)) (omega (arith, high)))
+      ∙ ap (λ (time : ℕ). cells_before time (of-panes (j + 1) (a + m - (j + 1)))) end
+      ∙ before-panes (j + 1) n (a + m - (j + 1)) (omega (arith, high)) in
+      ap (λ (cs : List Cell). fold (join_cell aggs (j * step)) cs (cells_before (j * step + (1 + n) * step) (cells_behind (j * step + step) (of-panes a m)))) first
+      ∙ ap (λ (cs : List Cell). fold (join_cell aggs (j * step)) (of-panes j 1) cs) others
+      ∙ panes-joined step group aggs ts j n positive
+      ∙ ap (λ (to : ℕ). window_cells group aggs (j * step) (between (j * step) to ts)) (sym end)

@@ -18,13 +18,13 @@ use Rattle.dpc_model.specs.declared.operators.OpKind.TheVariants.{Aggregate}
 use Rattle.dpc_model.proofs.WindowCausality.{window_before, window_after, window_count-le}
 use Rattle.dpc_model.proofs.Buckets.{at_port-append, LiesBelow-next, lies-from, lies-below, at_port-all}
 use Rattle.ops_window.specs.Windows.{Cell, reach, window_cells, begun_count, open_cells, aggregate_value, AggregateState, AggregateAfter}
-use Rattle.ops_window.specs.Feeding.{take_tuples, ended_cells, kept_cells, cell_row, joined_cells, joined_rows, pane_rows, ended_rows}
+use Rattle.ops_window.specs.Feeding.{take_tuples, ended_cells, kept_cells, cell_row, left_cells, cells_behind, joined_cells, joined_rows, pane_rows, ended_rows}
 use Rattle.ops_window.proofs.WindowCells.{cells_of}
 use Rattle.ops_window.proofs.CellOrder.{cells_of-each, window_cells-each}
 use Rattle.ops_window.proofs.Held.{begun-below, begun-of, count-le-begun, held-first, held-all, held-more}
 use Rattle.ops_window.proofs.Ends.{ended_cells-split, kept_cells-split, window_cells-rows, cells_of-rows, flat_map-split, flat_map-same, flat_map-none, between-early, between-late}
-use Rattle.ops_window.proofs.Reach.{whole-steps, some-steps, reach-step, count-reach}
-use Rattle.ops_window.proofs.Panes.{window-joined}
+use Rattle.ops_window.proofs.Reach.{times-le, whole-steps, some-steps, reach-step, count-reach}
+use Rattle.ops_window.proofs.Panes.{behind-split, times-below, window-joined}
 
 -- an engine of an aggregate makes what the aggregate makes
 pub aggregate-value : (size step : ℕ) (group : Option ℕ) (aggs : List Agg) (xs : List Tagged) (b : ℕ) →
@@ -113,10 +113,19 @@ module _ (size step : ℕ) (group : Option ℕ) (aggs : List Agg) (some : 0 < si
   open-all : AllByRecursion (λ (c : Cell). b' < c.0.0 + size) (open_cells size step group aggs (ts ++ us) b')
   open-all = cells_of-each far step group aggs (ts ++ us) (λ s. b' < s + size) after (begun - after) (λ j low high. window_after size step b' j positive low)
 
-  pub kept-is : kept_cells size b' fed ≡ open_cells size step group aggs (ts ++ us) b'
+  pub kept-is : left_cells size step b' fed ≡ open_cells size step group aggs (ts ++ us) b'
   kept-is =
-      ap (λ (cs : List Cell). kept_cells size b' cs) parts
-      ∙ kept_cells-split size b' ended (open_cells size step group aggs (ts ++ us) b') ended-all open-all
+      let one = before-after in
+      elim (far == size) as (λ x. cond x (kept_cells size b' fed) (cells_behind (after * step) fed) ≡ open_cells size step group aggs (ts ++ us) b') [
+        | true ↦
+            ap (λ (cs : List Cell). kept_cells size b' cs) parts
+            ∙ kept_cells-split size b' ended (open_cells size step group aggs (ts ++ us) b') ended-all open-all
+        | false ↦
+            ap (λ (cs : List Cell). cells_behind (after * step) cs) parts
+            ∙ behind-split (after * step) ended (open_cells size step group aggs (ts ++ us) b')
+            (cells_of-each far step group aggs (ts ++ us) (λ s. s < after * step) before (after - before) (λ j low high. times-below step j after positive (omega (arith, one, low, high))))
+            (cells_of-each far step group aggs (ts ++ us) (λ s. after * step ≤ s) after (begun - after) (λ j low high. times-le step after j low))
+      ]
 
   -- the rows of windows that ended before stay the same
   old-rows : (j : ℕ) → 0 ≤ j → j < 0 + before → window_rows size group aggs (ts ++ us) (j * step) ≡ window_rows size group aggs ts (j * step)
@@ -171,11 +180,14 @@ module _ (size step : ℕ) (group : Option ℕ) (aggs : List Agg) (some : 0 < si
         let all = panes-begun j ended-one in
         let size-is = whole-steps size step whole in
         let own = window_cells group aggs (j * step) (between (j * step) (j * step + size) (ts ++ us)) in
-        let cells : joined_cells size aggs (j * step) fed ≡ own =
-        ap (λ (cs : List Cell). joined_cells size aggs (j * step) cs) (fed-is ∙ ap (λ (s : ℕ). cells_of s step group aggs (ts ++ us) before (begun - before)) pane)
-        ∙ ap (λ (s : ℕ). joined_cells s aggs (j * step) (cells_of step step group aggs (ts ++ us) before (begun - before))) size-is
-        ∙ window-joined step group aggs (ts ++ us) before (begun - before) j (size / step) positive low (omega (arith, all))
-        ∙ ap (λ (s : ℕ). window_cells group aggs (j * step) (between (j * step) (j * step + s) (ts ++ us))) (sym size-is) in
+        let others = size / step - 1 in
+        let many = some-steps size step some whole in
+        let panes : size ≡ (1 + others) * step = size-is ∙ ap (λ (n : ℕ). n * step) (omega (arith, many)) in
+        let cells : joined_cells size step aggs (j * step) fed ≡ own =
+        ap (λ (cs : List Cell). joined_cells size step aggs (j * step) cs) (fed-is ∙ ap (λ (s : ℕ). cells_of s step group aggs (ts ++ us) before (begun - before)) pane)
+        ∙ ap (λ (s : ℕ). joined_cells s step aggs (j * step) (cells_of step step group aggs (ts ++ us) before (begun - before))) panes
+        ∙ window-joined step group aggs (ts ++ us) positive before (begun - before) j others low (omega (arith, all, many))
+        ∙ ap (λ (s : ℕ). window_cells group aggs (j * step) (between (j * step) (j * step + s) (ts ++ us))) (sym panes) in
         let ends = window_before size step b' j positive ended-one in
         let each : AllByRecursion (λ (c : Cell). c.0.0 + size ≤ b') own =
         window_cells-each (λ s. s + size ≤ b') group aggs (j * step) (between (j * step) (j * step + size) (ts ++ us)) ends in
@@ -228,9 +240,9 @@ module _ (a : AggregateState) (k : ℕ) (before bucket : List Tagged) (some : 0 
       ∙ ap (λ (ts : List Tuple). drop (length (aggregated a.size a.step a.group a.aggs (at_port 0 before) begin)) (aggregated a.size a.step a.group a.aggs ts end)) (sym (at_port-append 0 before bucket))
 
   -- the cells that stay are those that open windows need
-  pub step-cells : kept_cells a.size end cells-fed ≡ open_cells a.size a.step a.group a.aggs (at_port 0 (before ++ bucket)) end
+  pub step-cells : left_cells a.size a.step end cells-fed ≡ open_cells a.size a.step a.group a.aggs (at_port 0 (before ++ bucket)) end
   step-cells =
-      ap (λ (cs : List Cell). kept_cells a.size end cs) from_open
+      ap (λ (cs : List Cell). left_cells a.size a.step end cs) from_open
       ∙ kept-is a.size a.step a.group a.aggs some positive begin end later (at_port 0 before) (at_port 0 bucket) early inputs
       ∙ ap (λ (ts : List Tuple). open_cells a.size a.step a.group a.aggs ts end) (sym (at_port-append 0 before bucket))
 

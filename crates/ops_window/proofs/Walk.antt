@@ -1,21 +1,17 @@
 -- The walk over windows that are made of panes, from one that holds a cell to the next.
-use Rattle.std.proofs.Common.{◌≡◌, ℕ, zero, suc, ◌+◌, ◌-◌, ◌*◌, ◌/◌, ◌%◌, ◌<◌, ◌≤◌, max, Bool, true, false, cond, List, [], ◌∷◌, ◌++◌, map, refl, sym, ◌∙◌, ap, subst, arith, ℤ, ◌&&◌, Option, Some, None, nat_lt, nat_le}
+use Rattle.std.proofs.Common.{◌≡◌, ℕ, zero, suc, ◌+◌, ◌-◌, ◌*◌, ◌/◌, ◌%◌, ◌<◌, ◌≤◌, max, Bool, true, false, cond, List, [], ◌∷◌, ◌++◌, map, refl, sym, ◌∙◌, ap, subst, arith, ℤ, Option, Some, None, nat_lt, nat_le}
 use Rattle.std.proofs.lemmas.Grind.{common_steps}
+use Rattle.std.proofs.lemmas.List.{append_cancel_right}
 use Rattle.std.proofs.lemmas.Bool.{ltb-true, ltb-false, lt-ltb, le-ltb}
 use Rattle.std.proofs.Math.Nat.{le-div_iff_mul-le}
-use Rattle.std.specs.BTreeMap.Range.{entries_between}
-use Rattle.std.specs.declared.ops.Bound.TheVariants.{Included, Unbounded}
-use Rattle.std.specs.Ordering.{is_le}
 use Rattle.std.specs.List.{fold, flat_map}
-use Rattle.std.specs.List.Sorted.{IsStrictlySortedBy}
-use Rattle.std.specs.Map.{keys_of}
 use Rattle.dpc_lists.specs.Lists.{range_with_len}
 use Rattle.dpc_model.specs.Operators.{window_count}
+use Rattle.dpc_model.proofs.WindowCausality.{window_before}
 use Rattle.dpc_model.specs.declared.tuples.Tuple.{Tuple}
 use Rattle.dpc_model.specs.declared.operators.Agg.{Agg}
 use Rattle.ops_window.specs.Windows.{Cell}
-use Rattle.ops_window.specs.Feeding.{cell_cmp, cell_row, join_cell, ended_cells, cells_before, cells_behind, cells_from, first_key, joined_rows, pane_rows}
-use Rattle.ops_window.proofs.Kept.{kept-from}
+use Rattle.ops_window.specs.Feeding.{cell_row, join_cell, ended_cells, cells_before, cells_behind, first_cells, later_cells, first_key, next_window, joined_rows, pane_rows}
 use Rattle.ops_window.proofs.Ends.{flat_map-none}
 use Rattle.ops_window.proofs.Reach.{times-le, whole-steps, some-steps}
 
@@ -29,21 +25,7 @@ behind-first time k (c ∷ cells) e =
       | false ↦ λ f g. let same : c.0 ≡ k = cc in rw (← same) (ltb-false c.0.0 time f)
     ]) refl e
 
-behind-head : (time : ℕ) (k : ℕ × ℤ) (cells : List Cell) → first_key cells ≡ Some k → time ≤ k.0 → cells_behind time cells ≡ cells
-behind-head time k [] e h = refl
-behind-head time k (c ∷ cells) e h =
-    let same : k ≡ c.0 = cc in
-    let late : time ≤ c.0.0 = subst (λ (q : ℕ × ℤ). time ≤ q.0) same h in
-    rw (le-ltb c.0.0 time late) refl
-
-before-head : (time : ℕ) (k : ℕ × ℤ) (cells : List Cell) → first_key cells ≡ Some k → time ≤ k.0 → cells_before time cells ≡ []
-before-head time k [] e h = refl
-before-head time k (c ∷ cells) e h =
-    let same : k ≡ c.0 = cc in
-    let late : time ≤ c.0.0 = subst (λ (q : ℕ × ℤ). time ≤ q.0) same h in
-    rw (le-ltb c.0.0 time late) refl
-
-behind-more : (time later : ℕ) (cells : List Cell) → time ≤ later → cells_behind later (cells_behind time cells) ≡ cells_behind later cells
+pub behind-more : (time later : ℕ) (cells : List Cell) → time ≤ later → cells_behind later (cells_behind time cells) ≡ cells_behind later cells
 behind-more time later [] h = refl
 behind-more time later (c ∷ cells) h =
     (elim (nat_lt c.0.0 time) as (λ b. nat_lt c.0.0 time ≡ b → cells_behind later (cond b (cells_behind time cells) (c ∷ cells)) ≡ cells_behind later (c ∷ cells)) [
@@ -54,16 +36,7 @@ behind-more time later (c ∷ cells) h =
       | false ↦ λ e. refl
     ]) refl
 
--- ---- the cells from one on, one after the other
-
-pub range-from : (k : ℕ × ℤ) (cells : List Cell) → entries_between cell_cmp (Included k) Unbounded cells ≡ cells_from (Some k) cells
-range-from k [] = refl
-range-from k (c ∷ cells) =
-    elim (is_le (cell_cmp k c.0)) as (λ b. cond (b && true) (c ∷ entries_between cell_cmp (Included k) Unbounded cells) (entries_between cell_cmp (Included k) Unbounded cells)
-    ≡ cond b (c ∷ cells_from (Some k) cells) (cells_from (Some k) cells)) [
-      | true ↦ ap (λ (cs : List Cell). c ∷ cs) (range-from k cells)
-      | false ↦ range-from k cells
-    ]
+-- ---- one cell after the other
 
 pub behind-on : (time : ℕ) (c : Cell) (cells cells' : List Cell) → cells ≡ c ∷ cells' → c.0.0 < time → cells_behind time cells ≡ cells_behind time cells'
 behind-on time c cells cells' e h = let early : nat_lt c.0.0 time ≡ true = lt-ltb c.0.0 time h in rw (e, early) refl
@@ -86,11 +59,19 @@ no-key : (cells : List Cell) → first_key cells ≡ None → cells ≡ []
 no-key [] e = refl
 no-key (c ∷ cells) e = absurd (cc)
 
--- from their first key on there are all cells
-pub from-first : (c : Cell) (cells cells' : List Cell) → cells ≡ c ∷ cells' → IsStrictlySortedBy cell_cmp (keys_of cells) → cells_from (Some c.0) cells ≡ cells
-from-first c cells cells' e s =
-    let sorted : IsStrictlySortedBy cell_cmp (keys_of (c ∷ cells')) = subst (λ (cs : List Cell). IsStrictlySortedBy cell_cmp (keys_of cs)) e s in
-    rw e (kept-from (λ n. false) (c ∷ cells') sorted)
+-- the first cells and those behind them are all
+pub first-later : (test : ℕ → Bool) (cells : List Cell) → first_cells test cells ++ later_cells test cells ≡ cells
+first-later test [] = refl
+first-later test (c ∷ cells) = elim (test c.0.0) as (λ b. cond b (c ∷ first_cells test cells) [] ++ cond b (later_cells test cells) (c ∷ cells) ≡ c ∷ cells) [
+  | true ↦ ap (λ (cs : List Cell). c ∷ cs) (first-later test cells)
+  | false ↦ refl
+]
+
+-- so what stands before those is the first ones
+pub rest-taken : (test : ℕ → Bool) (cells taken rest : List Cell) → cells ≡ taken ++ rest → rest ≡ later_cells test cells → taken ≡ first_cells test cells
+rest-taken test cells taken rest whole is-rest =
+    append_cancel_right taken (first_cells test cells) rest
+    (sym whole ∙ sym (first-later test cells) ∙ ap (λ (cs : List Cell). first_cells test cells ++ cs) (sym is-rest))
 
 -- ---- windows
 
@@ -105,94 +86,145 @@ skip f (suc n) a b c e h = by (c - a) refl (skip f n (a + 1) b c (omega (arith, 
         let count : c - (a + 1) ≡ m = omega arith in
         rw (h a (omega arith) (omega arith)) (ap (λ (k : ℕ). flat_map f (range_with_len (a + 1) k)) (sym count) ∙ rest)
 
-module _ (size step : ℕ) (group : Option ℕ) (aggs : List Agg) (b : ℕ) (cells : List Cell) where
+-- the next window ends in time
+pub next-ends : (size step number behind b : ℕ) (rest : List Cell) (next : ℕ) → 0 < step → behind ≡ window_count size step b → Some next ≡ next_window size step number behind rest → next * step + size ≤ b
+next-ends size step number behind b [] next positive e f = absurd (cc)
+next-ends size step number behind b (c ∷ rest) next positive e f =
+    let found = max number (c.0.0 / step - (size / step - 1)) in
+    (elim (nat_lt found behind) as (λ x. nat_lt found behind ≡ x → Some next ≡ cond {A = Option ℕ} x (Some found) None → next * step + size ≤ b) [
+      | true ↦ λ g h.
+          let same : next ≡ found = cc in
+          let below = ltb-true found behind g in
+          window_before size step b next positive (omega (arith, e, same, below))
+      | false ↦ λ g h. absurd (cc)
+    ]) refl f
+
+module _ (size step : ℕ) (group : Option ℕ) (aggs : List Agg) (b : ℕ) (cells : List Cell) (number : ℕ) where
   abbrev rows : ℕ → List Tuple
   rows j = joined_rows size step group aggs b cells j
 
   abbrev behind : ℕ
   behind = window_count size step b
 
-  -- a window's rows, by the cells from its begin on
-  rows-of : (j : ℕ) (rest : List Cell) → cells_behind (j * step) cells ≡ rest →
-      rows j ≡ map (cell_row size group aggs) (ended_cells size b (fold (join_cell aggs (j * step)) [] (cells_before (j * step + size) rest)))
-  rows-of j rest e =
-      ap (λ (cs : List Cell). map (cell_row size group aggs) (ended_cells size b (fold (join_cell aggs (j * step)) [] (cells_before (j * step + size) cs)))) e
+  -- a window's rows, by the cells from its begin on and those from its second pane on
+  abbrev pub rows-by : ℕ → List Cell → List Cell → List Tuple
+  rows-by j first later = map (cell_row size group aggs) (ended_cells size b (fold (join_cell aggs (j * step)) (cells_before (j * step + step) first) (cells_before (j * step + size) later)))
 
-  no-rows : (j : ℕ) (rest : List Cell) → cells_behind (j * step) cells ≡ rest → cells_before (j * step + size) rest ≡ [] → rows j ≡ []
-  no-rows j rest e f = rows-of j rest e ∙ ap (λ (cs : List Cell). map (cell_row size group aggs) (ended_cells size b (fold (join_cell aggs (j * step)) [] cs))) f
+  module _ (rest : List Cell) (is-rest : rest ≡ cells_behind (number * step) cells) where
+    from-time : (time : ℕ) → number * step ≤ time → cells_behind time cells ≡ cells_behind time rest
+    from-time time late = sym (ap (λ (cs : List Cell). cells_behind time cs) is-rest ∙ behind-more (number * step) time cells late)
 
-  module _ (number : ℕ) where
-    -- where no cell is left, no window has a row
-    pub walk-none : first_key (cells_behind (number * step) cells) ≡ None → pane_rows size step group aggs number b cells ≡ []
-    walk-none e =
-        flat_map-none rows number (behind - number)
-        (λ j low. no-rows j [] (sym (behind-more (number * step) (j * step) cells (times-le step number j low)) ∙ ap (λ (cs : List Cell). cells_behind (j * step) cs) (no-key (cells_behind (number * step) cells) e)) refl)
+    from-window : (j : ℕ) (first later : List Cell) → number ≤ j → cells_behind (j * step) rest ≡ first → cells_behind (j * step + step) rest ≡ later → rows j ≡ rows-by j first later
+    from-window j first later low e f =
+        let begin : number * step ≤ j * step = times-le step number j low in
+        ap (λ (cs : List Cell). rows-by j cs (cells_behind (j * step + step) cells)) (from-time (j * step) begin ∙ e)
+        ∙ ap (λ (cs : List Cell). rows-by j first cs) (from-time (j * step + step) (omega (arith, begin)) ∙ f)
 
-    module _ (some : 0 < size) (positive : 0 < step) (whole : size % step ≡ 0) (sorted : IsStrictlySortedBy cell_cmp (keys_of cells))
-        (k : ℕ × ℤ) (first : first_key (cells_behind (number * step) cells) ≡ Some k) (next : ℕ) (is-next : next ≡ max number (k.0 / step - (size / step - 1))) where
-      abbrev rest : List Cell
-      rest = cells_behind (number * step) cells
+  -- where no cell is left, no window has a row
+  walk-none : [] ≡ cells_behind (number * step) cells → pane_rows size step group aggs number b cells ≡ []
+  walk-none e = flat_map-none rows number (behind - number) (λ j low. from-window [] e j [] [] low refl refl)
 
-      pane-begin : k.0 / step * step ≤ k.0
-      pane-begin = (le-div_iff_mul-le {k = step} {x = k.0 / step} {y = k.0} positive).0 (omega arith)
+  module _ (some : 0 < size) (positive : 0 < step) (whole : size % step ≡ 0) (c : Cell) (rest : List Cell) (is-rest : c ∷ rest ≡ cells_behind (number * step) cells)
+      (next : ℕ) (is-next : next ≡ max number (c.0.0 / step - (size / step - 1))) where
+    pane-begin : c.0.0 / step * step ≤ c.0.0
+    pane-begin = (le-div_iff_mul-le {k = step} {x = c.0.0 / step} {y = c.0.0} positive).0 (omega arith)
 
-      -- from the first cell on
-      from-there : (j : ℕ) → number ≤ j → j * step ≤ k.0 → cells_behind (j * step) cells ≡ rest
-      from-there j low late = sym (behind-more (number * step) (j * step) cells (times-le step number j low)) ∙ behind-head (j * step) k rest first late
+    late-first : number * step ≤ c.0.0
+    late-first = behind-first (number * step) c.0 cells (ap first_key (sym is-rest))
 
-      -- a window that ends at or below the first cell's begin has no row
-      passed : (j : ℕ) → number ≤ j → j < next → rows j ≡ []
-      passed j low high =
-          let n = size / step in
-          let few : j + n ≤ k.0 / step = (let at = some-steps size step some whole in omega (arith, is-next, low, high, at)) in
-          let end : (j + n) * step ≤ k.0 / step * step = times-le step (j + n) (k.0 / step) few in
-          let begin : j * step ≤ (j + n) * step = times-le step j (j + n) (omega arith) in
-          let whole-is : j * step + size ≡ (j + n) * step = (let e = whole-steps size step whole in omega (arith, e)) in
-          let bound = pane-begin in
-          no-rows j rest (from-there j low (omega (arith, begin, end, bound))) (before-head (j * step + size) k rest first (omega (arith, whole-is, end, bound)))
+    -- up to the first cell all are left
+    all-left : (time : ℕ) → time ≤ c.0.0 → cells_behind time (c ∷ rest) ≡ c ∷ rest
+    all-left time late = rw (le-ltb c.0.0 time late) refl
 
-      low-next : number ≤ next
-      low-next = omega (arith, is-next)
+    none-before : (time : ℕ) → time ≤ c.0.0 → cells_before time (c ∷ rest) ≡ []
+    none-before time late = rw (le-ltb c.0.0 time late) refl
 
-      begins : next * step ≤ k.0
-      begins = by (nat_le number (k.0 / step - (size / step - 1))) refl
-        where
-          by : (x : Bool) → nat_le number (k.0 / step - (size / step - 1)) ≡ x → next * step ≤ k.0
-          by true e =
-              let few : next ≤ k.0 / step = grind (arith, common_steps) in
-              let under = times-le step next (k.0 / step) few in
-              let bound = pane-begin in
-              omega (arith, under, bound)
-          by false e =
-              let same : next ≡ number = grind (arith, common_steps) in
-              subst (λ (n : ℕ). n * step ≤ k.0) (sym same) (behind-first (number * step) k cells first)
+    -- a window that ends at or below the first cell's begin has no row
+    passed : (j : ℕ) → number ≤ j → j < next → rows j ≡ []
+    passed j low high =
+        let n = size / step in
+        let many = some-steps size step some whole in
+        let few : j + n ≤ c.0.0 / step = omega (arith, is-next, low, high, many) in
+        let end : (j + n) * step ≤ c.0.0 / step * step = times-le step (j + n) (c.0.0 / step) few in
+        let second : (j + 1) * step ≤ (j + n) * step = times-le step (j + 1) (j + n) (omega (arith, many)) in
+        let whole-is : j * step + size ≡ (j + n) * step = (let e = whole-steps size step whole in omega (arith, e)) in
+        let bound = pane-begin in
+        let one : j * step + step ≤ c.0.0 = omega (arith, second, end, bound) in
+        from-window (c ∷ rest) is-rest j (c ∷ rest) (c ∷ rest) low (all-left (j * step) (omega (arith, one))) (all-left (j * step + step) one)
+        ∙ ap (λ (cs : List Cell). map (cell_row size group aggs) (ended_cells size b (fold (join_cell aggs (j * step)) cs (cells_before (j * step + size) (c ∷ rest))))) (none-before (j * step + step) one)
+        ∙ ap (λ (cs : List Cell). map (cell_row size group aggs) (ended_cells size b (fold (join_cell aggs (j * step)) [] cs))) (none-before (j * step + size) (omega (arith, whole-is, end, bound)))
 
-      skipped : pane_rows size step group aggs number b cells ≡ pane_rows size step group aggs next b cells
-      skipped = skip rows (next - number) number next behind (let low = low-next in omega (arith, low)) passed
+    low-next : number ≤ next
+    low-next = omega (arith, is-next)
 
-      from-key : cells_from (Some k) cells ≡ rest
-      from-key = ap (λ (o : Option (ℕ × ℤ)). cells_from o cells) (sym first) ∙ kept-from (λ n. nat_lt n (number * step)) cells sorted
+    begins : next * step ≤ c.0.0
+    begins = by (nat_le number (c.0.0 / step - (size / step - 1))) refl
+      where
+        by : (x : Bool) → nat_le number (c.0.0 / step - (size / step - 1)) ≡ x → next * step ≤ c.0.0
+        by true e =
+            let few : next ≤ c.0.0 / step = grind (arith, common_steps) in
+            let under = times-le step next (c.0.0 / step) few in
+            let bound = pane-begin in
+            omega (arith, under, bound)
+        by false e =
+            let same : next ≡ number = grind (arith, common_steps) in
+            subst (λ (n : ℕ). n * step ≤ c.0.0) (sym same) late-first
 
-      -- where that window is open, no other row is left
-      pub walk-stop : behind ≤ next → pane_rows size step group aggs number b cells ≡ []
-      walk-stop h = let none : behind - next ≡ 0 = omega arith in skipped ∙ rw none refl
+    skipped : pane_rows size step group aggs number b cells ≡ pane_rows size step group aggs next b cells
+    skipped = skip rows (next - number) number next behind (let low = low-next in omega (arith, low)) passed
 
-      -- else its rows come next
-      pub walk-on : next < behind →
-          pane_rows size step group aggs number b cells
-          ≡ map (cell_row size group aggs) (ended_cells size b (fold (join_cell aggs (next * step)) [] (cells_before (next * step + size) (cells_from (Some k) cells))))
-          ++ pane_rows size step group aggs (next + 1) b cells
-      walk-on h =
-          let count : behind - next ≡ suc (behind - (next + 1)) = omega arith in
-          skipped
-          ∙ ap (λ (n : ℕ). flat_map rows (range_with_len next n)) count
-          ∙ ap (λ (ts : List Tuple). ts ++ pane_rows size step group aggs (next + 1) b cells) (rows-of next (cells_from (Some k) cells) (from-there next low-next begins ∙ sym from-key))
+    -- where the next window is open, no row is left
+    stops : behind ≤ next → pane_rows size step group aggs number b cells ≡ []
+    stops h = let none : behind - next ≡ 0 = omega arith in skipped ∙ rw none refl
 
-      -- and the walk goes on from the first cell behind its begin
-      pub walk-key : first_key (cells_behind (next * step + step) (cells_from (Some k) cells)) ≡ first_key (cells_behind ((next + 1) * step) cells)
-      walk-key =
-          let later : next * step + step ≡ (next + 1) * step = omega arith in
-          let low = low-next in
-          ap (λ (cs : List Cell). first_key (cells_behind (next * step + step) cs)) from-key
-          ∙ ap (λ (time : ℕ). first_key (cells_behind time rest)) later
-          ∙ ap first_key (behind-more (number * step) ((next + 1) * step) cells (times-le step number (next + 1) (omega (arith, low))))
+    -- else its rows come next
+    goes : next < behind → pane_rows size step group aggs number b cells ≡ rows-by next (c ∷ rest) (cells_behind (next * step + step) (c ∷ rest)) ++ pane_rows size step group aggs (next + 1) b cells
+    goes h =
+        let count : behind - next ≡ suc (behind - (next + 1)) = omega arith in
+        skipped
+        ∙ ap (λ (n : ℕ). flat_map rows (range_with_len next n)) count
+        ∙ ap (λ (ts : List Tuple). ts ++ pane_rows size step group aggs (next + 1) b cells)
+        (from-window (c ∷ rest) is-rest next (c ∷ rest) (cells_behind (next * step + step) (c ∷ rest)) low-next (all-left (next * step) begins) refl)
+
+    leaves : cells_behind (next * step + step) (c ∷ rest) ≡ cells_behind ((next + 1) * step) cells
+    leaves =
+        let later : next * step + step ≡ (next + 1) * step = omega arith in
+        let start = times-le step number next low-next in
+        sym (from-time (c ∷ rest) is-rest (next * step + step) (omega (arith, start)))
+        ∙ ap (λ (time : ℕ). cells_behind time cells) later
+
+  -- where there is no next window, no row is left
+  pub walk-end : 0 < size → 0 < step → size % step ≡ 0 → (rest : List Cell) → rest ≡ cells_behind (number * step) cells →
+      next_window size step number behind rest ≡ None → pane_rows size step group aggs number b cells ≡ []
+  walk-end some positive whole [] is-rest e = walk-none is-rest
+  walk-end some positive whole (c ∷ rest) is-rest e =
+      let next = max number (c.0.0 / step - (size / step - 1)) in
+      (elim (nat_lt next behind) as (λ x. nat_lt next behind ≡ x → cond {A = Option ℕ} x (Some next) None ≡ None → pane_rows size step group aggs number b cells ≡ []) [
+        | true ↦ λ f g. absurd (cc)
+        | false ↦ λ f g. stops some positive whole c rest is-rest next refl (ltb-false next behind f)
+      ]) refl e
+
+  -- what the walk does at the next window
+  pub record Goes (rest : List Cell) (next : ℕ) : Type 0 where
+    pub low : number ≤ next
+    pub high : next < behind
+    pub rows-are : pane_rows size step group aggs number b cells ≡ rows-by next rest (cells_behind (next * step + step) rest) ++ pane_rows size step group aggs (next + 1) b cells
+    pub left : cells_behind (next * step + step) rest ≡ cells_behind ((next + 1) * step) cells
+
+  pub walk-on : 0 < size → 0 < step → size % step ≡ 0 → (rest : List Cell) → rest ≡ cells_behind (number * step) cells →
+      (next : ℕ) → next_window size step number behind rest ≡ Some next → Goes rest next
+  walk-on some positive whole [] is-rest next e = absurd (cc)
+  walk-on some positive whole (c ∷ rest) is-rest next e =
+      let found = max number (c.0.0 / step - (size / step - 1)) in
+      (elim (nat_lt found behind) as (λ x. nat_lt found behind ≡ x → cond {A = Option ℕ} x (Some found) None ≡ Some next → Goes (c ∷ rest) next) [
+        | true ↦ λ f g.
+            let same : next ≡ found = cc in
+            let high : next < behind = subst (λ (n : ℕ). n < behind) (sym same) (ltb-true found behind f) in
+            record {
+              low = low-next some positive whole c rest is-rest next same;
+              high = high;
+              rows-are = goes some positive whole c rest is-rest next same high;
+              left = leaves some positive whole c rest is-rest next same;
+            }
+        | false ↦ λ f g. absurd (cc)
+      ]) refl e

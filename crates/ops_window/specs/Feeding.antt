@@ -1,5 +1,5 @@
 -- The steps of an aggregate: a tuple is taken into the cells that it lies in, and the cells of windows that ended become rows.
-use Rattle.std.specs.Prelude.{ℕ, ◌+◌, ◌-◌, ◌*◌, ◌/◌, ◌==◌, nat_lt, nat_le, ℤ, pos, ◌+ℤ◌, Bool, List, [], ◌∷◌, ◌++◌, map, filter, flat_map, Option, Some, None, if◌then◌else◌}
+use Rattle.std.specs.Prelude.{ℕ, ◌+◌, ◌-◌, ◌*◌, ◌/◌, ◌==◌, max, nat_lt, nat_le, ℤ, pos, ◌+ℤ◌, Bool, List, [], ◌∷◌, ◌++◌, map, filter, flat_map, Option, Some, None, if◌then◌else◌}
 use Rattle.std.specs.Int.{int_min, int_max}
 use Rattle.std.specs.List.{fold, range_with_len}
 use Rattle.std.specs.Map.{lookup}
@@ -148,18 +148,30 @@ joined aggs ys (Some zs) = joined_totals aggs zs ys
 abbrev pub join_cell : List Agg → ℕ → List Cell → Cell → List Cell
 join_cell aggs begin window c = insert_entry cell_cmp window (begin, c.0.1) (joined aggs c.1 (totals_at (begin, c.0.1) window))
 
--- the cells of the window that begins at a time, joined from its panes
-abbrev pub joined_cells : ℕ → List Agg → ℕ → List Cell → List Cell
-joined_cells size aggs begin cells = fold (join_cell aggs begin) [] (cells_before (begin + size) (cells_behind begin cells))
+-- the cells of the window that begins at a time: those of its first pane, with those of the others joined in
+abbrev pub joined_cells : ℕ → ℕ → List Agg → ℕ → List Cell → List Cell
+joined_cells size step aggs begin cells =
+    fold (join_cell aggs begin) (cells_before (begin + step) (cells_behind begin cells)) (cells_before (begin + size) (cells_behind (begin + step) cells))
 
 -- the rows of the window of a number, joined from its panes, where it ends at or below b
 abbrev pub joined_rows : ℕ → ℕ → Option ℕ → List Agg → ℕ → List Cell → ℕ → List Tuple
-joined_rows size step group aggs b cells j = map (cell_row size group aggs) (ended_cells size b (joined_cells size aggs (j * step) cells))
+joined_rows size step group aggs b cells j = map (cell_row size group aggs) (ended_cells size b (joined_cells size step aggs (j * step) cells))
 
 -- the rows of the windows from a number on that end at or below b, joined from their panes
 abbrev pub pane_rows : ℕ → ℕ → Option ℕ → List Agg → ℕ → ℕ → List Cell → List Tuple
 pane_rows size step group aggs first b cells =
     flat_map (joined_rows size step group aggs b cells) (range_with_len first (window_count size step b - first))
+
+-- the first window from a number on, below another, that has a cell among these
+abbrev pub next_window : ℕ → ℕ → ℕ → ℕ → List Cell → Option ℕ
+next_window size step number behind [] = None
+next_window size step number behind (c ∷ cells) =
+    let next = max number (c.0.0 / step - (size / step - 1)) in (if nat_lt next behind then Some next else None)
+
+-- the cells that are left when the windows are gone that end at or below b
+abbrev pub left_cells : ℕ → ℕ → ℕ → List Cell → List Cell
+left_cells size step b cells =
+    if reach size step == size then kept_cells size b cells else cells_behind (window_count size step b * step) cells
 
 -- the rows of the windows that end above b and at or below b'
 abbrev pub ended_rows : ℕ → ℕ → Option ℕ → List Agg → ℕ → ℕ → List Cell → List Tuple

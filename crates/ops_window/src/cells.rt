@@ -5,7 +5,7 @@ ghost use Rattle.std.specs.Map.{keys_of};
 ghost use Rattle.dpc_model.specs.Operators.{window_count};
 ghost use Rattle.dpc_model.specs.declared.tuples.Tagged.{Tagged};
 ghost use Rattle.ops_window.specs.Windows.{reach};
-ghost use Rattle.ops_window.specs.Feeding.{take_cell, take_tuple, fed_cells, row_of, ended_cells, kept_cells, first_key, cells_from, cell_cmp, ended_rows_of};
+ghost use Rattle.ops_window.specs.Feeding.{take_cell, take_tuple, fed_cells, row_of, ended_cells, kept_cells, first_key, cells_before, cells_behind, cells_from, cell_cmp, ended_rows_of, left_cells};
 
 use crate::totals::{finished, first_totals, group_of, grow};
 use dpc_lists::exact::Exact;
@@ -16,6 +16,7 @@ use dpc_model::tuples::{Tagged, Tuple, Tuples, Vals};
 use std::alloc::{AllocError, Global};
 use std::collections::BTreeMap;
 use std::collections::btree_map::Entry;
+use std::mem;
 
 /// For each begin, of a pane or a window, and each group seen in it, a total for each aggregate.
 pub type Cells = BTreeMap<(u64, i64), Listed<i128>>;
@@ -95,15 +96,48 @@ fn take_in(
     }
 }
 
-/// Lets the cells before this one go, and all where there is none.
-fn keep_from(cells: &mut Cells, first: Option<(u64, i64)>) -> Result<(), AllocError>
-    ensures { OnOk result (cells.new.entries ≡ cells_from first cells.old.entries) }
+/// The first cell that begins at or behind a time.
+fn first_behind(cells: &Cells, time: u64) -> Option<(u64, i64)>
+    ensures first { result ≡ first_key (cells_behind time cells.now.entries) }
+    ensures sorted { IsStrictlySortedBy cell_cmp (keys_of cells.now.entries) }
+{
+    for (key, _) in cells.iter() {
+        if time <= key.0 {
+            return Some(*key);
+        }
+    }
+    None
+}
+
+/// Takes the cells from this one on out, and none where there is none.
+fn take_from(
+    alloc: Global,
+    cells: &mut Cells,
+    first: Option<(u64, i64)>,
+) -> Result<Cells, AllocError>
+    ensures from { IfOk result (λ rest. rest.entries ≡ cells_from first cells.old.entries) }
+    ensures parts { IfOk result (λ rest. cells.old.entries ≡ cells.new.entries ++ rest.entries) }
 {
     match first {
-        Some(key) => *cells = cells.split_off(&key)?,
-        None => cells.clear(),
+        Some(key) => cells.split_off(&key),
+        None => Ok(BTreeMap::new(alloc)),
     }
-    Ok(())
+}
+
+/// Takes the first cells out, as far as they begin below a time.
+pub(crate) fn take_before(alloc: Global, cells: &mut Cells, time: u64) -> Result<Cells, AllocError>
+    ensures taken { IfOk result (λ taken. taken.entries ≡ cells_before time cells.old.entries) }
+    ensures left { OnOk result (cells.new.entries ≡ cells_behind time cells.old.entries) }
+{
+    let Some((key, _)) = cells.iter().next() else {
+        return Ok(BTreeMap::new(alloc));
+    };
+    if time <= key.0 {
+        return Ok(BTreeMap::new(alloc));
+    }
+    let first = first_behind(cells, time);
+    let rest = take_from(alloc, cells, first)?;
+    Ok(mem::replace(cells, rest))
 }
 
 /// How many windows of a size, one every step, end at or below a time.
@@ -224,31 +258,20 @@ impl Shape {
         Ok(())
     }
 
-    /// The first cell whose window does not end at or below a time.
-    fn first_open(&self, cells: &Cells, end: u64) -> Option<(u64, i64)>
-        ensures first { result ≡ first_key (kept_cells self.now.size end cells.now.entries) }
-        ensures sorted { IsStrictlySortedBy cell_cmp (keys_of cells.now.entries) }
+    /// Adds the rows of the cells whose windows end at or below a time, and takes those cells out.
+    fn take_ended(
+        &self,
+        alloc: Global,
+        cells: &mut Cells,
+        end: u64,
+        rows: &mut Vec<Tuple>,
+    ) -> Result<(), NoMemory>
+        requires { 0 < self.now.size }
+        ensures rows { OnOk result (rows.new.items ≡ rows.old.items ++ map (row_of self.now) (ended_cells self.now.size end cells.old.entries)) }
+        ensures cells { OnOk result (cells.new.entries ≡ kept_cells self.now.size end cells.old.entries) }
     {
-        for (key, _) in cells.iter() {
-            if !self.has_ended(key.0, end) {
-                return Some(*key);
-            }
-        }
-        None
-    }
-
-    /// Lets the cells go that no window needs which ends above a time.
-    fn drop_ended(&self, cells: &mut Cells, end: u64) -> Result<(), NoMemory>
-        ensures { OnOk result (cells.new.entries ≡ kept_cells self.now.size end cells.old.entries) }
-    {
-        let Some((key, _)) = cells.iter().next() else {
-            return Ok(());
-        };
-        if !self.has_ended(key.0, end) {
-            return Ok(());
-        }
-        let first = self.first_open(cells, end);
-        keep_from(cells, first)?;
+        let ended = take_before(alloc, cells, end.saturating_sub(self.size - 1))?;
+        self.ended_rows(alloc, &ended, end, rows)?;
         Ok(())
     }
 
@@ -263,17 +286,17 @@ impl Shape {
     ) -> Result<Tuples, NoMemory>
         requires size { 0 < self.now.size }
         requires step { 0 < self.now.step }
+        requires order { begin ≤ end }
         ensures rows { IfOk result (λ rows. rows ≡ ended_rows_of self.now begin end cells.old.entries) }
-        ensures cells { OnOk result (cells.new.entries ≡ kept_cells self.now.size end cells.old.entries) }
+        ensures cells { OnOk result (cells.new.entries ≡ left_cells self.now.size self.now.step end cells.old.entries) }
     {
         let mut rows = Vec::new(alloc);
         if self.reach() == self.size {
-            self.ended_rows(alloc, cells, end, &mut rows)?;
+            self.take_ended(alloc, cells, end, &mut rows)?;
         } else {
             let first = ended_count(self.size, self.step, begin);
-            self.pane_rows(alloc, cells, first, end, &mut rows)?;
+            self.take_windows(alloc, cells, first, end, &mut rows)?;
         }
-        self.drop_ended(cells, end)?;
         Ok(Listed::from_vec(rows))
     }
 
@@ -288,9 +311,10 @@ impl Shape {
     ) -> Result<Tuples, NoMemory>
         requires size { 0 < self.now.size }
         requires step { 0 < self.now.step }
+        requires order { begin ≤ end }
         requires times { All (λ (x : Tagged). x.tuple.stime + 1 < 2 ^ 64) inputs.now }
         ensures rows { IfOk result (λ rows. rows ≡ ended_rows_of self.now begin end (fed_cells self.now cells.old.entries inputs.now)) }
-        ensures cells { OnOk result (cells.new.entries ≡ kept_cells self.now.size end (fed_cells self.now cells.old.entries inputs.now)) }
+        ensures cells { OnOk result (cells.new.entries ≡ left_cells self.now.size self.now.step end (fed_cells self.now cells.old.entries inputs.now)) }
     {
         self.take_inputs(alloc, cells, inputs)?;
         self.take_rows(alloc, cells, begin, end)

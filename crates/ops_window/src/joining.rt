@@ -1,20 +1,17 @@
 //! Windows that are joined from their panes.
-ghost use Rattle.std.specs.Prelude.{◌≡◌, ◌%◌, ◌<◌, ◌++◌, [], IfOk, OnOk};
+ghost use Rattle.std.specs.Prelude.{◌≡◌, ◌*◌, ◌%◌, ◌<◌, ◌≤◌, ◌++◌, OnOk};
 ghost use Rattle.std.specs.List.{fold};
-ghost use Rattle.std.specs.List.Sorted.{IsStrictlySortedBy};
-ghost use Rattle.std.specs.Map.{keys_of};
-ghost use Rattle.ops_window.specs.Feeding.{cell_cmp, join_cell, cells_before, cells_behind, cells_from, first_key, pane_rows_of};
+ghost use Rattle.dpc_model.specs.Operators.{window_count};
+ghost use Rattle.ops_window.specs.Feeding.{join_cell, cells_before, cells_behind, next_window, pane_rows_of};
 
-use crate::cells::{Cells, Shape, ended_count};
+use crate::cells::{Cells, Shape, ended_count, take_before};
 use crate::totals::join;
 use dpc_lists::faults::NoMemory;
 use dpc_lists::lists::Listed;
 use dpc_model::operators::Agg;
 use dpc_model::tuples::Tuple;
 use std::alloc::Global;
-use std::collections::BTreeMap;
 use std::collections::btree_map::Entry;
-use std::ops::Bound;
 
 /// Joins totals into those of one cell of a window.
 fn join_in(
@@ -35,47 +32,47 @@ fn join_in(
     }
 }
 
-/// The cells of the window of these times, joined from those of its panes, of which the first is known.
-fn joined(
+/// Joins the first cells, as far as they begin below a time, into those of the window that begins at
+/// another.
+fn join_before(
     alloc: Global,
+    window: &mut Cells,
     aggs: &[Agg],
     cells: &Cells,
-    first: (u64, i64),
     begin: u64,
     end: u64,
-) -> Result<Cells, NoMemory>
-    ensures { IfOk result (λ window. window.entries ≡ fold (join_cell aggs.now begin) [] (cells_before end (cells_from (Some first) cells.now.entries))) }
+) -> Result<(), NoMemory>
+    ensures { OnOk result (window.new.entries ≡ fold (join_cell aggs.now begin) window.old.entries (cells_before end cells.now.entries)) }
 {
-    let mut window = BTreeMap::new(alloc);
-    for (key, totals) in cells.range((Bound::Included(&first), Bound::Unbounded)) {
+    for (key, totals) in cells.iter() {
         if end <= key.0 {
-            return Ok(window);
+            return Ok(());
         }
-        join_in(alloc, &mut window, aggs, (begin, key.1), totals.as_slice())?;
+        join_in(alloc, window, aggs, (begin, key.1), totals.as_slice())?;
     }
-    Ok(window)
-}
-
-/// The first cell that begins at or behind a time, sought from this one on.
-fn first_behind(cells: &Cells, from: (u64, i64), time: u64) -> Option<(u64, i64)>
-    ensures first { result ≡ first_key (cells_behind time (cells_from (Some from) cells.now.entries)) }
-    ensures sorted { IsStrictlySortedBy cell_cmp (keys_of cells.now.entries) }
-{
-    for (key, _) in cells.range((Bound::Included(&from), Bound::Unbounded)) {
-        if time <= key.0 {
-            return Some(*key);
-        }
-    }
-    None
+    Ok(())
 }
 
 impl Shape {
+    /// The first window from a number on, below another, that has a cell among these.
+    fn next_window(&self, cells: &Cells, number: u64, behind: u64) -> Option<u64>
+        requires step { 0 < self.now.step }
+        requires size { self.now.step ≤ self.now.size }
+        ensures { result ≡ next_window self.now.size self.now.step number behind cells.now.entries }
+    {
+        let (key, _) = cells.iter().next()?;
+        let others = self.size / self.step - 1;
+        let next = number.max((key.0 / self.step).saturating_sub(others));
+        if next < behind { Some(next) } else { None }
+    }
+
     /// Adds the rows of the windows from a number on that end at or below a time, joined from their
-    /// panes. Windows without a tuple are passed over together.
-    pub(crate) fn pane_rows(
+    /// panes, and takes the panes out that no later window needs. Windows without a tuple are passed
+    /// over together.
+    pub(crate) fn take_windows(
         &self,
         alloc: Global,
-        cells: &Cells,
+        cells: &mut Cells,
         first: u64,
         end: u64,
         rows: &mut Vec<Tuple>,
@@ -83,30 +80,22 @@ impl Shape {
         requires size { 0 < self.now.size }
         requires step { 0 < self.now.step }
         requires whole { self.now.size % self.now.step ≡ 0 }
-        ensures { OnOk result (rows.new.items ≡ rows.old.items ++ pane_rows_of self.now first end cells.now.entries) }
+        requires first { first ≤ window_count self.now.size self.now.step end }
+        ensures rows { OnOk result (rows.new.items ≡ rows.old.items ++ pane_rows_of self.now first end cells.old.entries) }
+        ensures cells { OnOk result (cells.new.entries ≡ cells_behind (window_count self.now.size self.now.step end * self.now.step) cells.old.entries) }
     {
         let behind = ended_count(self.size, self.step, end);
-        if behind <= first {
-            return Ok(());
-        }
-        let Some((key, _)) = cells.iter().next() else {
-            return Ok(());
-        };
-        let others = self.size / self.step - 1;
         let mut number = first;
-        let mut next = first_behind(cells, *key, first * self.step);
-        'windows: while let Some(key) = next {
-            number = number.max((key.0 / self.step).saturating_sub(others));
-            if behind <= number {
-                return Ok(());
-            }
-            let begin = number * self.step;
+        take_before(alloc, cells, first * self.step)?;
+        'windows: while let Some(next) = self.next_window(cells, number, behind) {
+            let begin = next * self.step;
+            let mut window = take_before(alloc, cells, begin + self.step)?;
             let aggs = self.aggs.as_slice();
-            let window = joined(alloc, aggs, cells, key, begin, begin + self.size)?;
+            join_before(alloc, &mut window, aggs, cells, begin, begin + self.size)?;
             self.ended_rows(alloc, &window, end, rows)?;
-            number += 1;
-            next = first_behind(cells, key, begin + self.step);
+            number = next + 1;
         }
+        take_before(alloc, cells, behind * self.step)?;
         Ok(())
     }
 }

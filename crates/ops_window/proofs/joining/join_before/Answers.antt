@@ -1,15 +1,6 @@
-use Rattle.std.proofs.Common.{List, [], ap, ◌∙◌, rules}
-use Rattle.std.specs.List.{fold}
-use Rattle.ops_window.specs.Windows.{Cell}
-use Rattle.ops_window.specs.Feeding.{join_cell, cells_before}
-use Rattle.ops_window.proofs.Walk.{range-from, joins-on, joins-here, joins-end}
-use Rattle.ops_window.proofs.joining.joined.Goals as goal
-
-pub loop-key-init : goal.loop-key-init
-loop-key-init c =
-    ap (λ (w : List Cell). fold (join_cell c.args.aggs.now c.args.begin) w (cells_before c.args.end c.into_iter-key-iterator.result)) c.new-window.ensures.empty
-    ∙ ap (λ (cs : List Cell). fold (join_cell c.args.aggs.now c.args.begin) [] (cells_before c.args.end cs))
-    (c.into_iter-key-iterator.ensures.into_iter_gives ∙ c.range-key-items.ensures.between tt ∙ range-from c.args.first c.args.cells.now.entries)
+use Rattle.std.proofs.Common.{◌∙◌, rules}
+use Rattle.ops_window.proofs.Walk.{joins-on, joins-here, joins-end}
+use Rattle.ops_window.proofs.joining.join_before.Goals as goal
 
 pub loop-key-preserved : goal.loop-key-preserved
 loop-key-preserved c =
