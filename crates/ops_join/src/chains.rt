@@ -3,7 +3,6 @@ ghost use Rattle.std.specs.Prelude.{◌≡◌, ◌<◌, [], ◌∷◌, ◌++◌,
 ghost use Rattle.ops_join.specs.Sides.{folded as folded_word, mix, code_of as code_at, slot_at};
 
 use crate::ends::End;
-use dpc_lists::exact::{Exact, copied};
 use dpc_model::tuples::Tuple;
 use std::alloc::{AllocError, Global};
 use std::collections::VecDeque;
@@ -56,15 +55,15 @@ fn slot_of(code: u64, slots: usize) -> usize
     (code & (slots as u64).saturating_sub(1)) as usize
 }
 
-/// The same elements again.
-pub fn copied_deque<T: Exact>(alloc: Global, items: &VecDeque<T>) -> Result<VecDeque<T>, AllocError>
-    ensures { IfOk result (λ other. other.items ≡ items.now.items) }
+/// The same links again.
+fn copied_links(alloc: Global, links: &VecDeque<u64>) -> Result<VecDeque<u64>, AllocError>
+    ensures { IfOk result (λ other. other.items ≡ links.now.items) }
 {
-    let mut copies = VecDeque::with_capacity(alloc, items.len())?;
-    for i in 0..items.len() {
-        copies.push_back(items[i].copy(alloc)?)?;
-    }
-    Ok(copies)
+    let (front, back) = links.as_slices();
+    let mut copies = Vec::with_capacity(alloc, links.len())?;
+    copies.extend_from_slice(front)?;
+    copies.extend_from_slice(back)?;
+    Ok(VecDeque::from_vec(copies))
 }
 
 impl Chains {
@@ -135,8 +134,8 @@ impl Chains {
         ensures heads { IfOk result (λ other. other.heads.items ≡ self.now.heads.items) }
         ensures before { IfOk result (λ other. other.before.items ≡ self.now.before.items) }
     {
-        let heads = copied(alloc, self.heads.as_slice())?;
-        let before = copied_deque(alloc, &self.before)?;
+        let heads = Vec::from_slice(alloc, self.heads.as_slice())?;
+        let before = copied_links(alloc, &self.before)?;
         Ok(Chains { heads, before })
     }
 }

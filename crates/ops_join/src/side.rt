@@ -4,7 +4,7 @@ ghost use Rattle.dpc_model.specs.Streams.{InOrder};
 ghost use Rattle.ops_join.specs.Joins.{kept_from};
 ghost use Rattle.ops_join.specs.Sides.{is_partner, places_from, is_over as is_first_over};
 
-use crate::chains::{Chains, code_of, copied_deque};
+use crate::chains::{Chains, code_of};
 use crate::ends::End;
 use crate::partners::are_partners;
 use dpc_lists::exact::Exact;
@@ -25,6 +25,17 @@ pub struct Side {
     /// The chains of the tuples. Once there was a tuple, there are at least as many slots as tuples.
     pub chains: Chains,
     ghost fits: { first + length tuples.items < 2 ^ 64 },
+}
+
+/// The same tuples again.
+fn copied_tuples(alloc: Global, tuples: &VecDeque<Tuple>) -> Result<VecDeque<Tuple>, AllocError>
+    ensures { IfOk result (λ other. other.items ≡ tuples.now.items) }
+{
+    let mut copies = VecDeque::with_capacity(alloc, tuples.len())?;
+    for i in 0..tuples.len() {
+        copies.push_back(tuples[i].copy(alloc)?)?;
+    }
+    Ok(copies)
 }
 
 impl Side {
@@ -91,7 +102,7 @@ impl Side {
         Ok(())
     }
 
-    /// Takes a copy of a tuple. After an error the tuples and their entries stay.
+    /// Takes a copy of a tuple. After an error the tuples stay, and what finds them.
     pub fn push(
         &mut self,
         alloc: Global,
@@ -177,7 +188,7 @@ impl Side {
         ensures tuples { IfOk result (λ other. other.tuples.items ≡ self.now.tuples.items) }
         ensures indexed { IfOk result (λ other. StaysIndexed self.now other) }
     {
-        let tuples = copied_deque(alloc, &self.tuples)?;
+        let tuples = copied_tuples(alloc, &self.tuples)?;
         let chains = self.chains.copy(alloc)?;
         Ok(Side {
             tuples,
