@@ -47,7 +47,11 @@ impl Model for Roster {
 fn width_of(actors: usize) -> u64
     ensures { result ≤ 256 }
 {
-    if actors <= MOST_LINKED { actors as u64 } else { 0 }
+    if actors <= MOST_LINKED {
+        actors as u64
+    } else {
+        0
+    }
 }
 
 /// The links among the first `width` actors, row by row.
