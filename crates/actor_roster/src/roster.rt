@@ -1,6 +1,6 @@
 //! A plan with what its actors are and which of them are linked.
-ghost use Rattle.std.specs.Prelude.{◌≡◌, ◌≤◌, ◌*◌, ◌/◌, ◌%◌, map, IfOk};
-ghost use Rattle.dpc_lists.specs.Lists.{nth, range_with_len};
+ghost use Rattle.std.specs.Prelude.{◌≡◌, ◌≤◌, IfOk};
+ghost use Rattle.dpc_lists.specs.Lists.{nth};
 ghost use Rattle.dpc_model.specs.Actors.{role_of, are_linked};
 ghost use Rattle.dpc_model.specs.declared.actors.Role.TheVariants.{Nobody};
 ghost use Rattle.actor_roster.specs.Rosters.{links_of};
@@ -47,7 +47,11 @@ impl Model for Roster {
 fn width_of(actors: usize) -> u64
     ensures { result ≤ 256 }
 {
-    if actors <= MOST_LINKED { actors as u64 } else { 0 }
+    if actors <= MOST_LINKED {
+        actors as u64
+    } else {
+        0
+    }
 }
 
 /// The links among the first `width` actors, row by row.

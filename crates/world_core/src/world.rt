@@ -9,8 +9,8 @@ ghost use Rattle.world_parts.specs.declared.faults.EventFault.TheVariants as par
 ghost use Rattle.world_core.specs.Runs.{world_of};
 ghost use Rattle.world_core.specs.declared.faults.ApplyFault.TheVariants as fault;
 
-use actor_roster::roster::Roster;
 use crate::faults::ApplyFault;
+use actor_roster::roster::Roster;
 use dpc_lists::faults::NoMemory;
 use dpc_model::messages::Event;
 use dpc_model::plans::Plan;
@@ -51,7 +51,12 @@ impl Model for World {
 }
 
 /// What an event makes of all actors and envelopes.
-fn happen(alloc: Global, roster: &Roster, parts: &mut WorldParts, e: Event) -> Result<(), EventFault>
+fn happen(
+    alloc: Global,
+    roster: &Roster,
+    parts: &mut WorldParts,
+    e: Event,
+) -> Result<(), EventFault>
     requires plan { CanRun roster.now }
     requires some { IsSomeWorld roster.now parts.old }
     ensures ok { OnOk result (Happened roster.now parts.old parts.new e) }

@@ -41,7 +41,8 @@ pub(crate) fn is_clock(old: u64, now: u64) -> bool
 }
 
 /// All actors by sort, the links that are cut, and every envelope in order of its number. It doesn't keep
-/// the plan: each event is handed it. After a fault nothing is known of it. Contracts see a `PartsValue`.
+/// the plan: each event is handed its roster. After a fault nothing is known of it. Contracts see a
+/// `WorldPartsValue`.
 #[derive(Drop)]
 pub struct WorldParts {
     sources: Vec<SourceNode>,

@@ -7,10 +7,10 @@ ghost use Rattle.world_parts.specs.declared.faults.EventFault.TheVariants as fau
 ghost use Rattle.law_fit.specs.Fits.{CanRun};
 ghost use Rattle.world_parts.specs.Events.{IsSomeWorld, IsComing, Happened, WouldPass};
 
-use actor_roster::roster::Roster;
 use crate::envelopes::as_mails;
 use crate::faults::EventFault;
 use crate::parts::{WorldParts, is_clock};
+use actor_roster::roster::Roster;
 use node_core::packets::Packet;
 use std::alloc::Global;
 

@@ -5,9 +5,9 @@ ghost use Rattle.world_parts.specs.declared.faults.EventFault.TheVariants as fau
 ghost use Rattle.law_fit.specs.Fits.{CanRun};
 ghost use Rattle.world_parts.specs.Events.{IsSomeWorld, Happened, WouldPass};
 
-use actor_roster::roster::Roster;
 use crate::faults::EventFault;
 use crate::parts::WorldParts;
+use actor_roster::roster::Roster;
 use dpc_model::actors::Role;
 use std::alloc::Global;
 

@@ -8,10 +8,10 @@ ghost use Rattle.world_parts.specs.declared.faults.CommitFault.TheVariants as fa
 ghost use Rattle.world_parts.specs.Events.{IsWorldOf, IsSomeWorld, Happened, WouldPass};
 ghost use Rattle.world_parts.specs.Handing.{IsHandedOut, IsTimely, IsStaleAt};
 
-use actor_roster::roster::Roster;
 use crate::faults::CommitFault;
 use crate::parts::WorldParts;
 use crate::slots::{down_point, needed_by};
+use actor_roster::roster::Roster;
 use dpc_lists::faults::NoMemory;
 use dpc_model::actors::Role;
 use fragment_mill::mill::FragMill;

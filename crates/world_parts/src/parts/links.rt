@@ -7,8 +7,8 @@ ghost use Rattle.dpc_model.specs.declared.messages.Event.TheVariants as event;
 ghost use Rattle.law_fit.specs.Fits.{CanRun};
 ghost use Rattle.world_parts.specs.Events.{IsSomeWorld, Happened};
 
-use actor_roster::roster::Roster;
 use crate::parts::WorldParts;
+use actor_roster::roster::Roster;
 use dpc_lists::faults::NoMemory;
 
 /// Whether these are the same two actors, in either order.

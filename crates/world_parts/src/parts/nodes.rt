@@ -5,8 +5,8 @@ ghost use Rattle.world_model.specs.Worlds.{node_place};
 ghost use Rattle.law_fit.specs.Fits.{CanRun};
 ghost use Rattle.world_parts.specs.Events.{IsSomeWorld, Happened};
 
-use actor_roster::roster::Roster;
 use crate::parts::WorldParts;
+use actor_roster::roster::Roster;
 use dpc_lists::faults::NoMemory;
 use dpc_model::actors::Role;
 use std::alloc::Global;

@@ -8,10 +8,10 @@ ghost use Rattle.world_model.specs.Worlds.{is_release_time};
 ghost use Rattle.law_fit.specs.Fits.{CanRun};
 ghost use Rattle.world_parts.specs.Events.{IsSomeWorld, IsComing, Happened, WouldPass};
 
-use actor_roster::roster::Roster;
 use crate::envelopes::as_mails;
 use crate::faults::EventFault;
 use crate::parts::{WorldParts, is_clock};
+use actor_roster::roster::Roster;
 use dpc_model::actors::Role;
 use node_core::packets::Packet;
 use std::alloc::Global;

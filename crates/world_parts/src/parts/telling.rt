@@ -9,9 +9,9 @@ ghost use Rattle.world_model.specs.Schedules.{may_come};
 ghost use Rattle.world_parts.specs.Parts.{StandsForWorld};
 ghost use Rattle.world_parts.specs.Telling.{StandsForRole};
 
+use crate::parts::WorldParts;
 use actor_roster::roster::Roster;
 use client_fold::client::Client;
-use crate::parts::WorldParts;
 use dpc_model::actors::Role;
 use dpc_model::messages::NodeState;
 use node_core::node::Node;

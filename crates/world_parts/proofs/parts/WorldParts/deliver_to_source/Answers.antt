@@ -49,7 +49,7 @@ did c =
 
 -- and stands where it leads
 stepped : (c : In_ok-mails) → c.deliver.new.self ≡ after_step c.index_mut.result.now
-        (source_message c.args.roster.now c.index_mut.result.now.number c.sender-sender.result c.in-Plain.message c.index_mut.result.now.state)
+    (source_message c.args.roster.now c.index_mut.result.now.number c.sender-sender.result c.in-Plain.message c.index_mut.result.now.state)
 stepped c =
     let v = c.index_mut.result.now in
     subst (λ (p : Plan). c.deliver.new.self ≡ after_step v (source_message p v.number c.sender-sender.result c.in-Plain.message v.state)) c.plan.ensures c.in_ok-outs.ensures.after

@@ -28,7 +28,7 @@ returns-in_ok-restart c =
     (record { same = c.self.view_is; some = c.requires.some; role = sym c.role_of.ensures ∙ c.in-Node.is; place = c.node_place-place.ensures; value = c.index_mut.ensures.value })
     (record { envelopes = c.self.invariant.0; items = c.self.invariant.1 })
     (subst (λ (p : Plan). (x : Slot) → StandsForSlot (home_of p (c.in-Node.frag, c.in-Node.replica)) c.index_mut.result.now x
-        → StandsForSlot (home_of p (c.in-Node.frag, c.in-Node.replica)) c.restart.new.self (restart_slot (home_of p (c.in-Node.frag, c.in-Node.replica)) c.args.inc x)) c.plan.ensures c.in_ok-restart.ensures)
+    → StandsForSlot (home_of p (c.in-Node.frag, c.in-Node.replica)) c.restart.new.self (restart_slot (home_of p (c.in-Node.frag, c.in-Node.replica)) c.args.inc x)) c.plan.ensures c.in_ok-restart.ensures)
 
 pub returns-in_default : goal.returns-in_default
 returns-in_default c =
