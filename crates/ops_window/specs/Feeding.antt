@@ -151,11 +151,13 @@ join_cell aggs begin window c = insert_entry cell_cmp window (begin, c.0.1) (joi
 -- the cells of the window that begins at a time: those of its first pane, with those of the others joined in
 abbrev pub joined_cells : ℕ → ℕ → List Agg → ℕ → List Cell → List Cell
 joined_cells size step aggs begin cells =
-    fold (join_cell aggs begin) (cells_before (begin + step) (cells_behind begin cells)) (cells_before (begin + size) (cells_behind (begin + step) cells))
+    fold (join_cell aggs begin) (cells_before (begin + step) (cells_behind begin cells))
+    (cells_before (begin + size) (cells_behind (begin + step) cells))
 
 -- the rows of the window of a number, joined from its panes, where it ends at or below b
 abbrev pub joined_rows : ℕ → ℕ → Option ℕ → List Agg → ℕ → List Cell → ℕ → List Tuple
-joined_rows size step group aggs b cells j = map (cell_row size group aggs) (ended_cells size b (joined_cells size step aggs (j * step) cells))
+joined_rows size step group aggs b cells j =
+    map (cell_row size group aggs) (ended_cells size b (joined_cells size step aggs (j * step) cells))
 
 -- the rows of the windows from a number on that end at or below b, joined from their panes
 abbrev pub pane_rows : ℕ → ℕ → Option ℕ → List Agg → ℕ → ℕ → List Cell → List Tuple

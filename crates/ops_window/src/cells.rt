@@ -177,7 +177,8 @@ impl Shape {
         requires reach { 0 < reach }
         requires step { 0 < self.now.step }
         requires time { tuple.now.stime + 1 < 2 ^ 64 }
-        ensures { OnOk result (cells.new.entries ≡ take_tuple reach self.now.step self.now.group self.now.aggs cells.old.entries tuple.now) }
+        ensures { OnOk result (cells.new.entries
+            ≡ take_tuple reach self.now.step self.now.group self.now.aggs cells.old.entries tuple.now) }
     {
         let group = group_of(self.group, tuple);
         let first = ended_count(reach, self.step, tuple.stime);
@@ -267,7 +268,8 @@ impl Shape {
         rows: &mut Vec<Tuple>,
     ) -> Result<(), NoMemory>
         requires { 0 < self.now.size }
-        ensures rows { OnOk result (rows.new.items ≡ rows.old.items ++ map (row_of self.now) (ended_cells self.now.size end cells.old.entries)) }
+        ensures rows { OnOk result (rows.new.items
+            ≡ rows.old.items ++ map (row_of self.now) (ended_cells self.now.size end cells.old.entries)) }
         ensures cells { OnOk result (cells.new.entries ≡ kept_cells self.now.size end cells.old.entries) }
     {
         let ended = take_before(alloc, cells, end.saturating_sub(self.size - 1))?;
@@ -314,7 +316,8 @@ impl Shape {
         requires order { begin ≤ end }
         requires times { All (λ (x : Tagged). x.tuple.stime + 1 < 2 ^ 64) inputs.now }
         ensures rows { IfOk result (λ rows. rows ≡ ended_rows_of self.now begin end (fed_cells self.now cells.old.entries inputs.now)) }
-        ensures cells { OnOk result (cells.new.entries ≡ left_cells self.now.size self.now.step end (fed_cells self.now cells.old.entries inputs.now)) }
+        ensures cells { OnOk result (cells.new.entries
+            ≡ left_cells self.now.size self.now.step end (fed_cells self.now cells.old.entries inputs.now)) }
     {
         self.take_inputs(alloc, cells, inputs)?;
         self.take_rows(alloc, cells, begin, end)

@@ -66,9 +66,9 @@ impl Shape {
         if next < behind { Some(next) } else { None }
     }
 
-    /// Adds the rows of the windows from a number on that end at or below a time, joined from their
-    /// panes, and takes the panes out that no later window needs. Windows without a tuple are passed
-    /// over together.
+    /// Adds the rows of the windows from a number on that end at or below a time, and takes the panes
+    /// out that no later window needs. A window is its first pane with the others joined in. Windows
+    /// without a tuple are passed over together.
     pub(crate) fn take_windows(
         &self,
         alloc: Global,
@@ -82,7 +82,8 @@ impl Shape {
         requires whole { self.now.size % self.now.step ≡ 0 }
         requires first { first ≤ window_count self.now.size self.now.step end }
         ensures rows { OnOk result (rows.new.items ≡ rows.old.items ++ pane_rows_of self.now first end cells.old.entries) }
-        ensures cells { OnOk result (cells.new.entries ≡ cells_behind (window_count self.now.size self.now.step end * self.now.step) cells.old.entries) }
+        ensures cells { OnOk result (cells.new.entries
+            ≡ cells_behind (window_count self.now.size self.now.step end * self.now.step) cells.old.entries) }
     {
         let behind = ended_count(self.size, self.step, end);
         let mut number = first;
