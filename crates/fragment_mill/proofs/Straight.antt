@@ -103,10 +103,10 @@ serial-ports n xs s low =
     let ordered = in-order-from 0 n xs (serial-ordered xs s) in
     same-serial (serial (ports_of n xs)) xs (serial-is (ports_of n xs)) s
     (λ p.
-      let zero-plus : 0 + p ≡ p = omega arith in
-      at_port-serial (ports_of n xs) p ordered
-      ∙ ports-from (λ q. at_port q xs) 0 n p (λ past. ap (λ (q : ℕ). at_port q xs) zero-plus ∙ none-past n p xs (recursion_from_All (λ (x : Tagged). x.port < n) xs low) past)
-      ∙ ap (λ (q : ℕ). at_port q xs) zero-plus)
+    let zero-plus : 0 + p ≡ p = omega arith in
+    at_port-serial (ports_of n xs) p ordered
+    ∙ ports-from (λ q. at_port q xs) 0 n p (λ past. ap (λ (q : ℕ). at_port q xs) zero-plus ∙ none-past n p xs (recursion_from_All (λ (x : Tagged). x.port < n) xs low) past)
+    ∙ ap (λ (q : ℕ). at_port q xs) zero-plus)
 
 -- ---- wires that read each port by its number
 
