@@ -1,1 +1,2 @@
 mod Refilled
+pub mod Marked

@@ -6,7 +6,7 @@ use Rattle.std.specs.List.{refill}
 use Rattle.dpc_lists.specs.Lists.{changed}
 use Rattle.dpc_lists.proofs.Elements.{set-changed}
 
-refill-same : {X : Type 0} (xs ws : List X) → length ws ≡ length xs → refill (length xs) xs ws ≡ ws
+pub refill-same : {X : Type 0} (xs ws : List X) → length ws ≡ length xs → refill (length xs) xs ws ≡ ws
 refill-same xs ws e = grind (arith, common_steps)
 
 -- one element is written behind a part of the same length

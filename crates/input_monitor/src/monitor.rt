@@ -16,18 +16,23 @@ use std::marker::Model;
 #[derive(Drop)]
 pub struct Monitor {
     watches: ArrayVec<Watch, MOST_REPLICAS>,
+    /// Whether a replica was ever marked: else no mark is looked for.
+    marked: bool,
 }
 
 impl Model for Monitor {
     ghost use Rattle.std.specs.Coded.{codes};
-    ghost use Rattle.std.specs.Prelude.{List};
+    ghost use Rattle.std.specs.Prelude.{◌≡◌, false, List};
     ghost use Rattle.dpc_model.specs.Replicas.{Watch};
+    ghost use Rattle.input_monitor.specs.Marks.{AreUnmarked};
 
     ghost Value = { List Watch };
 
     ghost coded = { Prim.hlevel codes };
 
     ghost view = { λ m. m.watches.items };
+
+    ghost invariant = { λ m. m.marked ≡ false → AreUnmarked m.watches.items };
 }
 
 /// One tick more of each replica.
@@ -58,7 +63,10 @@ impl Monitor {
         for _ in 0..replicas {
             watches.push(Watch::new());
         }
-        Monitor { watches }
+        Monitor {
+            watches,
+            marked: false,
+        }
     }
 
     /// How many replicas there are.
@@ -83,13 +91,16 @@ impl Monitor {
         ensures { self.new ≡ changed r (with_mark base) self.old }
     {
         self.watches[r].mark_truncated(base);
+        self.marked = true;
     }
 
     /// The reader has so many tuples. The marks that this reaches end.
     pub fn reached(&mut self, count: u64)
         ensures { self.new ≡ map (after_count count) self.old }
     {
-        reached_by_all(self.watches.as_mut_slice(), count);
+        if self.marked {
+            reached_by_all(self.watches.as_mut_slice(), count);
+        }
     }
 
     /// One tick more.
