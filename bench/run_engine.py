@@ -5,6 +5,7 @@ A line for each script: processor seconds, the most memory in MiB, and the statu
 runs end with status 7: they pass a limit of runs.
 """
 import os
+import random
 import subprocess
 import sys
 import tempfile
@@ -88,6 +89,45 @@ def resent():
     return lines
 
 
+def deep():
+    """Unions, joins, maps and aggregates in five fragments of two replicas, 200,000 entries, with cuts, crashes and restarts."""
+    dice = random.Random(5)
+    lines = header(1, 4, 1_000_000)
+    for name in "ab":
+        lines.append(f"source {name} 2")
+        lines += [f"log {name} {10 * i + dice.randrange(10)} {dice.randrange(500)} {dice.randrange(-1000, 1000)}" for i in range(100_000)]
+    lines += ["fragment f1 2 a b", "union u1 a b", "aggregate g1 u1 200 100 c0 count sum c1 min c1 max c1"]
+    lines += ["fragment f2 2 a b", "join j2 a b 500 0 0", "fragment f3 2 f2", "map m3 f2 2 c0 add c1 c3"]
+    lines += ["aggregate g3 m3 6400 100 - count sum c1", "filter h3 m3 ne c1 0"]
+    lines += ["fragment f4 2 f3 a", "join j4 f3 a 100 0 0", "map m4 j4 2 c0 if lt c1 0 neg c1 c1"]
+    lines += ["fragment f5 2 f4", "aggregate g5 f4 1000 500 c0 count sum c1", "client x f4", "client y f5", "client z f1", "begin"]
+    faults = {7: "crash f4.1", 9: "restart f4.1"}
+    for phase in range(1, 401):
+        for wanted, what in ((5, "cut"), (12, "heal")):
+            lines += [f"{what} b f2.{phase // 20 % 2}"] * (phase % 20 == wanted)
+        lines += [faults[phase % 50]] if phase % 50 in faults else []
+        lines += [f"release a {2500 * phase}", f"release b {2500 * phase}", f"tick {phase}"]
+    return lines + ["settle"]
+
+
+def wide():
+    """Four replicas of a whole-stream join and of windows by 40,000 keys and of 64 steps, 200,000 entries, with cuts."""
+    dice = random.Random(6)
+    lines = header(1, 2, 10_000_000)
+    lines[1] = "width 1000"
+    for name in "ab":
+        lines.append(f"source {name} 1")
+        lines += [f"log {name} {100 * i + dice.randrange(100)} {dice.randrange(40_000)}" for i in range(100_000)]
+    lines += ["fragment f 4 a b", "join j a b 10000000 0 0", "map k j 1 sub c0 c1", "union u a b k"]
+    lines += ["aggregate w u 10000000 1000000 c0 count sum c0 min c0 max c0", "aggregate v u 64000 1000 - count sum c0"]
+    lines += ["client c f", "begin"]
+    for phase in range(1, 1001):
+        for wanted, what in ((3, "cut"), (8, "heal")):
+            lines += [f"{what} a f.{phase // 10 % 4}"] * (phase % 10 == wanted)
+        lines += [f"release a {10_000 * phase}", f"release b {10_000 * phase}", f"tick {phase}"]
+    return lines + ["settle"]
+
+
 def measure(program, script):
     """Seconds of the processor, MiB, and the status of the best of five runs."""
     best = None
@@ -108,6 +148,8 @@ def main():
         "`gen 7`": None,
         "a chain of 5 fragments, 2 replicas, 200,000 entries, cuts and heals": chain,
         "4 replicas, a join over whole streams and windows, 200,000 entries": joined,
+        "joins and windows in 5 fragments, 2 replicas, 200,000 entries, cuts and crashes": deep,
+        "4 replicas, a join over whole streams, windows by key, 200,000 entries, cuts": wide,
         "a union and windows, 200,000 entries in 10,000 buckets, each closed and redone": lambda: corrected(200),
         "half of it": lambda: corrected(100),
         "80 nodes and sources in a full mesh, 7,998,480 envelopes": meshed,
