@@ -1,0 +1,6 @@
+mod Dropping
+pub mod Firsts
+pub mod Filing
+pub mod Taking
+pub mod Ends
+pub mod Served
