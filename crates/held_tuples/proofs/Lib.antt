@@ -1,0 +1,4 @@
+mod Dropping
+mod Joined
+mod Parts
+mod Searching
