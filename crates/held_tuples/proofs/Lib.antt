@@ -1,4 +1,4 @@
 mod Dropping
 mod Joined
-mod Parts
+pub mod Parts
 mod Searching

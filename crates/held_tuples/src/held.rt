@@ -206,7 +206,8 @@ impl HeldTuples {
 
     /// Lets the first tuples go that are below a time.
     pub fn drop_below(&mut self, time: u64)
-        ensures { self.new ≡ from_first time self.old }
+        ensures from { self.new ≡ from_first time self.old }
+        ensures shorter { length self.new ≤ length self.old }
     {
         self.len -= drop_first_below(&mut self.runs, time);
     }
