@@ -1,7 +1,7 @@
 -- Lists of tuples one after the other.
 use Rattle.std.proofs.Common.{◌≡◌, ℕ, zero, suc, ◌+◌, ◌<◌, ◌≤◌, true, false, cond, nat_le, nat_lt, ◌&&◌, List, [], ◌∷◌, ◌++◌, map, take, drop, length, refl, sym, ap, subst, ◌∙◌, arith, slice_index_or, append_assoc, append-nil, length-append}
 use Rattle.std.proofs.lemmas.Grind.{common_steps}
-use Rattle.std.proofs.lemmas.Bool.{false≢true, lt-ltb, le-ltb, ltb-true, leb-true, ltb-false}
+use Rattle.std.proofs.lemmas.Bool.{false≢true, ltb-true, leb-true, ltb-false}
 use Rattle.std.proofs.lemmas.List.{map-append, take_more, drop_more, drop_all, take-append-drop}
 use Rattle.std.proofs.lemmas.List.Elements.{filter-append}
 use Rattle.dpc_model.specs.Fragments.{tag}

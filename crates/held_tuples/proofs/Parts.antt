@@ -199,15 +199,15 @@ one-more items place count n old now new run inside long is pushed h =
     let rest : List Tuple = stable_in (drop (place + n) items) in
     record {
       all =
-        ap (λ (tss : List (List Tuple)). joined tss ++ rest) pushed
-        ∙ ap (λ (ts : List Tuple). ts ++ rest) (joined-push now run ∙ ap (λ (ts : List Tuple). joined now ++ ts) is)
-        ∙ append_assoc (joined now) (stable_in (take n (drop place items))) rest
-        ∙ ap (λ (ts : List Tuple). joined now ++ ts) (sym (split-run n place items))
-        ∙ h.all;
+          ap (λ (tss : List (List Tuple)). joined tss ++ rest) pushed
+          ∙ ap (λ (ts : List Tuple). ts ++ rest) (joined-push now run ∙ ap (λ (ts : List Tuple). joined now ++ ts) is)
+          ∙ append_assoc (joined now) (stable_in (take n (drop place items))) rest
+          ∙ ap (λ (ts : List Tuple). joined now ++ ts) (sym (split-run n place items))
+          ∙ h.all;
       counted = omega (arith, so_far, more);
       within = inside;
       before =
-        (h.before.0 ++ run ∷ [], pushed ∙ ap (λ (tss : List (List Tuple)). tss ++ run ∷ []) h.before.1 ∙ append_assoc old h.before.0 (run ∷ []));
+          (h.before.0 ++ run ∷ [], pushed ∙ ap (λ (tss : List (List Tuple)). tss ++ run ∷ []) h.before.1 ∙ append_assoc old h.before.0 (run ∷ []));
     }
 
 pub all-there : (items : List Item) (place count : ℕ) (old now : List (List Tuple)) → length items ≤ place → IsUnderWay items place count old now → joined now ≡ joined old ++ stable_in items

@@ -107,9 +107,9 @@ takes items i old now new taken item low e h reads = record {
       ∙ before-first taken item (fold_items (drafted (record base { stable = with_tuple_of item (base.stable ++ stable_in taken) }) new) (drop (i + 1) items))
       ∙ ap (λ (ts : List Tuple). taken_before (taken ++ item ∷ []) (fold_items (drafted (record base { stable = ts }) new) (drop (i + 1) items))) (tuples-more base.stable taken item);
   counted =
-    let one = reads.counted refl in
-    let counted = h.counted in
-    let long = ap (λ (ts : List Tuple). length ts) (stable_in-append taken (item ∷ [])) ∙ length-append (stable_in taken) (stable_in (item ∷ [])) in omega (arith, one, counted, long);
+      let one = reads.counted refl in
+      let counted = h.counted in
+      let long = ap (λ (ts : List Tuple). length ts) (stable_in-append taken (item ∷ [])) ∙ length-append (stable_in taken) (stable_in (item ∷ [])) in omega (arith, one, counted, long);
   held = λ g. h.held (reads.held g);
   grows = let one = reads.grows in let so_far = h.grows in omega (arith, one, so_far);
 }

@@ -81,8 +81,8 @@ pub reads-taken : (sess : Sess) (index : ℕ) (items : List Item) (v : InletValu
 reads-taken sess index items v empty d taken old behind h f = record {
   left = reads-next sess index items v empty d (Some (map (λ (b : Bor Item). b.now) taken.items)) old behind h f;
   within =
-    let few = within-taken items empty d (map (λ (b : Bor Item). b.now) taken.items) f in
-    let same = length-map taken.items (λ (b : Bor Item). b.now) in omega (arith, few, same);
+      let few = within-taken items empty d (map (λ (b : Bor Item). b.now) taken.items) f in
+      let same = length-map taken.items (λ (b : Bor Item). b.now) in omega (arith, few, same);
   whole = λ e. whole-taken items empty d (map (λ (b : Bor Item). b.now) taken.items) f (length-map taken.items (λ (b : Bor Item). b.now) ∙ e);
 }
 

@@ -9,7 +9,7 @@ pub overflow_add-count : goal.overflow_add-count
 overflow_add-count c =
     let low : c.loop-place.place < length c.args.runs.now.items = search rules in
     let most = counts-in c.args.time c.loop-place.place c.loop-place.count c.first_from-below.result c.args.runs.now.items c.index-run.result.now low c.index-run.ensures
-      c.first_from-below.ensures.within c.loop-place.invariant in
+    c.first_from-below.ensures.within c.loop-place.invariant in
     let fits = c.requires in omega (arith, most, fits)
 
 pub loop-place-preserved : goal.loop-place-preserved

@@ -1,5 +1,4 @@
-use Rattle.std.proofs.Common.{rules, ◌≡◌, ◌+◌, ◌<◌, ◌≤◌, ◌∙◌, length, arith}
-use Rattle.held_tuples.specs.Runs.{joined}
+use Rattle.std.proofs.Common.{rules, ◌<◌, ◌≤◌, ◌∙◌, length, arith}
 use Rattle.held_tuples.proofs.Dropping.{left-first, first-gone, first-counted}
 use Rattle.held_tuples.proofs.held.drop_first_below.Goals as goal
 
@@ -19,7 +18,8 @@ loop-run-preserved c =
     let within = c.first_below-below.ensures.within in
     let some : 0 < length c.loop-run.runs.items = search rules in
     let counted = first-counted c.loop-run.runs.items c.pop_front.new.self.items c.in-Some.run'.now some c.in-Some.ensures.lookup c.pop_front.ensures.rest in
-    let so_far = c.loop-run.invariant.1 in
-    (first-gone c.args.time c.first_below-below.result c.loop-run.runs.items c.pop_front.new.self.items c.in-Some.run'.now c.in-Some.ensures.lookup c.pop_front.ensures.rest
-    c.first_below-below.ensures.rest past ∙ c.loop-run.invariant.0,
-    omega (arith, counted, so_far, past, within))
+    let so_far = c.loop-run.invariant.1 in (
+      first-gone c.args.time c.first_below-below.result c.loop-run.runs.items c.pop_front.new.self.items c.in-Some.run'.now c.in-Some.ensures.lookup c.pop_front.ensures.rest
+          c.first_below-below.ensures.rest past ∙ c.loop-run.invariant.0,
+      omega (arith, counted, so_far, past, within),
+    )

@@ -1,4 +1,4 @@
-use Rattle.std.proofs.Common.{rules, ◌+◌, ◌-◌, ◌/◌, ◌<◌, length, sym, arith}
+use Rattle.std.proofs.Common.{◌+◌, ◌-◌, ◌/◌, ◌<◌, length, sym, arith}
 use Rattle.held_tuples.proofs.Joined.{below-upto}
 use Rattle.held_tuples.proofs.held.first_run.Goals as goal
 

@@ -1,4 +1,4 @@
-use Rattle.std.proofs.Common.{rules, ◌≡◌, ◌<◌, ◌∙◌, ◌++◌, ap, sym, map, length, List, append-nil}
+use Rattle.std.proofs.Common.{rules, ◌<◌, ◌∙◌, ◌++◌, ap, sym, map, length, List, append-nil}
 use Rattle.dpc_model.specs.Fragments.{tag}
 use Rattle.dpc_model.specs.declared.tuples.Tuple.{Tuple}
 use Rattle.held_tuples.proofs.Joined.{order-at, between-start, between-next, between-end}

@@ -24,8 +24,9 @@ returns-in_ok-commit-in-Next-clause-ok c =
     let told : Taken = taken_as.Used (values c.in-Next.taken.items) in
     let times = c.in_ok-times-in-Next.ensures ∙ ap (λ (items : List (Bor Item)). times_in (values items)) c.as_slice-in-Next.ensures.value in
     let all = c.in_ok-taken-in-Next.ensures ∙ ap values c.as_slice-in-Next-2.ensures.value in
-    let read : IsRead c.args.sess c.args.index c.args.items.now c.args.self.now (batch.Next c.in-Next.draft c.in-Next.taken) = rw (c.in-Next.is, c.as_slice.ensures) at c.in_ok-draft.ensures in
-    (told,
-    ap absorbed.Used times,
-    takes-next c.args.sess c.args.index c.args.items.now c.args.self.now c.commit.new.self c.in-Next.draft c.in-Next.taken read
-    (c.in_ok-commit-in-Next.ensures.ok ∙ ap (λ (items : List Item). committed c.args.self.now c.in-Next.draft items) all))
+    let read : IsRead c.args.sess c.args.index c.args.items.now c.args.self.now (batch.Next c.in-Next.draft c.in-Next.taken) = rw (c.in-Next.is, c.as_slice.ensures) at c.in_ok-draft.ensures in (
+      told,
+      ap absorbed.Used times,
+      takes-next c.args.sess c.args.index c.args.items.now c.args.self.now c.commit.new.self c.in-Next.draft c.in-Next.taken read
+          (c.in_ok-commit-in-Next.ensures.ok ∙ ap (λ (items : List Item). committed c.args.self.now c.in-Next.draft items) all),
+    )
