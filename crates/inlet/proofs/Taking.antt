@@ -9,10 +9,11 @@ use Rattle.dpc_model.specs.declared.tuples.Tuple.{Tuple}
 use Rattle.dpc_model.specs.declared.tuples.Item.{Item}
 use Rattle.dpc_model.specs.declared.batches.Taken.TheVariants as taken_as
 use Rattle.dpc_model.specs.declared.messages.Sess.{Sess}
+use Rattle.held_tuples.specs.Runs.{stable_in}
 use Rattle.inlet.specs.Forgotten.{Keeps, IsTaken}
 use Rattle.std.proofs.lemmas.List.{length-map}
 use Rattle.dpc_lists.proofs.Truths.{not-of}
-use Rattle.inlet.proofs.Whole.{whole-taken}
+use Rattle.inlet.proofs.Whole.{whole-taken, within-taken}
 use Rattle.inlet.specs.Drafts.{Began, drafted, folded_of, IsFold, IsEmpty, committed}
 use Rattle.inlet.specs.Batches.{left_by, IsRead}
 use Rattle.inlet.specs.declared.draft.BatchDraft.{BatchDraft}
@@ -45,14 +46,14 @@ reads-behind sess index items v old behind = record {
 -- the draft before the first item stands for the reader itself
 drafted-empty : (gone : List Tuple) (v : InletValue) (d : BatchDraft) → IsEmpty v d → drafted (whole gone v).held d ≡ (whole gone v).held
 drafted-empty gone v d h =
-    rw (h.stable, h.bound, h.passed, h.tentative, h.held, append-nil (gone ++ v.state.held.stable), all-held v.state.held.tentative) refl
+    rw (h.bound, h.passed, h.tentative, h.held, all-held v.state.held.tentative) refl
   where
     all-held : (ts : List Tuple) → (if not (is_nil ts) then ts else []) ++ [] ≡ ts
     all-held [] = refl
     all-held (t ∷ ts) = append-nil (t ∷ ts)
 
 began-empty : (gone : List Tuple) (v : InletValue) (d : BatchDraft) → v.count ≡ length (gone ++ v.state.held.stable) → IsEmpty v d → Began (whole gone v).held d
-began-empty gone v d count h = record { first = h.first ∙ count; held = λ e. not-of (is_nil v.state.held.tentative) (sym h.held ∙ e) }
+began-empty gone v d count h = record { count = h.count ∙ count; held = λ e. not-of (is_nil v.state.held.tentative) (sym h.held ∙ e) }
 
 folds-held : (gone : List Tuple) (v : InletValue) (items : List Item) (empty d : BatchDraft) (taken : Option (List Item)) → v.count ≡ length (gone ++ v.state.held.stable) → IsEmpty v empty →
     IsFold items empty d taken → fold_items (whole gone v).held items ≡ folded_of (whole gone v).held d taken
@@ -79,23 +80,25 @@ pub reads-taken : (sess : Sess) (index : ℕ) (items : List Item) (v : InletValu
     IsRead sess index items v (batch.Next d taken)
 reads-taken sess index items v empty d taken old behind h f = record {
   left = reads-next sess index items v empty d (Some (map (λ (b : Bor Item). b.now) taken.items)) old behind h f;
-  within = let none = ap (λ (ts : List Tuple). length ts) h.stable in let more = f.grows in omega (arith, none, more);
+  within =
+      let few = within-taken items empty d (map (λ (b : Bor Item). b.now) taken.items) f in
+      let same = length-map taken.items (λ (b : Bor Item). b.now) in omega (arith, few, same);
   whole = λ e. whole-taken items empty d (map (λ (b : Bor Item). b.now) taken.items) f (length-map taken.items (λ (b : Bor Item). b.now) ∙ e);
 }
 
 -- what the draft adds to the inlet it adds to the plain one
 pub adds-both : (gone : List Tuple) (v : InletValue) (d : BatchDraft) (x : InletState) (taken : List Item) → Keeps gone v x →
-    Keeps gone (committed v d) (after_next_batch x (Some (record { after = drafted x.held d; taken = taken }))).after
+    Keeps gone (committed v d taken) (after_next_batch x (folded_of x.held d (Some taken))).after
 adds-both gone v d x taken k =
-    subst (λ (y : InletState). Keeps gone (committed v d) (after_next_batch y (Some (record { after = drafted y.held d; taken = taken }))).after) (sym (whole-is gone v x k)) (record {
-      count = let all = count-whole gone v x k in let more = length-append (gone ++ v.state.held.stable) d.stable.items in omega (arith, all, more);
-      kept = append_assoc gone v.state.held.stable d.stable.items;
+    subst (λ (y : InletState). Keeps gone (committed v d taken) (after_next_batch y (folded_of y.held d (Some taken))).after) (sym (whole-is gone v x k)) (record {
+      count = let all = count-whole gone v x k in let more = length-append (gone ++ v.state.held.stable) (stable_in taken) in omega (arith, all, more);
+      kept = append_assoc gone v.state.held.stable (stable_in taken);
       rest = refl;
     })
 
 -- a batch that was read as the next one is taken once what it adds is held
 pub takes-next : (sess : Sess) (index : ℕ) (items : List Item) (v new : InletValue) (d : BatchDraft) (taken : Vec (Bor Item) Global) → IsRead sess index items v (batch.Next d taken) →
-    new ≡ committed v d → IsTaken sess index items v new (taken_as.Used (map (λ (b : Bor Item). b.now) taken.items))
+    new ≡ committed v d (map (λ (b : Bor Item). b.now) taken.items) → IsTaken sess index items v new (taken_as.Used (map (λ (b : Bor Item). b.now) taken.items))
 takes-next sess index items v new d taken h e = record {
   after = λ gone x k.
       subst (λ (a : AfterBatch). Keeps gone new a.after) (sym (h.left gone x k))

@@ -1,9 +1,9 @@
 -- Tuples in order of time, one more at the end.
-use Rattle.std.proofs.Common.{◌≡◌, ℕ, zero, suc, ◌+◌, ◌<◌, ◌≤◌, List, [], ◌∷◌, ◌++◌, take, length, refl, ap, sym, ◌∙◌, arith, slice_index_or, append_assoc, subst}
+use Rattle.std.proofs.Common.{◌≡◌, ℕ, zero, suc, ◌+◌, ◌<◌, ◌≤◌, List, [], ◌∷◌, ◌++◌, take, length, refl, ap, sym, ◌∙◌, arith, slice_index_or, append_assoc, subst, Option, Some, None}
 use Rattle.std.specs.List.{AllByRecursion}
 use Rattle.dpc_model.specs.Streams.{NoneBelow, InOrder, time_of}
 use Rattle.dpc_model.specs.declared.tuples.Tuple.{Tuple}
-use Rattle.inlet.specs.Ordered.{IsUpto}
+use Rattle.inlet.specs.Ordered.{IsUpto, IsUptoIf}
 
 none-below-more : (n : ℕ) (ts : List Tuple) (t : Tuple) → NoneBelow time_of n ts → n ≤ t.stime → NoneBelow time_of n (ts ++ t ∷ [])
 none-below-more n [] t h le = (le, tt)
@@ -36,3 +36,23 @@ next-behind n i before ts t d low is h le =
 -- no tuple lies past the begin
 pub nothing : IsUpto [] 0
 nothing = record { ordered = tt; upto = tt }
+
+none-below-fewer : (n k : ℕ) (ts : List Tuple) → NoneBelow time_of n ts → NoneBelow time_of n (take k ts)
+none-below-fewer n zero ts h = tt
+none-below-fewer n (suc k) [] h = tt
+none-below-fewer n (suc k) (t ∷ ts) h = (h.0, none-below-fewer n k ts h.1)
+
+ordered-fewer : (k : ℕ) (ts : List Tuple) → InOrder ts → InOrder (take k ts)
+ordered-fewer zero ts o = tt
+ordered-fewer (suc k) [] o = tt
+ordered-fewer (suc k) (t ∷ ts) o = (none-below-fewer t.stime k ts o.0, ordered-fewer k ts o.1)
+
+upto-fewer : (n k : ℕ) (ts : List Tuple) → AllByRecursion (λ (u : Tuple). u.stime ≤ n) ts → AllByRecursion (λ (u : Tuple). u.stime ≤ n) (take k ts)
+upto-fewer n zero ts h = tt
+upto-fewer n (suc k) [] h = tt
+upto-fewer n (suc k) (t ∷ ts) h = (h.0, upto-fewer n k ts h.1)
+
+-- the first ones of tuples in order
+pub fewer : (k : ℕ) (ts : List Tuple) (last : Option ℕ) → IsUptoIf ts last → IsUptoIf (take k ts) last
+fewer k ts None h = h
+fewer k ts (Some n) h = record { ordered = ordered-fewer k ts h.ordered; upto = upto-fewer n k ts h.upto }

@@ -42,11 +42,16 @@ fold-part r (i ∷ items) =
 
 -- a reader that a draft may have begun with
 abbrev reader_before : BatchDraft → Reader
-reader_before d = let some : Tuple = record { stime = 0; vals = [] } in record { stable = replicate d.first some; bound = 0; tentative = some ∷ []; passed = 0 }
+reader_before d = let some : Tuple = record { stime = 0; vals = [] } in record { stable = replicate d.count some; bound = 0; tentative = some ∷ []; passed = 0 }
 
 begins : (d : BatchDraft) → Began (reader_before d) d
-begins d = let some : Tuple = record { stime = 0; vals = [] } in record { first = sym (length-replicate d.first some); held = λ e. refl }
+begins d = let some : Tuple = record { stime = 0; vals = [] } in record { count = sym (length-replicate d.count some); held = λ e. refl }
+
+of-fold : (items : List Item) (old new : BatchDraft) (taken : List Item) → IsFold items old new (Some taken) → IsPart items taken
+of-fold items old new taken f = subst (AreOf items) (f.folded (reader_before old) (begins old)) (fold-part (drafted (reader_before old) old) items)
 
 pub whole-taken : (items : List Item) (old new : BatchDraft) (taken : List Item) → IsFold items old new (Some taken) → length taken ≡ length items → taken ≡ items
-whole-taken items old new taken f e =
-    let part : IsPart items taken = subst (AreOf items) (f.folded (reader_before old) (begins old)) (fold-part (drafted (reader_before old) old) items) in part.whole e
+whole-taken items old new taken f e = let part = of-fold items old new taken f in part.whole e
+
+pub within-taken : (items : List Item) (old new : BatchDraft) (taken : List Item) → IsFold items old new (Some taken) → length taken ≤ length items
+within-taken items old new taken f = let part = of-fold items old new taken f in part.within

@@ -7,20 +7,20 @@ use Rattle.dpc_model.specs.declared.tuples.Tuple.{Tuple}
 use Rattle.dpc_model.specs.declared.tuples.Item.{Item}
 use Rattle.dpc_model.specs.declared.batches.Taken.TheVariants as taken_as
 use Rattle.dpc_model.specs.declared.messages.Sess.{Sess}
-use Rattle.inlet.specs.Drafts.{drafted}
+use Rattle.inlet.specs.Drafts.{folded_of}
 use Rattle.inlet.specs.Forgotten.{Keeps}
 use Rattle.inlet.specs.declared.inlet.Batch.{Batch}
 use Rattle.inlet.specs.declared.inlet.Batch.TheVariants as batch
 
 -- what a batch leaves of the plain inlet, and the answer to it
 abbrev pub left_by : InletState → Batch → AfterBatch
-left_by x (batch.Next d taken) = after_next_batch x (Some (record { after = drafted x.held d; taken = map (λ (item : Bor Item). item.now) taken.items }))
+left_by x (batch.Next d taken) = after_next_batch x (folded_of x.held d (Some (map (λ (item : Bor Item). item.now) taken.items)))
 left_by x batch.Old = record { after = x; answer = taken_as.Old }
 left_by x batch.Broken = after_missing_batch x
 
--- so many stable tuples at most are added
+-- so many items at most were taken
 abbrev pub AddsWithin : ℕ → Batch → Type 0
-AddsWithin n (batch.Next d taken) = length d.stable.items ≤ n
+AddsWithin n (batch.Next d taken) = length taken.items ≤ n
 AddsWithin n batch.Old = Unit {0}
 AddsWithin n batch.Broken = Unit {0}
 

@@ -1,14 +1,14 @@
 -- An inlet that forgot its first stable tuples, beside the plain one that has them all.
-use Rattle.std.specs.Prelude.{◌≡◌, ℕ, ◌+◌, ◌^◌, ◌<◌, if◌then◌else◌, List, [], ◌∷◌, ◌++◌, map, length}
+use Rattle.std.specs.Prelude.{◌≡◌, ℕ, ◌+◌, ◌^◌, ◌<◌, List, ◌++◌, map, length}
 use Rattle.dpc_model.specs.Reading.{tuples_in}
 use Rattle.dpc_model.specs.Inlets.{InletState, take_batch}
 use Rattle.dpc_model.specs.PartStands.{InletValue, with_stable}
-use Rattle.dpc_model.specs.Streams.{is_below}
 use Rattle.dpc_model.specs.declared.tuples.Tuple.{Tuple}
 use Rattle.dpc_model.specs.declared.tuples.Item.{Item}
 use Rattle.dpc_model.specs.declared.batches.Taken.{Taken}
 use Rattle.dpc_model.specs.declared.batches.Taken.TheVariants as taken
 use Rattle.dpc_model.specs.declared.messages.Sess.{Sess}
+pub use Rattle.held_tuples.specs.Runs.{from_first}
 use Rattle.inlet.specs.declared.inlet.Absorbed.{Absorbed}
 use Rattle.inlet.specs.declared.inlet.Absorbed.TheVariants as absorbed
 
@@ -33,8 +33,3 @@ abbrev pub times_of : Taken → Absorbed
 times_of (taken.Used items) = absorbed.Used (map (λ (t : Tuple). t.stime) (tuples_in items))
 times_of taken.Old = absorbed.Old
 times_of taken.Broken = absorbed.Broken
-
--- the tuples from the first one on that is not below b
-abbrev pub from_first : ℕ → List Tuple → List Tuple
-from_first b [] = []
-from_first b (t ∷ ts) = if is_below b t then from_first b ts else t ∷ ts

@@ -24,9 +24,8 @@ pub enum ItemReading {
 /// What the items of a batch add to what is held.
 #[derive(Drop)]
 pub struct BatchDraft {
-    /// How many stable tuples there were before the batch.
-    pub first: u64,
-    pub stable: Vec<Tuple>,
+    /// How many stable tuples there are.
+    pub count: u64,
     pub bound: u64,
     /// Whether tentative tuples were held before the batch, and still are.
     pub held: bool,
@@ -35,14 +34,6 @@ pub struct BatchDraft {
 }
 
 impl BatchDraft {
-    /// How many stable tuples there are.
-    fn count(&self) -> u64
-        requires { self.now.first + length self.now.stable.items < 2 ^ 64 }
-        ensures { result ≡ self.now.first + length self.now.stable.items }
-    {
-        self.first + self.stable.len() as u64
-    }
-
     /// Whether nothing tentative is held or known of.
     fn is_sure(&self) -> bool
         ensures { (base : Reader) → Began base self.now → result ≡ is_sure (drafted base self.now) }
@@ -50,24 +41,18 @@ impl BatchDraft {
         !self.held && self.tentative.is_empty() && self.passed == 0
     }
 
-    fn read_stable(
-        &mut self,
-        alloc: Global,
-        number: u64,
-        tuple: &Tuple,
-    ) -> Result<ItemReading, NoMemory>
-        requires { self.old.first + length self.old.stable.items < 2 ^ 64 }
-        ensures { IfOk result (Reads (item_of.Stable number tuple.now) self.old self.new) }
+    fn read_stable(&mut self, number: u64, tuple: &Tuple) -> ItemReading
+        requires { self.old.count + 1 < 2 ^ 64 }
+        ensures { Reads (item_of.Stable number tuple.now) self.old self.new result }
     {
-        let count = self.count();
-        if number < count {
-            return Ok(ItemReading::Skipped);
+        if number < self.count {
+            return ItemReading::Skipped;
         }
-        if number > count || !self.is_sure() {
-            return Ok(ItemReading::Refused);
+        if number > self.count || !self.is_sure() {
+            return ItemReading::Refused;
         }
-        self.stable.push(tuple.copy(alloc)?)?;
-        Ok(ItemReading::Taken)
+        self.count += 1;
+        ItemReading::Taken
     }
 
     fn read_tentative(&mut self, alloc: Global, tuple: &Tuple) -> Result<ItemReading, NoMemory>
@@ -91,10 +76,9 @@ impl BatchDraft {
     }
 
     fn read_boundary(&mut self, bound: u64, count: u64) -> ItemReading
-        requires { self.old.first + length self.old.stable.items < 2 ^ 64 }
         ensures { Reads (item_of.Boundary bound count) self.old self.new result }
     {
-        if count > self.count() || !self.is_sure() {
+        if count > self.count || !self.is_sure() {
             return ItemReading::Refused;
         }
         if bound <= self.bound {
@@ -125,11 +109,11 @@ impl BatchDraft {
 
     /// Reads one item.
     fn read(&mut self, alloc: Global, item: &Item) -> Result<ItemReading, NoMemory>
-        requires { self.old.first + length self.old.stable.items < 2 ^ 64 }
+        requires { self.old.count + 1 < 2 ^ 64 }
         ensures { IfOk result (Reads item.now self.old self.new) }
     {
         Ok(match item {
-            Item::Stable(number, tuple) => self.read_stable(alloc, *number, tuple)?,
+            Item::Stable(number, tuple) => self.read_stable(*number, tuple),
             Item::Tentative(tuple) => self.read_tentative(alloc, tuple)?,
             Item::Passed(upto) => self.read_passed(*upto),
             Item::Boundary(bound, count) => self.read_boundary(*bound, *count),
@@ -144,7 +128,7 @@ impl BatchDraft {
         alloc: Global,
         items: &'a [Item],
     ) -> Result<Option<Vec<&'a Item>>, NoMemory>
-        requires { self.old.first + length self.old.stable.items + length items.now < 2 ^ 64 }
+        requires { self.old.count + length items.now < 2 ^ 64 }
         ensures { IfOk result (λ taken. IsFold items.now self.old self.new
             (option_map (map (λ (item : Bor Item). item.now)) (option_map (λ taken. taken.items) taken))) }
     {

@@ -1,13 +1,14 @@
 //! The receiving end of one stream.
-ghost use Rattle.std.specs.Prelude.{◌≡◌, ◌+◌, ◌^◌, ◌<◌, ◌||◌, nat_lt, length, IfOk, OnOk, OnErr};
+ghost use Rattle.std.specs.Prelude.{◌≡◌, ◌+◌, ◌^◌, ◌<◌, ◌||◌, ◌++◌, if◌then◌else◌, [], nat_lt, length, IfOk, OnOk, OnErr};
 ghost use Rattle.dpc_model.specs.Inlets.{is_old};
 ghost use Rattle.dpc_model.specs.declared.batches.Taken.{Taken};
+ghost use Rattle.held_tuples.specs.Runs.{stable_in};
 ghost use Rattle.inlet.specs.Drafts.{IsEmpty, committed};
 ghost use Rattle.inlet.specs.Batches.{IsRead};
 ghost use Rattle.inlet.specs.Forgotten.{HasRoom, IsTaken, times_of};
 
 use crate::draft::BatchDraft;
-use crate::items::{append, shared, times};
+use crate::items::{shared, times};
 use crate::tentative::Tentative;
 use dpc_lists::faults::NoMemory;
 use dpc_lists::lists::Listed;
@@ -15,8 +16,8 @@ use dpc_lists::shared::Shared;
 use dpc_model::batches::Taken;
 use dpc_model::messages::Sess;
 use dpc_model::tuples::{Item, Tuple};
+use held_tuples::held::HeldTuples;
 use std::alloc::Global;
-use std::collections::VecDeque;
 use std::marker::Model;
 
 mod held;
@@ -48,7 +49,7 @@ enum Batch<'a> {
 pub struct Inlet {
     /// How many stable tuples there were, dropped ones among them.
     count: u64,
-    kept: VecDeque<Tuple>,
+    kept: HeldTuples,
     bound: u64,
     tentative: Tentative,
     passed: u64,
@@ -70,7 +71,7 @@ impl Model for Inlet {
     ghost view = { λ i. record {
       count = i.count;
       state = record {
-        held = record { stable = i.kept.items; bound = i.bound; tentative = i.tentative; passed = i.passed };
+        held = record { stable = i.kept; bound = i.bound; tentative = i.tentative; passed = i.passed };
         sess = i.sess;
         next = i.next;
         answered = i.answered;
@@ -78,7 +79,35 @@ impl Model for Inlet {
       };
     } };
 
-    ghost invariant = { λ i. length i.kept.items ≤ i.count };
+    ghost invariant = { λ i. length i.kept ≤ i.count };
+}
+
+/// Holds the stable tuples among items, and tentative ones behind those that are held or in their place. Want
+/// of memory changes nothing.
+fn hold(
+    kept: &mut HeldTuples,
+    tentative: &mut Tentative,
+    taken: &Shared<Item>,
+    held: bool,
+    more: Vec<Tuple>,
+) -> Result<(), NoMemory>
+    requires { length kept.old + length taken.now < 2 ^ 64 }
+    ensures kept { OnOk result (kept.new ≡ kept.old ++ stable_in taken.now) }
+    ensures tentative { OnOk result (tentative.new ≡ (if held then tentative.old else []) ++ more.items) }
+    ensures err { OnErr result ((kept.new ≡ kept.old) × (tentative.new ≡ tentative.old)) }
+{
+    if !held {
+        kept.push(taken)?;
+        tentative.replace(more);
+        return Ok(());
+    }
+    let before = tentative.as_slice().len();
+    tentative.append(more)?;
+    if let Err(NoMemory) = kept.push(taken) {
+        tentative.truncate(before);
+        return Err(NoMemory);
+    }
+    Ok(())
 }
 
 impl Inlet {
@@ -113,51 +142,43 @@ impl Inlet {
         if self.is_behind(index) {
             return Ok(Batch::Broken);
         }
-        let mut draft = self.draft(alloc, items.len())?;
+        let mut draft = self.draft(alloc);
         let Some(taken) = draft.fold(alloc, items)? else {
             return Ok(Batch::Broken);
         };
         Ok(Batch::Next(draft, taken))
     }
 
-    /// What the next batch adds, before its first item is read, with room for so many stable tuples.
-    fn draft(&self, alloc: Global, room: usize) -> Result<BatchDraft, NoMemory>
-        ensures { IfOk result (IsEmpty self.now) }
+    /// What the next batch adds, before its first item is read.
+    fn draft(&self, alloc: Global) -> BatchDraft
+        ensures { IsEmpty self.now result }
     {
-        Ok(BatchDraft {
-            first: self.count,
-            stable: Vec::with_capacity(alloc, room)?,
+        BatchDraft {
+            count: self.count,
             bound: self.bound,
             held: !self.tentative.is_empty(),
             tentative: Vec::new(alloc),
             passed: self.passed,
-        })
+        }
     }
 
-    /// Holds what the next batch adds. Want of memory changes nothing.
-    fn commit(&mut self, draft: BatchDraft) -> Result<(), NoMemory>
-        requires count { self.old.count + length draft.stable.items < 2 ^ 64 }
+    /// Holds what the next batch adds, of which these items were taken. Want of memory changes nothing.
+    fn commit(&mut self, draft: BatchDraft, taken: &Shared<Item>) -> Result<(), NoMemory>
+        requires count { self.old.count + length taken.now < 2 ^ 64 }
         requires next { self.old.state.next + 1 < 2 ^ 64 }
-        ensures ok { OnOk result (self.new ≡ committed self.old draft) }
+        ensures ok { OnOk result (self.new ≡ committed self.old draft taken.now) }
         ensures err { OnErr result (self.new ≡ self.old) }
     {
         let BatchDraft {
-            first: _,
-            stable,
+            count: _,
             bound,
             held,
             tentative,
             passed,
         } = draft;
-        let (old_len, count) = (self.kept.len(), stable.len() as u64);
-        append(&mut self.kept, stable)?;
-        if !held {
-            self.tentative.replace(tentative);
-        } else if let Err(NoMemory) = self.tentative.append(tentative) {
-            self.kept.truncate(old_len);
-            return Err(NoMemory);
-        }
-        self.count += count;
+        let before = self.kept.len();
+        hold(&mut self.kept, &mut self.tentative, taken, held, tentative)?;
+        self.count += (self.kept.len() - before) as u64;
         self.bound = bound;
         self.passed = passed;
         self.answered = self.answered || self.next == 0;
@@ -181,7 +202,7 @@ impl Inlet {
         match self.read(alloc, sess, index, items.as_slice())? {
             Batch::Next(draft, taken) => {
                 let taken = shared(alloc, items, taken.as_slice())?;
-                self.commit(draft)?;
+                self.commit(draft, &taken)?;
                 Ok(Taken::Used(taken))
             }
             Batch::Old => Ok(Taken::Old),
@@ -192,24 +213,24 @@ impl Inlet {
         }
     }
 
-    /// Takes a batch as `take` does, for a caller that needs to know the times alone: no item is copied
-    /// but into what is held.
+    /// Takes a batch as `take` does, for a caller that needs to know the times alone.
     pub fn absorb(
         &mut self,
         alloc: Global,
         sess: Sess,
         index: u64,
-        items: &[Item],
+        items: &Shared<Item>,
     ) -> Result<Absorbed, NoMemory>
         requires { HasRoom self.old (length items.now) }
         ensures ok { IfOk result (λ answer. (told : Taken) × (answer ≡ times_of told)
             × IsTaken sess index items.now self.old self.new told) }
         ensures err { OnErr result (self.new ≡ self.old) }
     {
-        match self.read(alloc, sess, index, items)? {
+        match self.read(alloc, sess, index, items.as_slice())? {
             Batch::Next(draft, taken) => {
                 let times = times(alloc, taken.as_slice())?;
-                self.commit(draft)?;
+                let taken = shared(alloc, items, taken.as_slice())?;
+                self.commit(draft, &taken)?;
                 Ok(Absorbed::Used(times))
             }
             Batch::Old => Ok(Absorbed::Old),

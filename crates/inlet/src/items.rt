@@ -1,18 +1,16 @@
-//! The items that were taken of a batch, and the tuples that an inlet lets go.
-ghost use Rattle.std.specs.Prelude.{◌≡◌, ◌≤◌, ◌∷◌, ◌++◌, [], map, option_to_list, length, IfOk, OnOk, OnErr};
+//! The items that were taken of a batch.
+ghost use Rattle.std.specs.Prelude.{◌≡◌, ◌∷◌, [], map, option_to_list, length, IfOk};
 ghost use Rattle.std.specs.Borrow.{Bor};
 ghost use Rattle.dpc_model.specs.Reading.{tuples_in};
 ghost use Rattle.dpc_model.specs.declared.tuples.Tuple.{Tuple};
 ghost use Rattle.dpc_model.specs.declared.tuples.Item.{Item};
-ghost use Rattle.inlet.specs.Forgotten.{from_first};
 
 use dpc_lists::exact::Exact;
 use dpc_lists::faults::NoMemory;
 use dpc_lists::lists::Listed;
 use dpc_lists::shared::Shared;
-use dpc_model::tuples::{Item, Tuple};
+use dpc_model::tuples::Item;
 use std::alloc::{AllocError, Global};
-use std::collections::VecDeque;
 
 /// The items again.
 fn copied(alloc: Global, items: &[&Item]) -> Result<Vec<Item>, AllocError>
@@ -61,31 +59,4 @@ pub fn times(alloc: Global, items: &[&Item]) -> Result<Listed<u64>, AllocError>
         }
     }
     Ok(Listed::from_vec(times))
-}
-
-/// Appends tuples behind those that are kept; where none is, none is moved. Want of memory changes nothing.
-pub fn append(kept: &mut VecDeque<Tuple>, tuples: Vec<Tuple>) -> Result<(), NoMemory>
-    ensures ok { OnOk result (kept.new.items ≡ kept.old.items ++ tuples.items) }
-    ensures err { OnErr result (kept.new.items ≡ kept.old.items) }
-{
-    let mut more = VecDeque::from_vec(tuples);
-    if kept.is_empty() {
-        *kept = more;
-        return Ok(());
-    }
-    kept.append(&mut more)?;
-    Ok(())
-}
-
-/// Lets the first tuples go that are below a time.
-pub fn drop_first_below(tuples: &mut VecDeque<Tuple>, time: u64)
-    ensures from { tuples.new.items ≡ from_first time tuples.old.items }
-    ensures shorter { length tuples.new.items ≤ length tuples.old.items }
-{
-    while let Some(tuple) = tuples.front() {
-        if tuple.stime >= time {
-            return;
-        }
-        tuples.pop_front();
-    }
 }

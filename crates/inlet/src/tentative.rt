@@ -1,5 +1,5 @@
 //! The tentative tuples of a stream.
-ghost use Rattle.std.specs.Prelude.{◌≡◌, ◌++◌, ◌↔◌, List, [], IsTrue, OnOk, OnErr};
+ghost use Rattle.std.specs.Prelude.{◌≡◌, ◌++◌, ◌↔◌, List, [], take, IsTrue, OnOk, OnErr};
 ghost use Rattle.dpc_model.specs.Streams.{InOrder};
 ghost use Rattle.dpc_model.specs.declared.tuples.Tuple.{Tuple};
 ghost use Rattle.inlet.specs.Ordered.{IsUptoIf};
@@ -70,6 +70,13 @@ impl Tentative {
         self.tuples.append(&mut more)?;
         self.last = last;
         Ok(())
+    }
+
+    /// No more than the first `count` tuples.
+    pub fn truncate(&mut self, count: usize)
+        ensures { self.new ≡ take count self.old }
+    {
+        self.tuples.truncate(count);
     }
 
     /// These tuples in the place of all that are there.

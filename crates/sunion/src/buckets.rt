@@ -1,6 +1,6 @@
 //! The tuples of one bucket, port by port.
-ghost use Rattle.std.specs.Prelude.{◌≡◌, ◌+◌, ◌*◌, ◌^◌, ◌<◌, ◌≤◌, ◌++◌, map, length, OnOk, IfOk};
-ghost use Rattle.dpc_model.specs.Streams.{InOrder, count_below};
+ghost use Rattle.std.specs.Prelude.{◌≡◌, ◌+◌, ◌*◌, ◌^◌, ◌<◌, ◌++◌, map, OnOk, IfOk};
+ghost use Rattle.dpc_model.specs.Streams.{InOrder};
 ghost use Rattle.dpc_model.specs.Operators.{between};
 ghost use Rattle.dpc_model.specs.Fragments.{tag, tagged_from, serial};
 ghost use Rattle.sunion.specs.Ports.{bucket_of, KeptInOrder};
@@ -11,53 +11,9 @@ use dpc_model::streams::count_below;
 use dpc_model::tuples::{Tagged, Tuple};
 use inlet::inlet::Inlet;
 use std::alloc::Global;
-use std::collections::VecDeque;
-
-/// The place of the first of the tuples, which are in order of time, that isn't below a time.
-fn first_from(tuples: &VecDeque<Tuple>, time: u64) -> usize
-    ensures within { result ≤ length tuples.now.items }
-    ensures place { InOrder tuples.now.items → result ≡ count_below tuples.now.items time }
-{
-    let mut low = 0;
-    let mut high = tuples.len();
-    while low < high {
-        let middle = low + (high - low) / 2;
-        if tuples[middle].stime < time {
-            low = middle + 1;
-        } else {
-            high = middle;
-        }
-    }
-    low
-}
-
-/// Appends those of the tuples, which are in order of time, that lie from one time on and below another.
-fn push_ordered(
-    alloc: Global,
-    tagged: &mut Vec<Tagged>,
-    port: u64,
-    tuples: &VecDeque<Tuple>,
-    from: u64,
-    upto: u64,
-) -> Result<(), NoMemory>
-    ensures { OnOk result (InOrder tuples.now.items → tagged.new.items ≡ tagged.old.items
-        ++ map (tag port) (between from upto tuples.now.items)) }
-{
-    let mut place = first_from(tuples, from);
-    tagged.reserve(first_from(tuples, upto).saturating_sub(place))?;
-    while let Some(tuple) = tuples.get(place) {
-        if tuple.stime >= upto {
-            break;
-        }
-        let tuple = tuple.copy(alloc)?;
-        tagged.push(Tagged { port, tuple })?;
-        place += 1;
-    }
-    Ok(())
-}
 
 /// Appends those of the tuples that lie from one time on and below another.
-fn push_between(
+fn push_tentative(
     alloc: Global,
     tagged: &mut Vec<Tagged>,
     port: u64,
@@ -105,9 +61,10 @@ pub fn bucket(alloc: Global, ports: &[Inlet], width: u64, k: u64) -> Result<Vec<
     let (from, upto) = (k * width, (k + 1) * width);
     let mut tagged = Vec::new(alloc);
     for (port, inlet) in ports.iter().enumerate() {
-        push_ordered(alloc, &mut tagged, port as u64, inlet.kept(), from, upto)?;
+        let kept = inlet.kept();
+        kept.push_between(alloc, &mut tagged, port as u64, from, upto)?;
         let tentative = tentative_part(inlet, from, upto);
-        push_between(alloc, &mut tagged, port as u64, tentative, from, upto)?;
+        push_tentative(alloc, &mut tagged, port as u64, tentative, from, upto)?;
     }
     tagged.sort_by_key(|tagged| tagged.tuple.stime)?;
     Ok(tagged)

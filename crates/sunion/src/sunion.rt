@@ -12,6 +12,7 @@ use crate::clocks::{Clocks, drop_places, farthest, last_waiting, make_places, st
 use crate::ports::{drop_below, new_ports, restarted_ports};
 use crate::spans::{count_complete, last_reached};
 use dpc_lists::faults::NoMemory;
+use dpc_lists::shared::Shared;
 use dpc_model::messages::{Sess, Subscribe};
 use dpc_model::tuples::{Item, Tagged};
 use inlet::inlet::{Absorbed, Inlet};
@@ -136,7 +137,7 @@ impl SUnion {
         port: usize,
         sess: Sess,
         index: u64,
-        items: &[Item],
+        items: &Shared<Item>,
         now: u64,
     ) -> Result<Verdict, NoMemory>
         requires inside { port < length self.old.union.inlets }
@@ -144,7 +145,8 @@ impl SUnion {
         ensures ok { IfOk result (λ told. IsAccepted port sess index items.now now self.old self.new told) }
         ensures err { OnErr result (self.new ≡ self.old) }
     {
-        make_places(&mut self.clocks, farthest(self.width, self.cursor, items))?;
+        let place = farthest(self.width, self.cursor, items.as_slice());
+        make_places(&mut self.clocks, place)?;
         match self.ports[port].absorb(alloc, sess, index, items)? {
             Absorbed::Used(times) => {
                 stamp(

@@ -99,13 +99,13 @@ fn a_lagging_replica_adds_nothing(rt: HostRuntime) -> Result<(), Fail> {
 #[test]
 fn absorbing_tells_the_times(rt: HostRuntime) -> Result<(), Fail> {
     let alloc = rt.alloc();
-    let items = vec![in alloc;
+    let items = Shared::from_vec(vec![in alloc;
         Item::Stable(0, tuple(alloc, 4, 1)?),
         Item::Boundary(5, 1),
         Item::Tentative(tuple(alloc, 9, 2)?),
-    ]?;
+    ]?)?;
     let mut inlet = Inlet::new(alloc, 1);
-    match inlet.absorb(alloc, sess(1), 0, items.as_slice())? {
+    match inlet.absorb(alloc, sess(1), 0, &items)? {
         Absorbed::Used(times) => assert_eq!(rt; times.as_slice(), [4, 9].as_slice()),
         _ => assert!(rt; false, "nothing was absorbed"),
     }

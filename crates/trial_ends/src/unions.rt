@@ -1,4 +1,5 @@
 //! What no clause says: that calls succeed where there is memory. Values are counted by a person.
+use dpc_lists::shared::Shared;
 use dpc_model::messages::Sess;
 use dpc_model::tuples::{Item, Tagged, Tuple, Vals};
 use std::alloc::{AllocError, Global};
@@ -16,7 +17,7 @@ fn accept(
     union: &mut SUnion,
     port: usize,
     index: u64,
-    items: &[Item],
+    items: &Shared<Item>,
     now: u64,
 ) -> Result<Verdict, Fail> {
     if port >= union.ports() || union.inlet(port).count() >= 100 {
@@ -81,22 +82,22 @@ fn is_bucket(tagged: &[Tagged], wanted: &[(u64, u64, i64)]) -> bool {
 fn buckets_close_and_go(rt: HostRuntime) -> Result<(), Fail> {
     let alloc = rt.alloc();
     let mut union = SUnion::new(alloc, 2, 10, 40, 5, 1)?;
-    let first = vec![in alloc;
+    let first = Shared::from_vec(vec![in alloc;
         Item::Stable(0, tuple(alloc, 3, 1)?),
         Item::Stable(1, tuple(alloc, 13, 2)?),
         Item::Boundary(20, 2),
-    ]?;
-    let second = vec![in alloc;
+    ]?)?;
+    let second = Shared::from_vec(vec![in alloc;
         Item::Stable(0, tuple(alloc, 3, 3)?),
         Item::Boundary(10, 1),
         Item::Tentative(tuple(alloc, 15, 4)?),
         Item::Tentative(tuple(alloc, 13, 5)?),
         Item::Passed(20),
-    ]?;
-    assert!(rt; accept(alloc, &mut union, 0, 0, first.as_slice(), 100)? == Verdict::Used);
-    assert!(rt; accept(alloc, &mut union, 1, 0, second.as_slice(), 103)? == Verdict::Used);
-    assert!(rt; accept(alloc, &mut union, 1, 0, second.as_slice(), 110)? == Verdict::Old);
-    assert!(rt; accept(alloc, &mut union, 1, 3, second.as_slice(), 110)? == Verdict::Broken);
+    ]?)?;
+    assert!(rt; accept(alloc, &mut union, 0, 0, &first, 100)? == Verdict::Used);
+    assert!(rt; accept(alloc, &mut union, 1, 0, &second, 103)? == Verdict::Used);
+    assert!(rt; accept(alloc, &mut union, 1, 0, &second, 110)? == Verdict::Old);
+    assert!(rt; accept(alloc, &mut union, 1, 3, &second, 110)? == Verdict::Broken);
     assert_eq!(rt; union.ready(), 1);
     assert_eq!(rt; (union.overdue(104), union.overdue(105)), (None, Some(1)));
     assert_eq!(rt; (union.due(104), union.due(105)), (Some(1), Some(1)));

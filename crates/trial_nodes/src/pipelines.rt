@@ -15,6 +15,7 @@ use checkpoint_redo::keeper::Keeper;
 use dpc_lists::exact::Exact;
 use dpc_lists::faults::NoMemory;
 use dpc_lists::lists::Listed;
+use dpc_lists::shared::Shared;
 use dpc_model::expressions::{Expr, ExprNode};
 use dpc_model::messages::{Message, NodeState, Sess, Subscribe};
 use dpc_model::operators::{OpKind, OpSpec, Wire};
@@ -100,7 +101,8 @@ fn inputs(alloc: Global) -> Result<SUnion, Fail>
     ]?;
     let mut inputs = SUnion::new(alloc, 1, 10, 20, 5, 1)?;
     let sess = Sess { inc: 1, number: 1 };
-    inputs.accept(alloc, 0, sess, 0, items.as_slice(), 1)?;
+    let batch = Shared::from_vec(items)?;
+    inputs.accept(alloc, 0, sess, 0, &batch, 1)?;
     Ok(inputs)
 }
 

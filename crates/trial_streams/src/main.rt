@@ -34,7 +34,7 @@ fn streamed(alloc: Global, request: Request) -> Result<(usize, usize), Trouble> 
     let mut sent: usize = 0;
     for index in 0..request.tuples / WIDTH {
         let items = batch(alloc, index.saturating_mul(WIDTH))?;
-        sent = sent.saturating_add(pipeline.step(alloc, index, items.as_slice())?);
+        sent = sent.saturating_add(pipeline.step(alloc, index, &items)?);
     }
     Ok((sent, pipeline.kept()))
 }

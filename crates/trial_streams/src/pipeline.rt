@@ -2,6 +2,7 @@
 use dpc_lists::exact::Exact;
 use dpc_lists::faults::NoMemory;
 use dpc_lists::lists::Listed;
+use dpc_lists::shared::Shared;
 use dpc_model::messages::{NodeState, Sess, Subscribe};
 use dpc_model::tuples::{Item, Tuple, Vals};
 use soutput::fresh::Fresh;
@@ -44,7 +45,7 @@ pub struct Pipeline {
 }
 
 /// The next batch of a source: a bucket of tuples from this time on, and the boundary behind them.
-pub fn batch(alloc: Global, time: u64) -> Result<Vec<Item>, Trouble> {
+pub fn batch(alloc: Global, time: u64) -> Result<Shared<Item>, Trouble> {
     let mut items = Vec::new(alloc);
     for i in 0..WIDTH {
         let number = time.saturating_add(i);
@@ -61,7 +62,7 @@ pub fn batch(alloc: Global, time: u64) -> Result<Vec<Item>, Trouble> {
     if items.push(Item::Boundary(end, end)).is_err() {
         return Err(Trouble::NoMemory);
     }
-    Ok(items)
+    Ok(Shared::from_vec(items)?)
 }
 
 /// A reader asks for the whole stream.
@@ -101,7 +102,12 @@ impl Pipeline {
 
     /// Takes the batch of this index, processes what is complete, and lets the readers acknowledge.
     /// How many items were sent.
-    pub fn step(&mut self, alloc: Global, index: u64, items: &[Item]) -> Result<usize, Trouble> {
+    pub fn step(
+        &mut self,
+        alloc: Global,
+        index: u64,
+        items: &Shared<Item>,
+    ) -> Result<usize, Trouble> {
         self.accept(alloc, index, items)?;
         let stable = self.mill(alloc)?;
         let sent = self.give(alloc, stable)?;
@@ -116,7 +122,7 @@ impl Pipeline {
         self.output.buffer().kept().len()
     }
 
-    fn accept(&mut self, alloc: Global, index: u64, items: &[Item]) -> Result<(), Trouble> {
+    fn accept(&mut self, alloc: Global, index: u64, items: &Shared<Item>) -> Result<(), Trouble> {
         if self.inputs.ports() == 0 {
             return Err(Trouble::Odd);
         }

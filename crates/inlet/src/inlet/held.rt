@@ -6,9 +6,8 @@ ghost use Rattle.dpc_model.specs.PartStands.{with_stable};
 ghost use Rattle.inlet.specs.Forgotten.{HasRoom, from_first};
 
 use crate::inlet::Inlet;
-use crate::items::drop_first_below;
 use dpc_model::tuples::Tuple;
-use std::collections::VecDeque;
+use held_tuples::held::HeldTuples;
 
 impl Inlet {
     /// Lets the first stable tuples go that are below a time; how many were let go in all. Where tuples are
@@ -17,7 +16,7 @@ impl Inlet {
         ensures after { self.new ≡ record self.old { state = with_stable (from_first time self.old.state.held.stable) self.old.state } }
         ensures gone { result + length self.new.state.held.stable ≡ self.new.count }
     {
-        drop_first_below(&mut self.kept, time);
+        self.kept.drop_below(time);
         self.count - self.kept.len() as u64
     }
 
@@ -73,8 +72,8 @@ impl Inlet {
     }
 
     /// The last stable tuples, from the first one on that was not dropped.
-    pub fn kept(&self) -> &VecDeque<Tuple>
-        ensures { result.now.items ≡ self.now.state.held.stable }
+    pub fn kept(&self) -> &HeldTuples
+        ensures { result.now ≡ self.now.state.held.stable }
     {
         &self.kept
     }

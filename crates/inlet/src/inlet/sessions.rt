@@ -8,8 +8,8 @@ ghost use Rattle.inlet.specs.Forgotten.{Keeps};
 use crate::inlet::Inlet;
 use crate::tentative::Tentative;
 use dpc_model::messages::{Sess, Subscribe};
+use held_tuples::held::HeldTuples;
 use std::alloc::Global;
-use std::collections::VecDeque;
 
 impl Inlet {
     /// At the opening: the session (inc, 1) is open and answered. It takes no memory.
@@ -18,7 +18,7 @@ impl Inlet {
     {
         Inlet {
             count: 0,
-            kept: VecDeque::new(alloc),
+            kept: HeldTuples::new(alloc),
             bound: 0,
             tentative: Tentative::new(alloc),
             passed: 0,
@@ -36,7 +36,7 @@ impl Inlet {
     {
         Inlet {
             count,
-            kept: VecDeque::new(alloc),
+            kept: HeldTuples::new(alloc),
             bound,
             tentative: Tentative::new(alloc),
             passed: 0,

@@ -13,6 +13,7 @@ use crate::packets::{Mail, Packet};
 use crate::sending::one;
 use actor_lists::lists::place_of;
 use dpc_lists::faults::NoMemory;
+use dpc_lists::shared::Shared;
 use dpc_model::messages::{Beat, Message, NodeState, Sess, Subscribe};
 use dpc_model::tuples::Item;
 use pipeline::snapshots::Snapshot;
@@ -65,7 +66,7 @@ impl Node {
     {
         match message {
             Message::Batch(sess, index, items) => {
-                self.on_batch(alloc, sender, *sess, *index, items.as_slice())?;
+                self.on_batch(alloc, sender, *sess, *index, items)?;
             }
             Message::Subscribe(asked) => return self.on_subscribe(alloc, sender, *asked),
             Message::Truncated(sess, base) => self.on_truncated(alloc, sender, *sess, *base)?,
@@ -87,7 +88,7 @@ impl Node {
         sender: u64,
         sess: Sess,
         index: u64,
-        items: &[Item],
+        items: &Shared<Item>,
     ) -> Result<(), NoMemory>
         requires { (home : Home) × (p : PlainNode) × CanTakeMessage sender self.old (message_of.Batch sess index items.now) home p }
         ensures spent { self.new.spent ≡ self.old.spent }

@@ -16,6 +16,7 @@ ghost use Rattle.pipeline.specs.Messages.{IsTakenAt, IsReopened, HasAnswered};
 use crate::inlets::count_done;
 use crate::pipeline::Pipeline;
 use dpc_lists::faults::NoMemory;
+use dpc_lists::shared::Shared;
 use dpc_model::messages::{Message, NodeState, Sess, Subscribe};
 use dpc_model::tuples::{Item, Items};
 use std::alloc::Global;
@@ -30,7 +31,7 @@ impl Pipeline {
         port: usize,
         sess: Sess,
         index: u64,
-        items: &[Item],
+        items: &Shared<Item>,
         now: u64,
     ) -> Result<Verdict, NoMemory>
         requires inside { port < length self.old.union.union.inlets }

@@ -2,6 +2,7 @@
 use crate::pipelines::{milled, row};
 use dpc_lists::exact::Exact;
 use dpc_lists::faults::NoMemory;
+use dpc_lists::shared::Shared;
 use dpc_model::messages::{Message, NodeState, Sess, Subscribe};
 use dpc_model::tuples::Item;
 use pipeline::pipeline::Pipeline;
@@ -14,7 +15,7 @@ fn taken(
     alloc: Global,
     pipeline: &mut Pipeline,
     index: u64,
-    items: &[Item],
+    items: &Shared<Item>,
 ) -> Result<Option<Verdict>, NoMemory> {
     if pipeline.inputs().ports() == 0 {
         return Ok(None);
@@ -65,11 +66,11 @@ fn is_first(answer: Option<Message>, wanted: &[Item]) -> bool {
 fn a_batch_is_taken_and_a_reader_answered(rt: HostRuntime) -> Result<(), Fail> {
     let alloc = rt.alloc();
     let (mut pipeline, _sends) = milled(alloc)?;
-    let batch = [
+    let batch = Shared::from_vec(vec![in alloc;
         Item::Undo(1),
         Item::Stable(1, row(alloc, 15)?),
         Item::Boundary(20, 2),
-    ];
+    ]?)?;
     let verdict = taken(alloc, &mut pipeline, 1, &batch)?;
     assert!(rt; verdict == Some(Verdict::Used) && counted(&pipeline) == (2, 1));
     let wanted = [Item::Stable(0, row(alloc, 3)?), Item::Boundary(10, 1)];

@@ -21,9 +21,9 @@ loop-port-preserved c = λ o.
     let from = c.args.k * c.args.width in
     let upto = (c.args.k + 1) * c.args.width in
     let ordered = kept-at ports i port o c.loop-port-test.true c.index-ports-port.is in
-    let stable : c.push_ordered.new.tagged.items ≡ c.loop-port.tagged.items ++ map (tag i) (between from upto port.state.held.stable) =
-    c.in_ok-push_ordered.ensures (subst InOrder (sym c.kept.ensures) ordered) ∙ ap (λ (ts : List Tuple). c.loop-port.tagged.items ++ map (tag i) (between from upto ts)) c.kept.ensures in
-    let tentative : c.push_between.new.tagged.items ≡ c.push_ordered.new.tagged.items ++ map (tag i) (between from upto port.state.held.tentative) = search rules in
+    let stable : c.push_between.new.tagged.items ≡ c.loop-port.tagged.items ++ map (tag i) (between from upto port.state.held.stable) =
+    c.in_ok-push_between.ensures (subst InOrder (sym c.kept-kept.ensures) ordered) ∙ ap (λ (ts : List Tuple). c.loop-port.tagged.items ++ map (tag i) (between from upto ts)) c.kept-kept.ensures in
+    let tentative : c.push_tentative.new.tagged.items ≡ c.push_between.new.tagged.items ++ map (tag i) (between from upto port.state.held.tentative) = search rules in
     tentative
     ∙ ap (λ (xs : List Tagged). xs ++ map (tag i) (between from upto port.state.held.tentative))
     (stable ∙ ap (λ (xs : List Tagged). xs ++ map (tag i) (between from upto port.state.held.stable)) (c.loop-port.invariant o))

@@ -4,5 +4,5 @@ use Rattle.trial_nodes.proofs.pipelines.inputs.Goals as goal
 
 pub returns-clause-ready : goal.returns-clause-ready
 returns-clause-ready c =
-    (fed c.in_ok-inputs.inputs c.accept.new.self c.in_ok-accept.field-0 c.as_slice.result.now c.in_ok-first.first c.in_ok-second.second c.in_ok-inputs.ensures
-    (c.as_slice.ensures.value ∙ c.in_ok-items.ensures.items) c.in_ok-second.ensures c.in_ok-accept.ensures.ok).1
+    (fed c.in_ok-inputs.inputs c.accept.new.self c.in_ok-accept.field-0 c.in_ok-batch.batch c.in_ok-first.first c.in_ok-second.second c.in_ok-inputs.ensures
+    (c.in_ok-batch.ensures ∙ c.in_ok-items.ensures.items) c.in_ok-second.ensures c.in_ok-accept.ensures.ok).1

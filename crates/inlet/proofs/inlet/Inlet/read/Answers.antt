@@ -10,10 +10,10 @@ returns-then-is_behind c = reads-behind c.args.sess c.args.index c.args.items.no
 
 pub returns-in_default : goal.returns-in_default
 returns-in_default c =
-    reads-refused c.args.sess c.args.index c.args.items.now c.args.self.now c.in_ok-draft.draft c.fold.new.self (sym c.if-is_old.ensures) (sym c.if-is_behind.ensures) c.in_ok-draft.ensures
+    reads-refused c.args.sess c.args.index c.args.items.now c.args.self.now c.draft-draft.result c.fold.new.self (sym c.if-is_old.ensures) (sym c.if-is_behind.ensures) c.draft-draft.ensures
     (rw c.in_default.is at c.in_ok-taken.ensures)
 
 pub returns : goal.returns
 returns c =
-    reads-taken c.args.sess c.args.index c.args.items.now c.args.self.now c.in_ok-draft.draft c.fold.new.self c.in-Some.taken (sym c.if-is_old.ensures) (sym c.if-is_behind.ensures) c.in_ok-draft.ensures
+    reads-taken c.args.sess c.args.index c.args.items.now c.args.self.now c.draft-draft.result c.fold.new.self c.in-Some.taken (sym c.if-is_old.ensures) (sym c.if-is_behind.ensures) c.draft-draft.ensures
     (rw c.in-Some.is at c.in_ok-taken.ensures)

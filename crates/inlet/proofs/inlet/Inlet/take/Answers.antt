@@ -3,6 +3,7 @@ use Rattle.std.specs.Borrow.{Bor}
 use Rattle.dpc_model.specs.declared.tuples.Item.{Item}
 use Rattle.dpc_model.specs.declared.batches.Taken.TheVariants as taken_as
 use Rattle.inlet.specs.Batches.{IsRead}
+use Rattle.inlet.specs.Drafts.{committed}
 use Rattle.inlet.specs.Forgotten.{IsTaken}
 use Rattle.inlet.specs.declared.inlet.Batch.TheVariants as batch
 use Rattle.inlet.proofs.Taking.{takes-next}
@@ -21,4 +22,4 @@ returns-in_ok-commit-in-Next-clause-ok c =
     let told = c.in_ok-taken-in-Next.ensures ∙ ap values c.as_slice-in-Next.ensures.value in
     let read : IsRead c.args.sess c.args.index c.args.items.now c.args.self.now (batch.Next c.in-Next.draft c.in-Next.taken) = rw (c.in-Next.is, c.as_slice.ensures) at c.in_ok-draft.ensures in
     subst (λ (items : List Item). IsTaken c.args.sess c.args.index c.args.items.now c.args.self.now c.commit.new.self (taken_as.Used items)) (sym told)
-    (takes-next c.args.sess c.args.index c.args.items.now c.args.self.now c.commit.new.self c.in-Next.draft c.in-Next.taken read c.in_ok-commit-in-Next.ensures.ok)
+    (takes-next c.args.sess c.args.index c.args.items.now c.args.self.now c.commit.new.self c.in-Next.draft c.in-Next.taken read (c.in_ok-commit-in-Next.ensures.ok ∙ ap (λ (items : List Item). committed c.args.self.now c.in-Next.draft items) told))

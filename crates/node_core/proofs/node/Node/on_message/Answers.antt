@@ -1,7 +1,5 @@
-use Rattle.std.proofs.Common.{◌∙◌, sym, subst, ap, refl, List}
-use Rattle.dpc_model.specs.declared.tuples.Item.{Item}
+use Rattle.std.proofs.Common.{subst, refl}
 use Rattle.dpc_model.specs.declared.messages.Message.{Message}
-use Rattle.dpc_model.specs.declared.messages.Message.TheVariants as message_of
 use Rattle.node_core.specs.Stepping.{CanTakeMessage}
 use Rattle.node_core.proofs.Answering.{if-ok}
 use Rattle.node_core.proofs.Granting.{told-by, silent-by}
@@ -26,9 +24,8 @@ pub returns-clause-taken : goal.returns-clause-taken
 returns-clause-taken c = λ home p can.
     elim c.match-message.branch [
       | in-Batch+in_ok-on_batch-in-Batch w ↦
-          let is = w.in-Batch.is ∙ ap (λ (items : List Item). message_of.Batch w.in-Batch.sess w.in-Batch.index items) (sym w.as_slice.ensures) in
-          silent-by home p _ c.args.sender _ c.match-message.self _ _ _ is w.self-is
-          (w.in_ok-on_batch-in-Batch.ensures.taken home p (subst (λ (m : Message). CanTakeMessage c.args.sender c.args.self.now m home p) is can)) c.new.ensures.items refl
+          silent-by home p _ c.args.sender _ c.match-message.self _ _ _ w.in-Batch.is w.self-is
+          (w.in_ok-on_batch-in-Batch.ensures.taken home p (subst (λ (m : Message). CanTakeMessage c.args.sender c.args.self.now m home p) w.in-Batch.is can)) c.new.ensures.items refl
       | in-Truncated+in_ok-on_truncated-in-Truncated w ↦
           silent-by home p _ c.args.sender _ c.match-message.self _ _ _ w.in-Truncated.is w.self-is (w.in_ok-on_truncated-in-Truncated.ensures.after home p can.stands can.fit) c.new.ensures.items refl
       | in-Beat w ↦ silent-by home p _ c.args.sender _ c.match-message.self _ _ _ w.in-Beat.is w.self-is (w.on_beat.ensures.after home p can.stands can.fit) c.new.ensures.items refl

@@ -1,7 +1,7 @@
 use Rattle.std.proofs.Common.{◌≡◌, ◌++◌, map, take}
 use Rattle.dpc_model.specs.Operators.{between}
 use Rattle.dpc_model.specs.Fragments.{tag}
-use Rattle.sunion.proofs.buckets.push_between.Given as goal
+use Rattle.sunion.proofs.buckets.push_tentative.Given as goal
 
 -- the tuples so far
 abbrev pub invariant-loop-tuple : goal.invariant-loop-tuple

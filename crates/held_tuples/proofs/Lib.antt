@@ -1,0 +1,4 @@
+mod Dropping
+mod Joined
+pub mod Parts
+mod Searching
