@@ -1,0 +1,86 @@
+use Rattle.std.proofs.Common.{◌≡◌, ◌∙◌, ◌++◌, ◌∷◌, [], Bool, true, length, sym, subst, ap, Err}
+use Rattle.dpc_lists.proofs.Truths.{true-not-false}
+use Rattle.dpc_model.specs.declared.messages.Event.{Event}
+use Rattle.dpc_model.specs.declared.messages.Event.TheVariants as event
+use Rattle.dpc_model.specs.declared.scripts.Script.{Script}
+use Rattle.fragment_mill.specs.Mills.{MillState}
+use Rattle.mill_work.specs.Milling.{OrderValue}
+use Rattle.world_model.specs.Worlds.{World, happens}
+use Rattle.world_model.specs.Schedules.{progress, may, is_live_so_far}
+use Rattle.world_core.specs.Handing.{IsStaleAt, is_loss}
+use Rattle.world_core.specs.Runs.{RunOf, world_of}
+use Rattle.world_core.specs.declared.faults.CommitFault.TheVariants as fault
+use Rattle.law_schedules.proofs.Journals.{progress-run}
+use Rattle.live_run.specs.Courses.{IsOf, Stands}
+use Rattle.live_run.specs.Lives.{LiveRunOf, script_of, world_in}
+use Rattle.live_run.proofs.Lives.{may_told, next_live, next_world, next_course}
+use Rattle.live_run.proofs.Work.{left_by, same_fault}
+use Rattle.live_run.proofs.run.LiveRun.commit.Goals as goal
+
+pub invariant_of-self-in-Err : goal.invariant_of-self-in-Err
+invariant_of-self-in-Err c =
+    let t = c.self.inside.timetable in
+    let w : RunOf = c.self.inside.world in
+    let script : Script = script_of w.plan t in
+    let before = c.self.invariant.2 c.if-self.false in
+    let ok : c.commit.new.self ≡ record w { spent = is_loss c.in-Err.fault } =
+    left_by c.in-Err.fault w c.commit.new.self before.0 c.in-Err.ensures.lost (λ had needed e. (c.in-Err.ensures.stale had needed (ap Err e)).0) in (
+      subst (λ (r : RunOf). is_live_so_far (script_of r.plan t) r.events ≡ true) (sym ok) c.self.invariant.0,
+      subst (λ (r : RunOf). IsOf (script_of r.plan t) t) (sym ok) c.self.invariant.1,
+      λ h. (
+        ap (λ (r : RunOf). r.spent) ok ∙ sym c.is_loss-self-inside.ensures ∙ h,
+        subst (λ (r : RunOf). Stands c.self.inside.course (progress (script_of r.plan t) r.events)) (sym ok) before.1,
+      ),
+    )
+
+pub returns-in-Err-clause-stale : goal.returns-in-Err-clause-stale
+returns-in-Err-clause-stale c = λ had needed told.
+    let t = c.self.inside.timetable in
+    let w : RunOf = c.self.inside.world in
+    let script : Script = script_of w.plan t in
+    let before = c.self.invariant.2 c.if-self.false in
+    let why : c.in-Err.fault ≡ fault.Stale had needed = same_fault c.in-Err.fault (fault.Stale had needed) told in
+    let at = c.in-Err.ensures.stale had needed (ap Err why) in
+    let seen : RunOf → LiveRunOf = λ r. record { script = script_of r.plan t; events = r.events; spent = c.is_loss-self-inside.result } in
+    let whole : Bool → LiveRunOf = λ b. record { script = script; events = w.events; spent = b } in
+    let with_spent : Bool → RunOf = λ b. record w { spent = b } in
+    let here : w ≡ world_in c.args.self.now = ap with_spent (before.0 ∙ sym c.if-self.false) ∙ ap world_in c.self.view_is in (
+      ap seen at.0 ∙ ap whole (c.is_loss-self-inside.ensures ∙ ap is_loss why ∙ sym c.if-self.false) ∙ c.self.view_is,
+      subst (λ (r : RunOf). IsStaleAt r c.args.milled.order had needed) here at.1,
+    )
+
+pub invariant_of-self-in_err-note : goal.invariant_of-self-in_err-note
+invariant_of-self-in_err-note c =
+    let t = c.self.inside.timetable in
+    let w : RunOf = c.self.inside.world in
+    let script : Script = script_of w.plan t in
+    let m : Event = event.Mill c.args.milled.order.node (length c.args.milled.order.buckets) in
+    let is : c.in-Ok.e ≡ m = c.in-Ok.ensures ∙ ap (λ (o : OrderValue MillState). event.Mill o.node (length o.buckets)) c.order.ensures in
+    let told : may script w.events c.in-Ok.e ≡ true = subst (λ (r : LiveRunOf). may r.script r.events c.in-Ok.e ≡ true) (sym c.self.view_is) (sym c.may.ensures ∙ c.if-not-may.false) in
+    let next : Event → RunOf = λ e. record w { events = w.events ++ e ∷ [] } in
+    let ok : c.commit.new.self ≡ next c.in-Ok.e = c.in_default-commit.ensures.ok ∙ ap next (sym is) in (
+      subst (λ (r : RunOf). is_live_so_far (script_of r.plan t) r.events ≡ true) (sym ok) (next_live script w.events c.in-Ok.e c.self.invariant.0 told),
+      subst (λ (r : RunOf). IsOf (script_of r.plan t) t) (sym ok) c.self.invariant.1,
+      λ h. absurd (true-not-false h),
+    )
+
+pub invariant_of-self-2 : goal.invariant_of-self-2
+invariant_of-self-2 c =
+    let t = c.self.inside.timetable in
+    let w : RunOf = c.self.inside.world in
+    let script : Script = script_of w.plan t in
+    let m : Event = event.Mill c.args.milled.order.node (length c.args.milled.order.buckets) in
+    let is : c.in-Ok.e ≡ m = c.in-Ok.ensures ∙ ap (λ (o : OrderValue MillState). event.Mill o.node (length o.buckets)) c.order.ensures in
+    let told : may script w.events c.in-Ok.e ≡ true = subst (λ (r : LiveRunOf). may r.script r.events c.in-Ok.e ≡ true) (sym c.self.view_is) (sym c.may.ensures ∙ c.if-not-may.false) in
+    let next : Event → RunOf = λ e. record w { events = w.events ++ e ∷ [] } in
+    let ok : c.commit.new.self ≡ next c.in-Ok.e = c.in_default-commit.ensures.ok ∙ ap next (sym is) in
+    let before = c.self.invariant.2 c.if-self.false in
+    let world : world_of c.commit.new.self ≡ happens (progress script w.events).world c.in-Ok.e = ap world_of ok ∙ next_world script w.events c.in-Ok.e in
+    let sent = c.envelope_count-sent.ensures ∙ ap (λ (v : World). length v.envelopes) (sym (progress-run script w.events)) in
+    let after : Stands c.note.new.self (progress script (w.events ++ c.in-Ok.e ∷ [])) =
+    next_course script w.events c.in-Ok.e c.note.new.self
+    (c.in_ok-note.ensures script (progress script w.events) c.self.invariant.1 world sent (may_told script w.events c.in-Ok.e ∙ told) before.1) in (
+      subst (λ (r : RunOf). is_live_so_far (script_of r.plan t) r.events ≡ true) (sym ok) (next_live script w.events c.in-Ok.e c.self.invariant.0 told),
+      subst (λ (r : RunOf). IsOf (script_of r.plan t) t) (sym ok) c.self.invariant.1,
+      λ h. (ap (λ (r : RunOf). r.spent) ok ∙ before.0, subst (λ (r : RunOf). Stands c.note.new.self (progress (script_of r.plan t) r.events)) (sym ok) after),
+    )
