@@ -1,5 +1,5 @@
 -- A mill over one bucket, stage by stage.
-use Rattle.std.proofs.Common.{◌≡◌, ℕ, zero, suc, ◌+◌, ◌*◌, ◌<◌, ◌≤◌, true, false, List, [], ◌∷◌, ◌++◌, map, length, take, get_or, set, None, unwrap_or, refl, sym, ◌∙◌, ap, subst, ⊎_elim, arith, All}
+use Rattle.std.proofs.Common.{◌≡◌, ℕ, zero, suc, ◌+◌, ◌*◌, ◌<◌, ◌≤◌, true, false, List, [], ◌∷◌, ◌++◌, map, length, take, get_or, set, Option, None, Some, unwrap_or, refl, sym, ◌∙◌, ap, subst, ⊎_elim, arith, All}
 use Rattle.std.proofs.lemmas.Bool.{cases_lt}
 use Rattle.std.proofs.lemmas.List.{map-append, take_more, take_all, length-map, get_or-set_same, get_or-set_other}
 use Rattle.std.proofs.lemmas.List.Elements.{All-set, recursion_from_All}
@@ -18,7 +18,7 @@ use Rattle.dpc_model.proofs.IdealCausality.{cut-fragment_value}
 use Rattle.dpc_model.proofs.FragmentValues.{outputs-more}
 use Rattle.dpc_model.proofs.Order.{fragment-InOrder}
 use Rattle.dpc_model.proofs.Kept.{last-mapped}
-use Rattle.fragment_mill.specs.Mills.{kind_of, width_of, next_of, spent_of, OperatorAfter, MillState, spec_of, specs_of, inputs_of, MillAfter}
+use Rattle.fragment_mill.specs.Mills.{kind_of, width_of, next_of, spent_of, OperatorAfter, MillState, spec_of, specs_of, inputs_of, MillAfter, mill_added}
 use Rattle.fragment_mill.specs.Milling.{added_of, IsFit, IsMill}
 use Rattle.fragment_mill.specs.declared.mill.Stage.{Stage}
 use Rattle.fragment_mill.proofs.Operators.{Accepts-from, next-after}
@@ -87,23 +87,34 @@ outputs_of-more ss i d xs b h =
     take_more (specs_of ss) i (spec_of d) inside ∙ ap (λ (op : OpSpec). take i (specs_of ss) ++ op ∷ []) (get_or-map spec_of ss i d) in
     ap (λ (ops : List OpSpec). outputs_after [] ops xs b) more ∙ outputs-more [] (take i (specs_of ss)) (spec_of (get_or ss i d)) xs b
 
+-- the last one that was pushed
+last-pushed : (d : Option (List Tuple)) (xss : List (List Tuple)) (ts : List Tuple) → unwrap_or (last_or d (xss ++ ts ∷ [])) [] ≡ ts
+last-pushed d [] ts = refl
+last-pushed d (us ∷ xss) ts = last-pushed (Some us) xss ts
+
 -- ---- over one bucket
 
--- after i stages: what they added, and what they took, whatever the mill had taken before
-pub record Running (m : MillState) (inputs : List Tagged) (k i : ℕ) (news : List Stage) (outs : List (List Tuple)) : Type 0 where
+-- after i stages: what they took, whatever the mill had taken before
+pub record Stood (m : MillState) (inputs : List Tagged) (k i : ℕ) (news : List Stage) : Type 0 where
   pub renewed : Renewed m.width i m.stages news
   pub idle : (j : ℕ) (d : Stage) → j < i → spent_of (get_or news j d).operator ≡ false
-  pub gave : (before : List Tagged) → MillAfter m before k →
-      outs ≡ map (λ (ts : List Tuple). from_time (k * m.width) ts) (outputs_of (specs_of m.stages) i (before ++ inputs) ((k + 1) * m.width))
   pub took : (before : List Tagged) → MillAfter m before k → (j : ℕ) (d : Stage) → j < i →
       OperatorAfter (get_or news j d).operator (inputs_of (before ++ inputs) (outputs_of (specs_of m.stages) j (before ++ inputs) ((k + 1) * m.width)) (get_or m.stages j d).reads) (k + 1)
 
+-- and what they added
+pub record Running (m : MillState) (inputs : List Tagged) (k i : ℕ) (news : List Stage) (outs : List (List Tuple)) : Type 0 where
+  pub stood : Stood m inputs k i news
+  pub gave : (before : List Tagged) → MillAfter m before k →
+      outs ≡ map (λ (ts : List Tuple). from_time (k * m.width) ts) (outputs_of (specs_of m.stages) i (before ++ inputs) ((k + 1) * m.width))
+
 pub Running-none : (m : MillState) (inputs : List Tagged) (k : ℕ) → All (IsFit m.width) m.stages → Running m inputs k 0 m.stages []
 Running-none m inputs k fits = record {
-  renewed = Renewed-none m.width m.stages fits;
-  idle = λ j d l. absurd (omega (arith, l));
+  stood = record {
+    renewed = Renewed-none m.width m.stages fits;
+    idle = λ j d l. absurd (omega (arith, l));
+    took = λ before h j d l. absurd (omega (arith, l));
+  };
   gave = λ before h. refl;
-  took = λ before h j d l. absurd (omega (arith, l));
 }
 
 -- what the mill took
@@ -118,7 +129,7 @@ module _ (m : MillState) (inputs : List Tagged) (k i : ℕ) (s : Stage) (news : 
 
   -- it stands as it stood
   here : s ≡ get_or m.stages i s
-  here = at ∙ r.renewed.waiting i s (omega arith)
+  here = at ∙ r.stood.renewed.waiting i s (omega arith)
 
   fit : IsFit m.width s
   fit = subst (λ (u : Stage). IsFit m.width u) (sym here) (mill.fits i s l)
@@ -141,41 +152,78 @@ module _ (m : MillState) (inputs : List Tagged) (k i : ℕ) (s : Stage) (news : 
       rw (r.gave t.0 t.1) (Accepts-from m.width k (width_of s.operator) _ fit.width (record { bucket = lies; end = bucket.end }))
 
   pub Running-renewed : (t : Stage) → spec_of t ≡ spec_of s → ((w : ℕ) → IsFit w s → IsFit w t) → Renewed m.width (i + 1) m.stages (set news i t)
-  Running-renewed t spec fits = Renewed-more m.width i s t m.stages news r.renewed at spec (fits m.width fit)
+  Running-renewed t spec fits = Renewed-more m.width i s t m.stages news r.stood.renewed at spec (fits m.width fit)
 
-  pub Running-more : (t : Stage) (more : List (List Tuple)) →
-      ((before : List Tagged) → OperatorAfter s.operator before k → more ≡ push outs (added_of s.operator before (inputs_of inputs outs s.reads) k)) →
+  -- what the stages took, with this one
+  pub Stood-more : (t : Stage) →
       ((before : List Tagged) → OperatorAfter s.operator before k → OperatorAfter t.operator (before ++ inputs_of inputs outs s.reads) (k + 1)) →
-      spent_of t.operator ≡ false → spec_of t ≡ spec_of s → ((w : ℕ) → IsFit w s → IsFit w t) → Running m inputs k (i + 1) (set news i t) more
-  Running-more t more answer after rested spec fits =
+      spent_of t.operator ≡ false → spec_of t ≡ spec_of s → ((w : ℕ) → IsFit w s → IsFit w t) → Stood m inputs k (i + 1) (set news i t)
+  Stood-more t after rested spec fits =
       let end = (k + 1) * m.width in
       record {
         renewed = Running-renewed t spec fits;
-        idle = below-more (λ (u : Stage). spent_of u.operator ≡ false) i t news (omega (arith, l, specs-length m.stages news r.renewed.specs)) r.idle rested;
-        gave = λ before h.
-            let given = r.gave before h in
-            let stood = inputs_of before (outputs_of ops i before (k * m.width)) s.reads in
-            let whole = output_of (kind_of s.operator) (map (read_wire (before ++ inputs) (outputs_of ops i (before ++ inputs) end)) s.reads) end in
-            let out-is : added_of s.operator stood (inputs_of inputs outs s.reads) k ≡ from_time (k * m.width) whole =
-            rw given (added-output m.width k before inputs (take i ops) s h.below h.ordered bucket.bucket sound fit) in
-            let one : outputs_of ops (i + 1) (before ++ inputs) end ≡ push (outputs_of ops i (before ++ inputs) end) whole =
-            outputs_of-more m.stages i s (before ++ inputs) end l
-            ∙ ap (λ (u : Stage). push (outputs_of ops i (before ++ inputs) end) (output_of (kind_of u.operator) (map (read_wire (before ++ inputs) (outputs_of ops i (before ++ inputs) end)) u.reads) end)) (sym here) in
-            answer stood (ready before h) ∙ ap (λ (ts : List Tuple). push outs ts) out-is
-            ∙ rw (given, one) (sym (map-append (λ (ts : List Tuple). from_time (k * m.width) ts) (outputs_of ops i (before ++ inputs) end) (whole ∷ [])));
+        idle = below-more (λ (u : Stage). spent_of u.operator ≡ false) i t news (omega (arith, l, specs-length m.stages news r.stood.renewed.specs)) r.stood.idle rested;
         took = λ before h j e low. ⊎_elim
             (λ (below : j < i).
             subst (λ (u : Stage). OperatorAfter u.operator (inputs_of (before ++ inputs) (outputs_of ops j (before ++ inputs) end) (get_or m.stages j e).reads) (k + 1))
-            (sym (get_or-set_other news i j t e (λ same. omega (arith, below, same)))) (r.took before h j e below))
+            (sym (get_or-set_other news i j t e (λ same. omega (arith, below, same)))) (r.stood.took before h j e below))
             (λ (least : i ≤ j).
             let same : j ≡ i = omega (arith, low, least) in
-            let inside : i < length news = omega (arith, l, specs-length m.stages news r.renewed.specs) in
+            let inside : i < length news = omega (arith, l, specs-length m.stages news r.stood.renewed.specs) in
             let split = inputs-split m.width k before inputs (take i ops) s h.below h.ordered bucket.bucket sound in
             let taken = rw (r.gave before h, split) at (after (inputs_of before (outputs_of ops i before (k * m.width)) s.reads) (ready before h)) in
             rw (same, get_or-set_same news i t e inside, get_or-any i e s m.stages l)
             (subst (λ (u : Stage). OperatorAfter t.operator (inputs_of (before ++ inputs) (outputs_of ops i (before ++ inputs) end) u.reads) (k + 1)) here taken))
             (cases_lt j i);
       }
+
+  -- what this stage had taken, where the mill had taken these
+  abbrev pub stood_of : List Tagged → List Tagged
+  stood_of before = inputs_of before (outputs_of ops i before (k * m.width)) s.reads
+
+  pub Running-ready : (before : List Tagged) → MillAfter m before k → OperatorAfter s.operator (stood_of before) k
+  Running-ready = ready
+
+  -- its whole output
+  abbrev whole_of : List Tagged → List Tuple
+  whole_of before = output_of (kind_of s.operator) (map (read_wire (before ++ inputs) (outputs_of ops i (before ++ inputs) ((k + 1) * m.width))) s.reads) ((k + 1) * m.width)
+
+  adds : (before : List Tagged) → MillAfter m before k → added_of s.operator (stood_of before) (inputs_of inputs outs s.reads) k ≡ from_time (k * m.width) (whole_of before)
+  adds before h = rw (r.gave before h) (added-output m.width k before inputs (take i ops) s h.below h.ordered bucket.bucket sound fit)
+
+  outputs-are : (before : List Tagged) → outputs_of ops (i + 1) (before ++ inputs) ((k + 1) * m.width) ≡ push (outputs_of ops i (before ++ inputs) ((k + 1) * m.width)) (whole_of before)
+  outputs-are before =
+      let end = (k + 1) * m.width in
+      outputs_of-more m.stages i s (before ++ inputs) end l
+      ∙ ap (λ (u : Stage). push (outputs_of ops i (before ++ inputs) end) (output_of (kind_of u.operator) (map (read_wire (before ++ inputs) (outputs_of ops i (before ++ inputs) end)) u.reads) end)) (sym here)
+
+  pub Running-more : (t : Stage) (more : List (List Tuple)) →
+      ((before : List Tagged) → OperatorAfter s.operator before k → more ≡ push outs (added_of s.operator before (inputs_of inputs outs s.reads) k)) →
+      ((before : List Tagged) → OperatorAfter s.operator before k → OperatorAfter t.operator (before ++ inputs_of inputs outs s.reads) (k + 1)) →
+      spent_of t.operator ≡ false → spec_of t ≡ spec_of s → ((w : ℕ) → IsFit w s → IsFit w t) → Running m inputs k (i + 1) (set news i t) more
+  Running-more t more answer after rested spec fits =
+      record {
+        stood = Stood-more t after rested spec fits;
+        gave = λ before h.
+            answer (stood_of before) (ready before h) ∙ ap (λ (ts : List Tuple). push outs ts) (adds before h)
+            ∙ rw (r.gave before h, outputs-are before) (sym (map-append (λ (ts : List Tuple). from_time (k * m.width) ts) (outputs_of ops i (before ++ inputs) ((k + 1) * m.width)) (whole_of before ∷ [])));
+      }
+
+  -- what the last stage adds is what the mill does
+  pub Running-adds : i + 1 ≡ length m.stages → (before : List Tagged) → MillAfter m before k →
+      added_of s.operator (stood_of before) (inputs_of inputs outs s.reads) k ≡ mill_added m before inputs k
+  Running-adds last before h =
+      let end = (k + 1) * m.width in
+      let all : take (i + 1) ops ≡ ops = take_all (i + 1) ops (omega (arith, last, length-map m.stages spec_of)) in
+      let sound-ops = rw all at (sound-take m.width (i + 1) m.stages mill.fits) in
+      let ordered = inputs-ordered m.width k before inputs h.ordered h.below bucket.bucket in
+      let whole : engine_value ops (before ++ inputs) end ≡ whole_of before =
+      ap (λ (os : List OpSpec). unwrap_or (last_or None (outputs_after [] os (before ++ inputs) end)) []) (sym all)
+      ∙ ap (λ (xss : List (List Tuple)). unwrap_or (last_or None xss) []) (outputs-are before)
+      ∙ last-pushed None (outputs_of ops i (before ++ inputs) end) (whole_of before) in
+      adds before h ∙ ap (λ (ts : List Tuple). from_time (k * m.width) ts) (sym whole)
+      ∙ sym (added-is (engine_value ops) m.width k before inputs (λ xs b b' le. cut-fragment_value ops xs b b' sound-ops le)
+      (fragment-InOrder ops (before ++ inputs) end ordered) h.below bucket.bucket.inside)
 
 -- all stages of a mill took the bucket
 module _ (m : MillState) (inputs : List Tagged) (k i : ℕ) (news : List Stage) (outs : List (List Tuple)) (mill : IsMill m) (bucket : FitsBucket m.width k inputs)
@@ -194,13 +242,16 @@ module _ (m : MillState) (inputs : List Tagged) (k i : ℕ) (news : List Stage) 
       ∙ sym (added-is (engine_value ops) m.width k before inputs (λ xs b b' le. cut-fragment_value ops xs b b' sound le)
       (fragment-InOrder ops (before ++ inputs) end ordered) h.below bucket.bucket.inside)
 
+-- all stages took it
+module _ (m : MillState) (inputs : List Tagged) (k i : ℕ) (news : List Stage) (mill : IsMill m) (bucket : FitsBucket m.width k inputs)
+    (r : Stood m inputs k i news) (l : length m.stages ≤ i) where
   -- the mill before the next bucket
   abbrev pub milled : ℕ → MillState
   milled w = record { width = w; stages = news; next = k + 1; spent = false }
 
   -- it took it
-  pub Running-after : (w : ℕ) → w ≡ m.width → (before : List Tagged) → MillAfter m before k → MillAfter (milled w) (before ++ inputs) (k + 1)
-  Running-after w e before h = rw e (record {
+  pub Stood-after : (w : ℕ) → w ≡ m.width → (before : List Tagged) → MillAfter m before k → MillAfter (milled w) (before ++ inputs) (k + 1)
+  Stood-after w e before h = rw e (record {
     next = refl;
     below = LiesBelow-next m.width k before inputs h.below bucket.bucket.inside;
     ordered = inputs-ordered m.width k before inputs h.ordered h.below bucket.bucket;
@@ -209,13 +260,13 @@ module _ (m : MillState) (inputs : List Tagged) (k i : ℕ) (news : List Stage) 
         rw (r.renewed.specs, reads-stay j d m.stages news r.renewed.specs) (r.took before h j d (omega (arith, inside, l)));
   })
 
-  pub Running-done : (w : ℕ) → w ≡ m.width → m.spent ≡ false → k ≡ m.next → IsMill (milled w)
-  Running-done w e idle next =
+  pub Stood-done : (w : ℕ) → w ≡ m.width → m.spent ≡ false → k ≡ m.next → IsMill (milled w)
+  Stood-done w e idle next =
       let t = took-before m k mill idle next in
       record {
         fits = rw e r.renewed.fits;
         idle = λ _ j d low. r.idle j d (omega (arith, low, l, specs-length m.stages news r.renewed.specs));
-        took = λ _. (t.0 ++ inputs, Running-after w e t.0 t.1);
+        took = λ _. (t.0 ++ inputs, Stood-after w e t.0 t.1);
       }
 
 -- a mill whose stages fit, where memory ran out

@@ -1,7 +1,7 @@
 -- The operators of a fragment as one engine over buckets.
 use Rattle.std.specs.Prelude.{◌≡◌, ℕ, ◌*◌, ◌<◌, Bool, false, Option, Some, None, List, [], map, length, take, All, slice_index_or}
 use Rattle.dpc_model.specs.Streams.{IsOrdered}
-use Rattle.dpc_model.specs.Engines.{LiesBelow, lone_operator}
+use Rattle.dpc_model.specs.Engines.{LiesBelow, lone_operator, engine_value, added_output}
 use Rattle.dpc_model.specs.Fragments.{serial, read_wire, outputs_after}
 use Rattle.dpc_model.specs.declared.tuples.Tuple.{Tuple}
 use Rattle.dpc_model.specs.declared.tuples.Tagged.{Tagged}
@@ -119,3 +119,7 @@ pub record MillAfter (m : MillState) (xs : List Tagged) (k : ℕ) : Type 0 where
   pub below : All (LiesBelow (k * m.width)) xs
   pub ordered : IsOrdered (λ (x : Tagged). x.tuple.stime) xs
   pub stages : StagesAfter m.width m.stages xs k
+
+-- the rows that bucket k adds, where it took the inputs before it
+abbrev pub mill_added : MillState → List Tagged → List Tagged → ℕ → List Tuple
+mill_added m before bucket k = added_output (engine_value (specs_of m.stages)) m.width before bucket k

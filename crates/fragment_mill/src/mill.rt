@@ -1,11 +1,13 @@
 //! The mill of a fragment.
-ghost use Rattle.std.specs.Prelude.{◌≡◌, ◌<◌, ◌↔◌, ℕ, [], map, length, slice_get, unwrap_or, false, Some, None, IfOk, IsTrue, All};
+ghost use Rattle.std.specs.Prelude.{◌≡◌, ◌+◌, ◌^◌, ◌<◌, ◌↔◌, ◌++◌, ℕ, List, [], map, length, slice_get, unwrap_or, false, Some, None, IfOk, OnOk, OnErr, IsTrue, All};
 ghost use Rattle.dpc_lists.specs.Lists.{last_or};
-ghost use Rattle.dpc_model.specs.Engines.{nameless};
+ghost use Rattle.dpc_model.specs.Engines.{nameless, FitsBucket};
 ghost use Rattle.dpc_model.specs.Fragments.{AreSoundFrags, AreSoundOps};
 ghost use Rattle.dpc_model.specs.declared.plans.FragSpec.{FragSpec};
-ghost use Rattle.fragment_mill.specs.Mills.{OperatorAfter, MillAfter, spent_of, specs_of, new_mill, new_stage};
+ghost use Rattle.dpc_model.specs.declared.tuples.Tagged.{Tagged};
+ghost use Rattle.fragment_mill.specs.Mills.{OperatorAfter, MillAfter, spent_of, specs_of, new_mill, new_stage, mill_added};
 ghost use Rattle.fragment_mill.specs.Milling.{IsFit};
+ghost use Rattle.ops_join.specs.RowsOut.{Takes, TakesFirst};
 
 use crate::operator::Operator;
 use dpc_lists::exact::Exact;
@@ -16,6 +18,7 @@ use dpc_model::faults::StepFault;
 use dpc_model::operators::{OpSpec, Wire};
 use dpc_model::plans::Plan;
 use dpc_model::tuples::{Tagged, Tuples};
+use ops_join::rows_out::{Ended, RowSink};
 use std::alloc::Global;
 use std::marker::Model;
 
@@ -131,6 +134,49 @@ impl FragMill {
             next: 0,
             spent: false,
         })
+    }
+
+    /// Takes the inputs of the next bucket, as `bucket` does, and gives the rows that they add one behind
+    /// another. Where the last operator is a join, none of them is held.
+    pub fn bucket_into<K, R: RowSink<K>>(
+        &mut self,
+        alloc: Global,
+        inputs: &[Tagged],
+        k: u64,
+        sink: &mut R,
+        out: &mut K,
+    ) -> Result<(), Ended>
+        requires next { k ≡ self.old.next }
+        requires range { k + 1 < 2 ^ 64 }
+        requires accepts { FitsBucket self.old.width k inputs.now }
+        ensures rows { OnOk result ((before : List Tagged) → MillAfter self.old before k
+            → Takes (R.took sink.old out.old) (R.took sink.new out.new) (mill_added self.old before inputs.now k)) }
+        ensures first { OnErr result ((before : List Tagged) → MillAfter self.old before k
+            → TakesFirst (R.took sink.old out.old) (R.took sink.new out.new) (mill_added self.old before inputs.now k)) }
+        ensures after { OnOk result ((before : List Tagged) → MillAfter self.old before k
+            → MillAfter self.new (before ++ inputs.now) (k + 1)) }
+        ensures idle { OnOk result (self.new.spent ≡ false) }
+        ensures operators { specs_of self.new.stages ≡ specs_of self.old.stages }
+        ensures width { self.new.width ≡ self.old.width }
+    {
+        if self.spent {
+            return Err(Ended);
+        }
+        let Some(last) = self.stages.len().checked_sub(1) else {
+            self.next = k + 1;
+            return Ok(());
+        };
+        self.spent = true;
+        let mut outputs = Vec::new(alloc);
+        for i in 0..last {
+            let Ok(()) = self.stages[i].bucket(alloc, inputs, &mut outputs, k) else {
+                return Err(Ended);
+            };
+        }
+        self.stages[last].bucket_into(alloc, inputs, outputs.as_slice(), k, sink, out)?;
+        self.next = k + 1;
+        self.spent = false;
+        Ok(())
     }
 }
 

@@ -1,5 +1,5 @@
 //! A stage of a mill: an operator with what it reads.
-ghost use Rattle.std.specs.Prelude.{◌≡◌, ◌+◌, ◌^◌, ◌<◌, ◌++◌, ◌↔◌, ℕ, true, false, List, [], map, length, IfOk, OnOk, IsTrue};
+ghost use Rattle.std.specs.Prelude.{◌≡◌, ◌+◌, ◌^◌, ◌<◌, ◌++◌, ◌↔◌, ℕ, true, false, List, [], map, length, IfOk, OnOk, OnErr, IsTrue};
 ghost use Rattle.dpc_lists.specs.Lists.{push};
 ghost use Rattle.dpc_model.specs.Engines.{Accepts, is_serial};
 ghost use Rattle.dpc_model.specs.Fragments.{serial, tag, read_wire, at_port, IsSoundKind};
@@ -7,6 +7,7 @@ ghost use Rattle.dpc_model.specs.declared.tuples.Tagged.{Tagged};
 ghost use Rattle.fragment_mill.specs.Mills.{OperatorAfter, operators_of, next_of, width_of, spent_of, inputs_of, spec_of, new_stage};
 ghost use Rattle.fragment_mill.specs.Milling.{IsFit, added_of};
 ghost use Rattle.fragment_mill.specs.Reads.{AreStraight, AreAmong};
+ghost use Rattle.ops_join.specs.RowsOut.{Takes, TakesFirst};
 
 use crate::mill::Stage;
 use crate::operator::Operator;
@@ -16,6 +17,7 @@ use dpc_model::engines::Engine;
 use dpc_model::faults::StepFault;
 use dpc_model::operators::{OpSpec, Wire};
 use dpc_model::tuples::{Tagged, Tuple, Tuples};
+use ops_join::rows_out::{Ended, RowSink};
 use std::alloc::{AllocError, Global};
 
 /// Appends the tuples, tagged with a port.
@@ -177,6 +179,41 @@ impl Stage {
         }
         let gathered = gather(alloc, reads, inputs, outputs.as_slice())?;
         take(&mut self.operator, alloc, gathered.as_slice(), outputs, k)
+    }
+
+    /// Takes what it reads of bucket k, as `bucket` does, and gives the rows that this adds one behind another.
+    pub(crate) fn bucket_into<K, R: RowSink<K>>(
+        &mut self,
+        alloc: Global,
+        inputs: &[Tagged],
+        outputs: &[Tuples],
+        k: u64,
+        sink: &mut R,
+        out: &mut K,
+    ) -> Result<(), Ended>
+        requires next { k ≡ next_of self.old.operator }
+        requires range { k + 1 < 2 ^ 64 }
+        requires serial { is_serial inputs.now ≡ true }
+        requires accepts { Accepts (width_of self.old.operator) k (inputs_of inputs.now outputs.now self.old.reads) }
+        ensures rows { OnOk result ((before : List Tagged) → OperatorAfter self.old.operator before k
+            → Takes (R.took sink.old out.old) (R.took sink.new out.new)
+            (added_of self.old.operator before (inputs_of inputs.now outputs.now self.old.reads) k)) }
+        ensures first { OnErr result ((before : List Tagged) → OperatorAfter self.old.operator before k
+            → TakesFirst (R.took sink.old out.old) (R.took sink.new out.new)
+            (added_of self.old.operator before (inputs_of inputs.now outputs.now self.old.reads) k)) }
+        ensures after { OnOk result ((before : List Tagged) → OperatorAfter self.old.operator before k
+            → OperatorAfter self.new.operator (before ++ inputs_of inputs.now outputs.now self.old.reads) (k + 1)) }
+        ensures idle { OnOk result (spent_of self.new.operator ≡ false) }
+        ensures spec { spec_of self.new ≡ spec_of self.old }
+        ensures fits { (width : ℕ) → IsFit width self.old → IsFit width self.new }
+    {
+        let reads = self.reads.as_slice();
+        if are_straight(reads) && are_among(inputs, reads.len() as u64) {
+            return self.operator.bucket_into(alloc, inputs, k, sink, out);
+        }
+        let gathered = gather(alloc, reads, inputs, outputs)?;
+        self.operator
+            .bucket_into(alloc, gathered.as_slice(), k, sink, out)
     }
 
     /// Its operator's state before bucket 0.

@@ -5,3 +5,5 @@ pub mod Ways
 pub mod Mills
 pub mod Stops
 pub mod Clients
+pub mod Lines
+pub mod Givings

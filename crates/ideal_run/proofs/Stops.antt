@@ -8,11 +8,11 @@ use Rattle.dpc_model.specs.declared.tuples.Tuple.{Tuple}
 use Rattle.dpc_model.specs.declared.plans.ClientSpec.{ClientSpec}
 use Rattle.dpc_model.specs.declared.plans.Plan.{Plan}
 use Rattle.report.specs.Text.{total_words}
-use Rattle.ideal_run.specs.Buckets.{bucket_of, client_text, IsUnderWay, Stopped}
+use Rattle.ideal_run.specs.Buckets.{bucket_of, numbered, client_text, IsUnderWay, Stopped}
 use Rattle.ideal_run.specs.IdealPlans.{IsIdealPlan}
 use Rattle.ideal_run.specs.declared.faults.WriteFault.{WriteFault}
 use Rattle.ideal_run.specs.declared.faults.WriteFault.TheVariants as fault
-use Rattle.ideal_run.proofs.Texts.{text_upto, numbered, upto-next, upto-whole, upto-some}
+use Rattle.ideal_run.proofs.Texts.{text_upto, upto-next, upto-whole, upto-some}
 use Rattle.ideal_run.proofs.Ways.{way-none, way-more, stop-behind, stop-longer, stop-here}
 
 module _ (plan : Plan) (c : ClientSpec) (ideals : IsIdealPlan plan) (old : List ℕ) where

@@ -21,7 +21,7 @@ use Rattle.dpc_model.proofs.Cuts.{none-below, none_below-zero, ordered-split}
 use Rattle.dpc_model.proofs.Order.{IsOrdered-filter, ideal_upto-InOrder}
 use Rattle.dpc_model.proofs.IdealCausality.{cut-ideal_upto}
 use Rattle.report.specs.Text.{item_words, stream_lines, total_words, ideal_text}
-use Rattle.ideal_run.specs.Buckets.{bucket_of, client_text}
+use Rattle.ideal_run.specs.Buckets.{bucket_of, numbered, client_text}
 use Rattle.ideal_run.specs.IdealPlans.{IsIdealPlan}
 
 -- ---- numbered tuples
@@ -32,9 +32,10 @@ stable_items-append n (t ∷ ts) us =
     let next : n + length (t ∷ ts) ≡ n + 1 + length ts = omega arith in
     rw next (ap (λ (items : List Item). Stable n t ∷ items) (stable_items-append (n + 1) ts us))
 
--- the lines of some tuples, the first of which has this number
-abbrev pub numbered : ℕ → List Tuple → List ℕ
-numbered n ts = text_of (map item_words (stable_items n ts))
+pub numbered-append : (n : ℕ) (ts us : List Tuple) → numbered n (ts ++ us) ≡ numbered n ts ++ numbered (n + length ts) us
+numbered-append n ts us =
+    ap text_of (ap (map item_words) (stable_items-append n ts us) ∙ map-append item_words (stable_items n ts) (stable_items (n + length ts) us))
+    ∙ flat_map-append line_of (map item_words (stable_items n ts)) (map item_words (stable_items (n + length ts) us))
 
 pub numbered-more : (ts us : List Tuple) → numbered 0 ts ++ numbered (length ts) us ≡ numbered 0 (ts ++ us)
 numbered-more ts us =
@@ -44,7 +45,7 @@ numbered-more ts us =
 
 -- ---- the buckets of a stream
 
-cut-next : (w k : ℕ) (ts : List Tuple) → InOrder ts → cut ts (k * w) ++ cut (from_time (k * w) ts) ((k + 1) * w) ≡ cut ts ((k + 1) * w)
+pub cut-next : (w k : ℕ) (ts : List Tuple) → InOrder ts → cut ts (k * w) ++ cut (from_time (k * w) ts) ((k + 1) * w) ≡ cut ts ((k + 1) * w)
 cut-next w k ts o =
     let later : k * w ≤ (k + 1) * w = grind (arith, common_steps) in
     let early : cut (cut ts ((k + 1) * w)) (k * w) ≡ cut ts (k * w) = filter-implied (is_below (k * w)) (is_below ((k + 1) * w)) (λ t e. grind (arith, common_steps, later)) ts in
@@ -57,22 +58,22 @@ cut-some ts b o = (from_time b ts, ordered-split time_of b ts o)
 
 -- ---- a client's text
 
-abbrev name_words : ClientSpec → List Word
+abbrev pub name_words : ClientSpec → List Word
 name_words c = codes "client" ∷ c.name ∷ []
 
 -- the lines of a client up to bucket k: its name, and the tuples below the bucket
 abbrev pub text_upto : Plan → ClientSpec → ℕ → List ℕ
 text_upto plan c k = line_of (name_words c) ++ numbered 0 (cut (ideal plan c.input) (k * plan.width))
 
-ideal-ordered : (plan : Plan) (s : StreamRef) → IsIdealPlan plan → InOrder (ideal plan s)
+pub ideal-ordered : (plan : Plan) (s : StreamRef) → IsIdealPlan plan → InOrder (ideal plan s)
 unfolding ideal
 ideal-ordered plan s h = ideal_upto-InOrder plan s plan.end h.sound.logs
 
-ideal-cut : (plan : Plan) (s : StreamRef) → IsIdealPlan plan → cut (ideal plan s) plan.end ≡ ideal plan s
+pub ideal-cut : (plan : Plan) (s : StreamRef) → IsIdealPlan plan → cut (ideal plan s) plan.end ≡ ideal plan s
 unfolding ideal
 ideal-cut plan s h = cut-ideal_upto plan s plan.end plan.end h.sound.ops (omega arith)
 
-none-early : (w : ℕ) (ts : List Tuple) → InOrder ts → cut ts (0 * w) ≡ []
+pub none-early : (w : ℕ) (ts : List Tuple) → InOrder ts → cut ts (0 * w) ≡ []
 none-early w ts o = let none : 0 * w ≡ 0 = omega arith in rw none (none-below time_of 0 0 ts (omega arith) (none_below-zero time_of ts))
 
 pub upto-none : (plan : Plan) (c : ClientSpec) → IsIdealPlan plan → line_of (name_words c) ≡ text_upto plan c 0
@@ -98,7 +99,7 @@ count-next plan c k n ts h count is =
     ap (λ (m : ℕ). m + length ts) count ∙ ap (λ (us : List Tuple). length early + length us) is ∙ sym (length-append early (bucket_of plan k c.input))
     ∙ ap length (cut-next plan.width k (ideal plan c.input) (ideal-ordered plan c.input h))
 
-whole-text : (c : ClientSpec) (ts : List Tuple) → text_of (stream_lines c.name ts) ≡ (line_of (name_words c) ++ numbered 0 ts) ++ line_of (total_words (length ts))
+pub whole-text : (c : ClientSpec) (ts : List Tuple) → text_of (stream_lines c.name ts) ≡ (line_of (name_words c) ++ numbered 0 ts) ++ line_of (total_words (length ts))
 whole-text c ts =
     ap (λ (xs : List ℕ). line_of (name_words c) ++ xs)
     (flat_map-append line_of (map item_words (stable_items 0 ts)) (total_words (length ts) ∷ [])

@@ -1,5 +1,5 @@
 -- The failure-free streams bucket by bucket, the mills that give them, and a text that is under way to a sink.
-use Rattle.std.specs.Prelude.{◌≡◌, ℕ, ◌+◌, ◌*◌, List, ◌++◌, map, Some, slice_get}
+use Rattle.std.specs.Prelude.{◌≡◌, ℕ, ◌+◌, ◌*◌, List, ◌++◌, map, length, Option, Some, None, slice_get}
 use Rattle.dpc_edge.specs.Edges.{Edge, Took, TookPart, TookSome}
 use Rattle.dpc_lists.specs.Lists.{range_with_len}
 use Rattle.dpc_model.specs.Streams.{cut}
@@ -12,7 +12,8 @@ use Rattle.dpc_model.specs.declared.plans.FragSpec.{FragSpec}
 use Rattle.dpc_model.specs.declared.plans.Plan.{Plan}
 use Rattle.dpc_model.specs.declared.plans.StreamRef.{StreamRef}
 use Rattle.dpc_model.specs.declared.plans.StreamRef.TheVariants.{Frag}
-use Rattle.report.specs.Text.{stream_lines}
+use Rattle.dpc_model.specs.Sessions.{stable_items}
+use Rattle.report.specs.Text.{item_words, stream_lines}
 use Rattle.fragment_mill.specs.Mills.{MillState, MillAfter, specs_of}
 use Rattle.ideal_run.specs.declared.faults.WriteFault.{WriteFault}
 use Rattle.ideal_run.specs.declared.faults.WriteFault.TheVariants as fault
@@ -49,6 +50,15 @@ pub record IsUnderWay (old new : Edge) (text held : List ℕ) : Type 0 where
 abbrev pub Stopped : WriteFault → Edge → Edge → List ℕ → Type 0
 Stopped fault.NoMemory old new text = TookSome old new text
 Stopped fault.Failed old new text = TookPart old new text
+
+-- the lines of some tuples, the first of which has this number
+abbrev pub numbered : ℕ → List Tuple → List ℕ
+numbered n ts = text_of (map item_words (stable_items n ts))
+
+-- behind what was held, the lines of these tuples are under way and counted; or a fault came among them
+abbrev pub LinesTook : Option WriteFault → Edge → Edge → List ℕ → ℕ → List Tuple → List ℕ → ℕ → Type 0
+LinesTook None old new begun first tuples held count = IsUnderWay old new (begun ++ numbered first tuples) held × (count ≡ first + length tuples)
+LinesTook (Some why) old new begun first tuples held count = Stopped why old new (begun ++ numbered first tuples)
 
 -- the lines of a client's failure-free stream
 abbrev pub client_text : Plan → ClientSpec → List ℕ

@@ -8,29 +8,37 @@ ghost use Rattle.ideal_run.specs.Buckets.{Stopped};
 ghost use Rattle.ideal_run.specs.IdealPlans.{IsIdealPlan};
 
 pub mod faults;
+mod giving;
 mod inputs;
 mod milling;
+mod numbering;
 mod writing;
 
 use crate::faults::WriteFault;
-use crate::writing::{write_held, write_stream};
+use crate::numbering::{Lines, write_held};
+use crate::writing::write_stream;
 use dpc_edge::sink::Sink;
 use dpc_model::plans::Plan;
 use std::alloc::Global;
 
 /// Writes the failure-free stream of each client in order, as it is milled: a line of its name, one line for
-/// each tuple, and how many there are. No stream is held, so that memory is for the operators' state, one
-/// bucket and one piece of the text; each client's fragment is milled anew, with those before it. Where it
-/// ends early, a beginning of the text stands on the sink.
+/// each tuple, and how many there are. No stream is held, nor a bucket of what a fragment's last join makes, so
+/// that memory is for the operators' state, a bucket of each other operator and one piece of the text; each
+/// client's fragment is milled anew, with those before it. Where it ends early, a beginning of the text stands
+/// on the sink.
 pub fn write_ideal<K: Sink>(alloc: Global, plan: &Plan, out: &mut K) -> Result<(), WriteFault>
     requires { IsIdealPlan plan.now }
     ensures took { OnOk result (Took (K.edge out.old) (K.edge out.new) (ideal_text plan.now)) }
     ensures err { IfErr result (λ why. Stopped why (K.edge out.old) (K.edge out.new) (ideal_text plan.now)) }
 {
-    let mut text = Vec::new(alloc);
+    let mut lines = Lines {
+        text: Vec::new(alloc),
+        count: 0,
+        fault: None,
+    };
     for client in plan.clients.as_slice() {
-        write_stream(alloc, plan, client, out, &mut text)?;
+        write_stream(alloc, plan, client, out, &mut lines)?;
     }
-    write_held(out, &mut text)?;
+    write_held(out, &mut lines.text)?;
     Ok(())
 }

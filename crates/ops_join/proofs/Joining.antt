@@ -51,7 +51,7 @@ module _ (w : ℕ) (keys : List (ℕ × ℕ)) (b : ℕ) where
         | false ↦ late-pairs l rs a.1
       ]
 
-  new-pairs : (l : Tuple) → b ≤ l.stime → (rs : List Tuple) → from_time b (pairs_with w keys rs l) ≡ pairs_with w keys rs l
+  pub new-pairs : (l : Tuple) → b ≤ l.stime → (rs : List Tuple) → from_time b (pairs_with w keys rs l) ≡ pairs_with w keys rs l
   new-pairs l h [] = refl
   new-pairs l h (r ∷ rs) =
       elim (are_partners w keys l r) as (λ c. from_time b (map (paired l) (cond c (r ∷ filter (are_partners w keys l) rs) (filter (are_partners w keys l) rs))) ≡ map (paired l) (cond c (r ∷ filter (are_partners w keys l) rs) (filter (are_partners w keys l) rs))) [
@@ -87,7 +87,7 @@ module _ (w : ℕ) (keys : List (ℕ × ℕ)) (b : ℕ) where
 
   -- ---- all left tuples
 
-  old-left : (rs right ls : List Tuple) → AllByRecursion (λ (t : Tuple). t.stime < b) rs → AllByRecursion (λ (t : Tuple). b ≤ t.stime) right → AllByRecursion (λ (t : Tuple). t.stime < b) ls →
+  pub old-left : (rs right ls : List Tuple) → AllByRecursion (λ (t : Tuple). t.stime < b) rs → AllByRecursion (λ (t : Tuple). b ≤ t.stime) right → AllByRecursion (λ (t : Tuple). t.stime < b) ls →
       flat_map (λ l. from_time b (pairs_with w keys (rs ++ right) l)) ls ≡ flat_map (pairs_with w keys right) ls
   old-left rs right [] a c h = refl
   old-left rs right (l ∷ ls) a c h = rw (old-rows l h.0 rs right a c, old-left rs right ls a c h.1) refl
@@ -188,7 +188,7 @@ kept-next w width k p before bucket ts us et eu =
 
 -- ---- the sides
 
-all-append : (P : Tuple → Type 0) (ts us : List Tuple) → AllByRecursion P ts → AllByRecursion P us → AllByRecursion P (ts ++ us)
+pub all-append : (P : Tuple → Type 0) (ts us : List Tuple) → AllByRecursion P ts → AllByRecursion P us → AllByRecursion P (ts ++ us)
 all-append P [] us h g = g
 all-append P (t ∷ ts) us h g = (h.0, all-append P ts us h.1 g)
 
@@ -200,7 +200,7 @@ all-filter P p (t ∷ ts) h =
       | false ↦ all-filter P p ts h.1
     ]
 
-all-below : (b b' : ℕ) (ts : List Tuple) → b ≤ b' → AllByRecursion (λ (t : Tuple). t.stime < b) ts → AllByRecursion (λ (t : Tuple). t.stime < b') ts
+pub all-below : (b b' : ℕ) (ts : List Tuple) → b ≤ b' → AllByRecursion (λ (t : Tuple). t.stime < b) ts → AllByRecursion (λ (t : Tuple). t.stime < b') ts
 all-below b b' [] h g = tt
 all-below b b' (t ∷ ts) h g = (omega (arith, g.0), all-below b b' ts h g.1)
 

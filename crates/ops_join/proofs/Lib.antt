@@ -5,3 +5,6 @@ pub mod Steps
 pub mod Kept
 pub mod Joining
 pub mod Standing
+pub mod Givings
+pub mod Groups
+pub mod Giving

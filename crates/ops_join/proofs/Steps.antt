@@ -34,7 +34,7 @@ IsIndexOf-push end keys n m code ts us t heads more before links some is number 
 
 -- ---- pairs
 
-drop-at : {X : Type 0} (xs : List X) (i : ℕ) (x : X) → slice_get xs i ≡ Some x → drop i xs ≡ x ∷ drop (i + 1) xs
+pub drop-at : {X : Type 0} (xs : List X) (i : ℕ) (x : X) → slice_get xs i ≡ Some x → drop i xs ≡ x ∷ drop (i + 1) xs
 drop-at [] i x h = absurd (cc)
 drop-at (y ∷ xs) zero x h = let e : y ≡ x = cc in rw e refl
 drop-at (y ∷ xs) (suc i) x h = let e : suc i + 1 ≡ suc (i + 1) = omega arith in rw e (drop-at xs i x h)

@@ -2,9 +2,10 @@
 use Rattle.std.specs.Prelude.{◌≡◌, ℕ, ◌+◌, ◌*◌, Bool, false, nat_le, List, [], filter, All}
 use Rattle.dpc_model.specs.Operators.{joined}
 use Rattle.dpc_model.specs.Fragments.{at_port}
-use Rattle.dpc_model.specs.Engines.{Value, LiesBelow}
+use Rattle.dpc_model.specs.Engines.{Value, LiesBelow, engine_value, lone_operator, added_output}
 use Rattle.dpc_model.specs.declared.tuples.Tuple.{Tuple}
 use Rattle.dpc_model.specs.declared.tuples.Tagged.{Tagged}
+use Rattle.dpc_model.specs.declared.operators.OpKind.TheVariants as kind
 
 -- a join pairs the tuples of port 0 with those of port 1
 abbrev pub join_value : ℕ → List (ℕ × ℕ) → Value
@@ -28,6 +29,10 @@ pub record JoinState : Type 0 where
 -- a join before bucket 0
 abbrev pub new_join : ℕ → List (ℕ × ℕ) → ℕ → JoinState
 new_join within keys width = record { within = within; keys = keys; width = width; left = []; right = []; next = 0; spent = false }
+
+-- the rows that bucket k adds, where it took the inputs before it
+abbrev pub join_added : JoinState → List Tagged → List Tagged → ℕ → List Tuple
+join_added j before bucket k = added_output (engine_value (lone_operator (kind.Join j.within j.keys) 2)) j.width before bucket k
 
 -- it took these inputs, those below bucket k, and keeps exactly the tuples of each side that can
 -- still meet a partner

@@ -1,3 +1,5 @@
 pub mod Joins
 pub mod Sides
 pub mod Keeping
+pub mod RowsOut
+pub mod Groups

@@ -1,9 +1,12 @@
 //! The join of two streams.
-ghost use Rattle.std.specs.Prelude.{◌≡◌, Some};
-ghost use Rattle.dpc_model.specs.Engines.{lone_operator};
+ghost use Rattle.std.specs.Prelude.{◌≡◌, ◌+◌, ◌^◌, ◌<◌, ◌++◌, List, Some, true, false, OnOk, OnErr};
+ghost use Rattle.dpc_model.specs.Engines.{lone_operator, FitsBucket};
+ghost use Rattle.dpc_model.specs.declared.tuples.Tagged.{Tagged};
 ghost use Rattle.dpc_model.specs.declared.operators.OpKind.TheVariants as kind;
-ghost use Rattle.ops_join.specs.Joins.{new_join, JoinAfter};
+ghost use Rattle.ops_join.specs.Joins.{new_join, JoinAfter, join_added};
+ghost use Rattle.ops_join.specs.RowsOut.{Takes, TakesFirst};
 
+use crate::rows_out::{Ended, RowSink};
 use crate::sides::Sides;
 use dpc_lists::exact::Exact;
 use dpc_lists::faults::NoMemory;
@@ -58,6 +61,52 @@ impl Join {
             sides: Sides::new(alloc, keys),
             next: 0,
             spent: false,
+        }
+    }
+
+    /// Takes the inputs of the next bucket, as `bucket` does, and gives the rows that they add one behind
+    /// another: no more of them are held than one row, and what is at most as long as what it keeps. After
+    /// an error some first ones were given, and it is spent.
+    pub fn bucket_into<K, R: RowSink<K>>(
+        &mut self,
+        alloc: Global,
+        inputs: &[Tagged],
+        k: u64,
+        sink: &mut R,
+        out: &mut K,
+    ) -> Result<(), Ended>
+        requires next { k ≡ self.old.next }
+        requires range { k + 1 < 2 ^ 64 }
+        requires accepts { FitsBucket self.old.width k inputs.now }
+        ensures rows { OnOk result ((before : List Tagged) → JoinAfter self.old before k
+            → Takes (R.took sink.old out.old) (R.took sink.new out.new) (join_added self.old before inputs.now k)) }
+        ensures first { OnErr result ((before : List Tagged) → JoinAfter self.old before k
+            → TakesFirst (R.took sink.old out.old) (R.took sink.new out.new) (join_added self.old before inputs.now k)) }
+        ensures after { OnOk result ((before : List Tagged) → JoinAfter self.old before k
+            → JoinAfter self.new (before ++ inputs.now) (k + 1)) }
+        ensures idle { OnOk result (self.new.spent ≡ false) }
+        ensures spent { OnErr result (self.new.spent ≡ true) }
+        ensures within { self.new.within ≡ self.old.within }
+        ensures keys { self.new.keys ≡ self.old.keys }
+        ensures width { self.new.width ≡ self.old.width }
+    {
+        if self.spent {
+            return Err(Ended);
+        }
+        let end = (k + 1) * self.width;
+        match self
+            .sides
+            .advance_giving(alloc, self.within, inputs, end, sink, out)
+        {
+            Ok(()) => {
+                self.next = k + 1;
+                Ok(())
+            }
+            Err(Ended) => {
+                self.sides.clear();
+                self.spent = true;
+                Err(Ended)
+            }
         }
     }
 

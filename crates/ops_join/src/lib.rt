@@ -6,5 +6,7 @@ mod ends;
 pub mod join;
 mod partners;
 mod rows;
+mod rows_given;
+pub mod rows_out;
 mod side;
 mod sides;

@@ -17,7 +17,7 @@ use dpc_model::tuples::{Tagged, Tuple};
 use std::alloc::{AllocError, Global};
 
 /// The row of a pair.
-fn row(alloc: Global, left: &Tuple, right: &Tuple) -> Result<Tuple, AllocError>
+pub(crate) fn row(alloc: Global, left: &Tuple, right: &Tuple) -> Result<Tuple, AllocError>
     ensures { IfOk result (λ t. t ≡ paired left.now right.now) }
 {
     let mut vals = left.vals.copy(alloc)?;
@@ -29,7 +29,7 @@ fn row(alloc: Global, left: &Tuple, right: &Tuple) -> Result<Tuple, AllocError>
 }
 
 /// The pairs in order of the left place, those of one left place as they stood.
-fn by_left(pairs: Vec<(usize, usize)>) -> Result<Vec<(usize, usize)>, AllocError>
+pub(crate) fn by_left(pairs: Vec<(usize, usize)>) -> Result<Vec<(usize, usize)>, AllocError>
     ensures { IfOk result (λ sorted. sorted.items ≡ sort_by (λ (pair : ℕ × ℕ). pair.0) pairs.items) }
 {
     let mut pairs = pairs;
@@ -47,7 +47,7 @@ fn sorted(rows: Vec<Tuple>) -> Result<Vec<Tuple>, AllocError>
 }
 
 /// Takes out left places, which stand the last first, and adds the pairs of each with a right one.
-fn add_pairs(
+pub(crate) fn add_pairs(
     places: &mut Vec<usize>,
     right: usize,
     pairs: &mut Vec<(usize, usize)>,

@@ -48,6 +48,13 @@ impl Sides {
         }
     }
 
+    /// Sides of the same key columns with no tuple.
+    pub fn without_tuples(&self, alloc: Global) -> Result<Sides, NoMemory>
+        ensures { IfOk result (λ other. other ≡ new_sides self.now.keys) }
+    {
+        Ok(Sides::new(alloc, self.keys.copy(alloc)?))
+    }
+
     /// Lets all tuples go.
     pub fn clear(&mut self)
         ensures { self.new ≡ new_sides self.old.keys }

@@ -13,20 +13,20 @@ returns-in_err-write_stream-clause-err g c =
     let low = rw c.as_slice-client-items.ensures at c.loop-client-test.true in
     stop-at _ c.in_err-write_stream.field-0.0 _ _ _ c.from_residual.ensures
     (client-stop c.args.plan.now c.loop-client.client-index c.client-item.result c.in_err-write_stream.field-0.0 (g.K.Sink.edge c.args.out.now) (g.K.Sink.edge c.loop-client.out) (g.K.Sink.edge c.write_stream.new.out)
-    c.loop-client.text.items low at c.loop-client.invariant c.in_err-write_stream.ensures.err)
+    c.loop-client.lines.text.items low at c.loop-client.invariant c.in_err-write_stream.ensures.err)
 
 pub loop-client-preserved : goal.loop-client-preserved
 loop-client-preserved g c =
     let at = rw c.as_slice-client-items.ensures at c.client-item.is in
     let low = rw c.as_slice-client-items.ensures at c.loop-client-test.true in
     client-next c.args.plan.now c.loop-client.client-index c.client-item.result (g.K.Sink.edge c.args.out.now) (g.K.Sink.edge c.loop-client.out) (g.K.Sink.edge c.write_stream.new.out)
-    c.loop-client.text.items c.write_stream.new.text.items low at c.loop-client.invariant c.in_ok-write_stream.ensures.ok
+    c.loop-client.lines.text.items c.write_stream.new.lines.text.items low at c.loop-client.invariant c.in_ok-write_stream.ensures.ok
 
 pub returns-in_err-write_held-clause-err : goal.returns-in_err-write_held-clause-err
 returns-in_err-write_held-clause-err g c =
     stop-at _ fault.Failed _ _ _ c.from_residual-in_err-write_held.ensures
     (last-stop c.args.plan.now c.loop-client.client-index fault.Failed (g.K.Sink.edge c.args.out.now) (g.K.Sink.edge c.loop-client.out) (g.K.Sink.edge c.write_held.new.out)
-    c.loop-client.text.items c.loop-client.invariant c.in_err-write_held.ensures.failed)
+    c.loop-client.lines.text.items c.loop-client.invariant c.in_err-write_held.ensures.failed)
 
 pub returns-clause-took : goal.returns-clause-took
 returns-clause-took g c =
@@ -35,4 +35,4 @@ returns-clause-took g c =
     let whole : take c.loop-client.client-index plan.clients ≡ plan.clients = take_all c.loop-client.client-index plan.clients past in
     subst (λ (xs : List ℕ). Took (g.K.Sink.edge c.args.out.now) (g.K.Sink.edge c.write_held.new.out) xs) (ap (clients_text plan) whole ∙ clients-all plan)
     (way-whole (g.K.Sink.edge c.args.out.now) (g.K.Sink.edge c.loop-client.out) (g.K.Sink.edge c.write_held.new.out) (clients_text plan (take c.loop-client.client-index plan.clients))
-    c.loop-client.text.items c.loop-client.invariant c.in_ok-write_held.ensures.took)
+    c.loop-client.lines.text.items c.loop-client.invariant c.in_ok-write_held.ensures.took)

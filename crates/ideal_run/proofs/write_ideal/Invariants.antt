@@ -5,4 +5,4 @@ use Rattle.ideal_run.proofs.write_ideal.Given as goal
 
 -- the lines of the first clients are written or held
 abbrev pub invariant-loop-client : goal.invariant-loop-client
-invariant-loop-client g l = IsUnderWay (g.K.Sink.edge l.fn.out) (g.K.Sink.edge l.out) (clients_text l.plan (take l.client-index l.plan.clients)) l.text.items
+invariant-loop-client g l = IsUnderWay (g.K.Sink.edge l.fn.out) (g.K.Sink.edge l.out) (clients_text l.plan (take l.client-index l.plan.clients)) l.lines.text.items

@@ -3,7 +3,7 @@ use Rattle.dpc_model.proofs.Serial.{adjacent-serial}
 use Rattle.fragment_mill.specs.Mills.{MillState}
 use Rattle.fragment_mill.specs.Milling.{IsMill}
 use Rattle.fragment_mill.proofs.mill.FragMillEngine.bucket.Goals as goal
-use Rattle.fragment_mill.proofs.Running.{Running-accepts, Running-next, Running-renewed, Running-more, Running-answer, Running-after, Running-done, IsMill-spent}
+use Rattle.fragment_mill.proofs.Running.{Running-accepts, Running-next, Running-renewed, Running-more, Running-answer, Stood-after, Stood-done, IsMill-spent}
 
 pub bucket-requires-clause-next : goal.bucket-requires-clause-next
 bucket-requires-clause-next c =
@@ -67,7 +67,7 @@ invariant_of-self-2 c =
     let idle = ap (λ (n : MillState). n.spent) (sym c.self.view_is) ∙ c.if-self.false in
     let h = c.loop-i.invariant in
     let done : length c.args.self.now.stages ≤ c.loop-i.i = omega (arith, c.loop-i.invariant.end) in
-    Running-done _ _ c.args.k c.loop-i.i _ _ mill c.requires.accepts h.running done _ h.width idle c.requires.next
+    Stood-done _ _ c.args.k c.loop-i.i _ mill c.requires.accepts h.running.stood done _ h.width idle c.requires.next
 
 pub returns-clause-answer : goal.returns-clause-answer
 returns-clause-answer c = λ before after.
@@ -79,4 +79,4 @@ pub returns-clause-after : goal.returns-clause-after
 returns-clause-after c =
     let mill = subst (λ (n : MillState). IsMill n) c.self.view_is c.self.invariant in
     let done : length c.args.self.now.stages ≤ c.loop-i.i = omega (arith, c.loop-i.invariant.end) in
-    Running-after _ _ c.args.k c.loop-i.i _ _ mill c.requires.accepts c.loop-i.invariant.running done _ c.loop-i.invariant.width
+    Stood-after _ _ c.args.k c.loop-i.i _ mill c.requires.accepts c.loop-i.invariant.running.stood done _ c.loop-i.invariant.width
