@@ -14,7 +14,8 @@ use Rattle.dpc_lists.proofs.Truths.{not-twice}
 use Rattle.dpc_model.proofs.Alike.{same_sess-self}
 use Rattle.upstream.specs.Upstreams.{with_marks_ended, with_truncation, port_by}
 use Rattle.sunion.specs.Unions.{no_value}
-use Rattle.node_links.specs.Linking.{LinksValue, with_upstream, no_upstream}
+use Rattle.node_links.specs.Linking.{LinksValue, with_upstream, no_upstream, HaveNoMarks}
+use Rattle.node_links.proofs.Kept.{no-mark-ends}
 use Rattle.node_links.proofs.Lawful.{messages-stand}
 use Rattle.node_model.specs.Nodes.{Home, PlainNode, spec_of, streams_of, buckets_of}
 use Rattle.node_model.specs.NodeSteps.{with_port, after_loss, on_truncation}
@@ -82,6 +83,20 @@ marks-ended home v new p n h many is =
     ∙ ap (λ (m : ℕ). record (neighbours_of p) { upstreams = ended m is_of (map upstream_of p.ports) }) all
     ∙ ap (λ (us : List Upstream). record (neighbours_of p) { upstreams = us }) (ended-all ((inputs_of p).cursor * v.path.union.width) is_of p.ports h.path.ports.inlets) in
     subst (λ (w : NodeValue). StandsForNode home w (with_ended_marks p)) (sym is) (stand-links home v p (with_ended_marks p) _ h known (marks-inputs p) refl refl refl refl)
+
+-- nothing ends where nothing is marked
+ended-none : (k : ℕ) (is : List InletValue) (us : List Upstream) → HaveNoMarks us → ended k is us ≡ us
+ended-none zero is us h = refl
+ended-none (suc k) [] us h = refl
+ended-none (suc k) (i ∷ is) [] h = refl
+ended-none (suc k) (i ∷ is) (u ∷ us) h = ap (λ (w : Upstream). w ∷ ended k is us) (no-mark-ends i.count u h.0) ∙ ap (λ (vs : List Upstream). u ∷ vs) (ended-none k is us h.1)
+
+pub no-marks : (home : Home) (v : NodeValue) (p : PlainNode) → StandsForNode home v p → HaveNoMarks v.links.known.upstreams → StandsForNode home v (with_ended_marks p)
+no-marks home v p h none =
+    let us = v.links.known.upstreams in
+    let n = length us in
+    let with_seen : List Upstream → NodeValue = λ us. record v { links = record v.links { known = record v.links.known { upstreams = us } } } in
+    marks-ended home v v p n h refl (ap with_seen (sym (ended-none n v.path.union.union.inlets us none)))
 
 -- ---- truncations
 

@@ -1,3 +1,4 @@
+pub mod Kept
 pub mod Lawful
 mod Looping
 mod Viewing

@@ -1,5 +1,5 @@
 -- What contracts see of links whose ports were changed.
-use Rattle.std.proofs.Common.{◌≡◌, ℕ, zero, suc, ◌<◌, List, [], ◌∷◌, map, length, replicate, refl, ap, sym, subst, ◌∙◌, arith, Some, slice_index_or, slice_set}
+use Rattle.std.proofs.Common.{◌≡◌, ℕ, zero, suc, ◌<◌, List, [], ◌∷◌, map, length, replicate, refl, ap, sym, subst, ◌∙◌, arith, Some}
 use Rattle.std.proofs.lemmas.List.{length-map}
 use Rattle.dpc_lists.specs.Lists.{nth, changed}
 use Rattle.dpc_model.specs.Replicas.{Watch, new_watch}
@@ -9,16 +9,9 @@ use Rattle.dpc_model.specs.declared.plans.StreamRef.{StreamRef}
 use Rattle.node_model.specs.Nodes.{Home, spec_of, streams_of}
 use Rattle.dpc_model.specs.Granting.{Grants, new_grants}
 use Rattle.dpc_model.specs.Parts.{Upstream}
-use Rattle.dpc_lists.proofs.Elements.{set-changed}
 use Rattle.upstream.specs.Upstreams.{UpstreamValue, new_upstream}
-use Rattle.node_links.specs.Linking.{LinksValue, new_links, sender_among, seen_otherwise, with_upstream, with_upstreams, no_upstream, upstream_at}
+use Rattle.node_links.specs.Linking.{LinksValue, new_links, sender_among, senders_at, known_at, seen_otherwise, with_upstream, with_upstreams, no_upstream, no_value, upstream_at}
 use Rattle.node_links.proofs.Within.{sender-within}
-
-abbrev pub known_at : List UpstreamValue → List Upstream
-known_at us = map (λ (u : UpstreamValue). u.known) us
-
-abbrev pub senders_at : List UpstreamValue → List (List ℕ)
-senders_at us = map (λ (u : UpstreamValue). u.senders) us
 
 -- links of these parts
 abbrev pub links_of : List UpstreamValue → List ℕ → ℕ → Grants → List Watch → ℕ → LinksValue
@@ -26,12 +19,12 @@ links_of us rs me g ws n = record { senders = senders_at us; replicas = rs; me =
 
 -- ---- one port
 
-known-changed : (p : ℕ) (f : Upstream → Upstream) (us : List UpstreamValue) → known_at (changed p (seen_otherwise f) us) ≡ changed p f (known_at us)
+pub known-changed : (p : ℕ) (f : Upstream → Upstream) (us : List UpstreamValue) → known_at (changed p (seen_otherwise f) us) ≡ changed p f (known_at us)
 known-changed p f [] = refl
 known-changed zero f (u ∷ us) = refl
 known-changed (suc p) f (u ∷ us) = ap (λ (ks : List Upstream). u.known ∷ ks) (known-changed p f us)
 
-senders-changed : (p : ℕ) (f : Upstream → Upstream) (us : List UpstreamValue) → senders_at (changed p (seen_otherwise f) us) ≡ senders_at us
+pub senders-changed : (p : ℕ) (f : Upstream → Upstream) (us : List UpstreamValue) → senders_at (changed p (seen_otherwise f) us) ≡ senders_at us
 senders-changed p f [] = refl
 senders-changed zero f (u ∷ us) = refl
 senders-changed (suc p) f (u ∷ us) = ap (λ (ss : List (List ℕ)). u.senders ∷ ss) (senders-changed p f us)
@@ -49,54 +42,48 @@ port-low us rs me g ws n old p is low =
     let same : length (known_at us) ≡ length us = length-map us (λ (u : UpstreamValue). u.known) in
     let long : length (known_at us) ≡ length old.known.upstreams = ap (λ (v : LinksValue). length v.known.upstreams) is in omega (arith, same, long, low)
 
--- the sender of one port is written
-pub port-set : (us : List UpstreamValue) (rs : List ℕ) (me : ℕ) (g : Grants) (ws : List Watch) (n : ℕ) (old : LinksValue) (p : ℕ) (f : Upstream → Upstream) (u new : UpstreamValue) →
-    links_of us rs me g ws n ≡ old → p < length us → u ≡ slice_index_or us p u → new ≡ seen_otherwise f u →
-    links_of (slice_set us p new) rs me g ws n ≡ record old { known = with_upstream p f old.known }
-port-set us rs me g ws n old p f u new is low at made =
-    ap (λ (xs : List UpstreamValue). links_of xs rs me g ws n) (set-changed us p (seen_otherwise f) u new low at made)
-    ∙ one-changed p f us rs me g ws n ∙ ap (λ (v : LinksValue). record v { known = with_upstream p f v.known }) is
+-- the sender of one port is seen otherwise
+pub port-seen : (us new : List UpstreamValue) (rs : List ℕ) (me : ℕ) (g : Grants) (ws : List Watch) (n : ℕ) (old : LinksValue) (p : ℕ) (f : Upstream → Upstream) →
+    links_of us rs me g ws n ≡ old → new ≡ changed p (seen_otherwise f) us → links_of new rs me g ws n ≡ record old { known = with_upstream p f old.known }
+port-seen us new rs me g ws n old p f is made =
+    ap (λ (xs : List UpstreamValue). links_of xs rs me g ws n) made ∙ one-changed p f us rs me g ws n ∙ ap (λ (v : LinksValue). record v { known = with_upstream p f v.known }) is
 
 -- ---- a port is read
 
-pub upstream-is : (us : List UpstreamValue) (rs : List ℕ) (me : ℕ) (g : Grants) (ws : List Watch) (n : ℕ) (old : LinksValue) (p : ℕ) (u : UpstreamValue) →
-    links_of us rs me g ws n ≡ old → p < length us → u ≡ slice_index_or us p u → u ≡ upstream_at p old
-upstream-is us rs me g ws n old p u is low at = here us p low at ∙ ap (λ (v : LinksValue). upstream_at p v) is
+pub upstream-is : (us : List UpstreamValue) (rs : List ℕ) (me : ℕ) (g : Grants) (ws : List Watch) (n : ℕ) (old : LinksValue) (p : ℕ) →
+    links_of us rs me g ws n ≡ old → nth no_value us p ≡ upstream_at p old
+upstream-is us rs me g ws n old p is = here us p ∙ ap (λ (v : LinksValue). upstream_at p v) is
   where
-    here : (us : List UpstreamValue) (p : ℕ) → p < length us → u ≡ slice_index_or us p u →
-        u ≡ record { senders = nth [] (senders_at us) p; known = nth no_upstream (known_at us) p }
-    here [] p low at = absurd (omega (arith, low))
-    here (x ∷ us) zero low at = at
-    here (x ∷ us) (suc p) low at = here us p (omega (arith, low)) at
+    here : (us : List UpstreamValue) (p : ℕ) → nth no_value us p ≡ record { senders = nth [] (senders_at us) p; known = nth no_upstream (known_at us) p }
+    here [] p = refl
+    here (x ∷ us) zero = refl
+    here (x ∷ us) (suc p) = here us p
 
 -- where a sender is found
 pub sender-low : (us : List UpstreamValue) (rs : List ℕ) (me : ℕ) (g : Grants) (ws : List Watch) (n : ℕ) (old : LinksValue) (a p r : ℕ) →
-    links_of us rs me g ws n ≡ old → sender_among 0 old.senders a ≡ Some (p, r) → (p < length us) × ((u : UpstreamValue) → u ≡ slice_index_or us p u → r < length u.senders)
+    links_of us rs me g ws n ≡ old → sender_among 0 old.senders a ≡ Some (p, r) → (p < length us) × (r < length (nth [] (senders_at us) p))
 sender-low us rs me g ws n old a p r is found =
     let s = sender-within 0 old.senders a p r found in
     let here : p ≡ s.place = let port = s.port in omega (arith, port) in
     let same : length (senders_at us) ≡ length us = length-map us (λ (u : UpstreamValue). u.senders) in
     let long : length (senders_at us) ≡ length old.senders = ap (λ (v : LinksValue). length v.senders) is in
-    let low : p < length us = let below = s.low in omega (arith, same, long, below, here) in
     let replica : r < length (nth [] old.senders p) = subst (λ (q : ℕ). r < length (nth [] old.senders q)) (sym here) s.replica in (
-      low,
-      λ u at. let seen = ap (λ (x : UpstreamValue). length x.senders) (upstream-is us rs me g ws n old p u is low at) in omega (arith, seen, replica),
+      let below = s.low in omega (arith, same, long, below, here),
+      subst (λ (v : LinksValue). r < length (nth [] v.senders p)) (sym is) replica,
     )
 
--- what is known at a port that was written
-pub known-at : (us : List UpstreamValue) (p : ℕ) (new u : UpstreamValue) → p < length us → u ≡ slice_index_or (slice_set us p new) p u →
-    u.known ≡ nth no_upstream (known_at (slice_set us p new)) p
-known-at [] p new u low at = absurd (omega (arith, low))
-known-at (x ∷ us) zero new u low at = ap (λ (y : UpstreamValue). y.known) at
-known-at (x ∷ us) (suc p) new u low at = known-at us p new u (omega (arith, low)) at
+-- the replicas of a port
+pub replica-low : (us : List UpstreamValue) (rs : List ℕ) (me : ℕ) (g : Grants) (ws : List Watch) (n : ℕ) (old : LinksValue) (p r : ℕ) →
+    links_of us rs me g ws n ≡ old → r < length (nth [] old.senders p) → r < length (nth [] (senders_at us) p)
+replica-low us rs me g ws n old p r is low = subst (λ (v : LinksValue). r < length (nth [] v.senders p)) (sym is) low
 
 -- ---- all ports
 
-known-mapped : (f : Upstream → Upstream) (us : List UpstreamValue) → known_at (map (seen_otherwise f) us) ≡ map f (known_at us)
+pub known-mapped : (f : Upstream → Upstream) (us : List UpstreamValue) → known_at (map (seen_otherwise f) us) ≡ map f (known_at us)
 known-mapped f [] = refl
 known-mapped f (u ∷ us) = ap (λ (ks : List Upstream). f u.known ∷ ks) (known-mapped f us)
 
-senders-mapped : (f : Upstream → Upstream) (us : List UpstreamValue) → senders_at (map (seen_otherwise f) us) ≡ senders_at us
+pub senders-mapped : (f : Upstream → Upstream) (us : List UpstreamValue) → senders_at (map (seen_otherwise f) us) ≡ senders_at us
 senders-mapped f [] = refl
 senders-mapped f (u ∷ us) = ap (λ (ss : List (List ℕ)). u.senders ∷ ss) (senders-mapped f us)
 

@@ -1,11 +1,12 @@
 -- What a node knows of its neighbours, and what each call makes of it.
-use Rattle.std.specs.Prelude.{ℕ, ◌+◌, Bool, not, ◌||◌, ◌==◌, if◌then◌else◌, List, [], ◌∷◌, map, filter, replicate, Option, Some, None, is_none}
+use Rattle.std.specs.Prelude.{⊤, ◌≡◌, ℕ, ◌+◌, Bool, not, ◌||◌, ◌==◌, if◌then◌else◌, List, [], ◌∷◌, map, filter, replicate, Option, Some, None, is_none, slice_get}
 use Rattle.dpc_lists.specs.Lists.{nth, changed, list_all, numbered, place_of}
 use Rattle.dpc_model.specs.Replicas.{Watch, new_watch, after_beat, after_tick, is_absent, says_recovering}
 use Rattle.dpc_model.specs.Granting.{new_grants, own_key, after_peer_beat, after_absence, with_ask, with_ask_over}
 use Rattle.dpc_model.specs.Parts.{Upstream, Neighbours}
 use Rattle.dpc_model.specs.Actors.{senders_of, replicas_of}
 use Rattle.dpc_model.specs.declared.messages.Beat.{Beat}
+use Rattle.input_monitor.specs.Marks.{AreUnmarked}
 use Rattle.upstream.specs.Upstreams.{UpstreamValue, new_upstream, with_beat, with_tick, with_no_tick}
 use Rattle.node_model.specs.Nodes.{Home, spec_of, streams_of}
 use Rattle.node_links.specs.declared.links.Asked.{Asked}
@@ -33,12 +34,31 @@ new_links home inc =
       };
     }
 
+-- ---- ports
+
+-- the senders of each
+abbrev pub senders_at : List UpstreamValue → List (List ℕ)
+senders_at us = map (λ (u : UpstreamValue). u.senders) us
+
+-- and what is known of them
+abbrev pub known_at : List UpstreamValue → List Upstream
+known_at us = map (λ (u : UpstreamValue). u.known) us
+
+-- no replica of any port is marked
+abbrev pub HaveNoMarks : List Upstream → Type 0
+HaveNoMarks [] = ⊤
+HaveNoMarks (u ∷ us) = AreUnmarked u.watches × HaveNoMarks us
+
 -- ---- who an actor is
 
 -- the port and the replica that an actor is to a reader of streams with these senders, the first of them at port p
 abbrev pub sender_among : ℕ → List (List ℕ) → ℕ → Option (ℕ × ℕ)
 sender_among p [] a = None
 sender_among p (s ∷ rest) a = elim (place_of (λ b. a == b) s) [ None ↦ sender_among (p + 1) rest a | Some r ↦ Some (p, r) ]
+
+-- of each actor that a table has, it tells whom one finds that seeks it among these senders
+abbrev pub IsTable : List (Option (ℕ × ℕ)) → List (List ℕ) → Type 0
+IsTable table ss = (a : ℕ) (place : Option (ℕ × ℕ)) → slice_get table a ≡ Some place → place ≡ sender_among 0 ss a
 
 -- the other replicas, as actors
 abbrev pub peers_in : LinksValue → List ℕ
@@ -63,6 +83,9 @@ with_upstreams f x = record x { upstreams = map f x.upstreams }
 
 abbrev pub no_upstream : Upstream
 no_upstream = record { chosen = 0; watches = []; ticks = 0 }
+
+abbrev pub no_value : UpstreamValue
+no_value = record { senders = []; known = no_upstream }
 
 -- a beat of a replica that a port reads, and of a replica of the own fragment
 abbrev pub after_upstream_beat : Beat → Option (ℕ × ℕ) → Neighbours → Neighbours

@@ -6,7 +6,6 @@ ghost use Rattle.node_links.specs.Linking.{with_upstreams, after_clock_tick, nob
 
 use crate::links::{Asked, Links};
 use crate::peers::{absences, others_are_absent, others_cannot_help};
-use crate::ports::tick_ports;
 use dpc_model::messages::NodeState;
 
 impl Links {
@@ -56,7 +55,7 @@ impl Links {
     fn tick_sessions(&mut self)
         ensures { self.new ≡ record self.old { known = with_upstreams with_tick self.old.known } }
     {
-        tick_ports(self.ports.as_mut_slice());
+        self.ports.tick();
     }
 
     /// Whether no other replica can hand out a snapshot: each is absent, or recovers itself.

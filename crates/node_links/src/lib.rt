@@ -6,3 +6,4 @@ pub mod laws;
 pub mod links;
 mod peers;
 mod ports;
+mod senders;

@@ -7,10 +7,10 @@ ghost use Rattle.dpc_model.specs.declared.plans.StreamRef.{StreamRef};
 ghost use Rattle.dpc_model.specs.declared.plans.TheConstants.{MOST_REPLICAS};
 ghost use Rattle.node_model.specs.Nodes.{Home, spec_of, streams_of};
 ghost use Rattle.upstream.specs.Upstreams.{with_marks_ended, with_truncation, with_no_tick, port_by, with_choice, asked_actor};
-ghost use Rattle.node_links.specs.Linking.{new_links, sender_among, peers_in, with_upstream, with_upstreams, no_upstream, after_upstream_beat, after_own_beat, chosen_by, with_recovery, upstream_at};
+ghost use Rattle.node_links.specs.Linking.{new_links, sender_among, peers_in, with_upstream, with_upstreams, no_upstream, after_upstream_beat, after_own_beat, chosen_by, with_recovery, upstream_at, HaveNoMarks};
 
 use crate::peers::others;
-use crate::ports::{forget_sessions, new_ports, sender};
+use crate::ports::Ports;
 use actor_lists::lists::{place_of, replicas_of};
 use dpc_lists::faults::NoMemory;
 use dpc_model::messages::Beat;
@@ -19,7 +19,6 @@ use grant_core::grants::GrantCore;
 use input_monitor::monitor::Monitor;
 use std::alloc::Global;
 use std::marker::Model;
-use upstream::upstream::Upstream;
 
 /// What a node that wants to reconcile is to do.
 #[derive(Clone, Copy, PartialEq, Eq)]
@@ -34,7 +33,7 @@ pub enum Asked {
 /// But for the making none of its calls takes memory. Contracts see a `LinksValue`.
 #[derive(Drop)]
 pub struct Links {
-    pub(crate) ports: Vec<Upstream>,
+    pub(crate) ports: Ports,
     pub(crate) grants: GrantCore,
     /// What is known of each replica of the own fragment, itself among them.
     pub(crate) watches: Monitor,
@@ -49,21 +48,20 @@ pub struct Links {
 
 impl Model for Links {
     ghost use Rattle.std.specs.Coded.{codes};
-    ghost use Rattle.std.specs.Prelude.{◌≡◌, ◌<◌, length, map, not, ◌==◌, filter};
+    ghost use Rattle.std.specs.Prelude.{◌≡◌, ◌<◌, length, not, ◌==◌, filter};
     ghost use Rattle.dpc_lists.specs.Lists.{nth};
-    ghost use Rattle.upstream.specs.Upstreams.{UpstreamValue};
-    ghost use Rattle.node_links.specs.Linking.{LinksValue};
+    ghost use Rattle.node_links.specs.Linking.{LinksValue, senders_at, known_at};
 
     ghost Value = { LinksValue };
 
     ghost coded = { Prim.hlevel codes };
 
     ghost view = { λ l. record {
-      senders = map (λ (u : UpstreamValue). u.senders) l.ports.items;
+      senders = senders_at l.ports;
       replicas = l.replicas.items;
       me = l.me;
       known = record {
-        upstreams = map (λ (u : UpstreamValue). u.known) l.ports.items;
+        upstreams = known_at l.ports;
         grants = l.grants;
         peers = l.watches;
         tries = l.tries;
@@ -102,7 +100,7 @@ impl Links {
             × (length (senders_of plan.now s) ≤ MOST_REPLICAS)) (streams_of (record { plan = plan.now; frag = frag; replica = replica })) }
         ensures { IfOk result (λ l. l ≡ new_links (record { plan = plan.now; frag = frag; replica = replica }) inc) }
     {
-        let ports = new_ports(alloc, plan, streams_of(plan, frag))?;
+        let ports = Ports::new(alloc, plan, streams_of(plan, frag))?;
         let replicas = replicas_of(alloc, plan, frag as u64)?;
         let peers = others(alloc, replicas.as_slice(), replicas[replica])?;
         Ok(Links {
@@ -120,7 +118,7 @@ impl Links {
     pub fn sender(&self, actor: u64) -> Option<(usize, usize)>
         ensures { result ≡ sender_among 0 self.now.senders actor }
     {
-        sender(self.ports.as_slice(), actor)
+        self.ports.sender(actor)
     }
 
     /// The replica of the own fragment that an actor is.
@@ -149,7 +147,7 @@ impl Links {
         requires { port < length self.now.senders }
         ensures { result.now ≡ nth [] self.now.senders port }
     {
-        self.ports[port].senders()
+        self.ports.senders(port)
     }
 
     /// How many ports there are.
@@ -164,7 +162,14 @@ impl Links {
         requires { port < length self.now.known.upstreams }
         ensures { result ≡ (nth no_upstream self.now.known.upstreams port).chosen }
     {
-        self.ports[port].chosen()
+        self.ports.chosen(port)
+    }
+
+    /// Whether a replica of a port may be marked.
+    pub fn has_marks(&self) -> bool
+        ensures { result ≡ false → HaveNoMarks self.now.known.upstreams }
+    {
+        self.ports.has_marks()
     }
 
     /// So many tuples of a port's stream are known: marks of its replicas end.
@@ -172,7 +177,7 @@ impl Links {
         requires { port < length self.old.known.upstreams }
         ensures { self.new ≡ record self.old { known = with_upstream port (with_marks_ended count) self.old.known } }
     {
-        self.ports[port].end_marks(count);
+        self.ports.end_marks(port, count);
     }
 
     /// An actor tells of itself. The answer is the port that reads it now: its inlet is to hear the tally.
@@ -195,8 +200,8 @@ impl Links {
         ensures heard { result ≡ chosen_by (sender_among 0 self.old.senders sender) self.old.known }
     {
         let (port, r) = self.sender(sender)?;
-        let is_read = r == self.ports[port].chosen();
-        self.ports[port].note_beat(r, beat);
+        let is_read = r == self.ports.chosen(port);
+        self.ports.note_beat(port, r, beat);
         if is_read { Some(port) } else { None }
     }
 
@@ -221,8 +226,8 @@ impl Links {
         ensures after { self.new ≡ record self.old { known = with_upstream port (with_truncation r base) self.old.known } }
         ensures all { result ≡ all_truncated (port_by false false (nth no_upstream self.new.known.upstreams port)) }
     {
-        self.ports[port].mark_truncated(r, base);
-        self.ports[port].all_truncated()
+        self.ports.mark_truncated(port, r, base);
+        self.ports.all_truncated(port)
     }
 
     /// What was held is lost: sessions and the own ask are over, and one more recovery begins.
@@ -240,7 +245,7 @@ impl Links {
     pub fn forget_sessions(&mut self)
         ensures { self.new ≡ record self.old { known = with_upstreams with_no_tick self.old.known } }
     {
-        forget_sessions(self.ports.as_mut_slice());
+        self.ports.forget_sessions();
     }
 
     /// A port chooses the replica to read. The answer is the actor to ask for a new session: exactly where
@@ -250,6 +255,6 @@ impl Links {
         ensures after { self.new ≡ record self.old { known = with_upstream port (with_choice broken answered) self.old.known } }
         ensures asked { result ≡ asked_actor broken answered (upstream_at port self.old) }
     {
-        self.ports[port].choose(broken, answered)
+        self.ports.choose(port, broken, answered)
     }
 }

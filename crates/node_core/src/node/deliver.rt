@@ -46,6 +46,9 @@ impl Node {
         ensures spent { self.new.spent ≡ self.old.spent }
         ensures after { Follows (λ home p. with_marks_ended p) self.old self.new }
     {
+        if !self.links.has_marks() {
+            return;
+        }
         for port in 0..self.links.ports() {
             let count = self.path.count(port);
             self.links.end_marks(port, count);

@@ -1,8 +1,15 @@
-use Rattle.std.proofs.Common.{◌∙◌, ap, length, arith}
+use Rattle.std.proofs.Common.{◌≡◌, ◌∙◌, false, ap, subst, length, arith}
+use Rattle.std.proofs.lemmas.Grind.{common_steps}
+use Rattle.node_links.specs.Linking.{HaveNoMarks}
 use Rattle.node_core.specs.Standing.{NodeValue}
 use Rattle.node_core.proofs.Frames.{inlets-many, upstreams-many}
-use Rattle.node_core.proofs.Truncating.{ended-many, ended-more, marks-ended}
+use Rattle.node_core.proofs.Truncating.{ended-many, ended-more, marks-ended, no-marks}
 use Rattle.node_core.proofs.node.Node.end_marks.Goals as goal
+
+pub returns-then-not-has_marks-clause-after : goal.returns-then-not-has_marks-clause-after
+returns-then-not-has_marks-clause-after c = λ home p stands fit.
+    let none : c.has_marks.result ≡ false = grind (arith, common_steps) in
+    no-marks home c.args.self.now p stands (subst (λ (v : NodeValue). HaveNoMarks v.links.known.upstreams) c.self.view_is (c.has_marks.ensures none))
 
 pub loop-port-init : goal.loop-port-init
 loop-port-init c = c.self.view_is

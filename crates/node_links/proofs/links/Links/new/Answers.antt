@@ -13,8 +13,8 @@ use Rattle.dpc_lists.proofs.Places.{nth-at}
 use Rattle.node_links.proofs.Viewing.{new-view}
 use Rattle.node_links.proofs.links.Links.new.Goals as goal
 
-pub new_ports-requires : goal.new_ports-requires
-new_ports-requires c =
+pub new-requires : goal.new-requires
+new-requires c =
     subst (λ (ss : List StreamRef). All (λ (s : StreamRef). (0 < length (senders_of c.args.plan.now s)) × (length (senders_of c.args.plan.now s) ≤ MOST_REPLICAS)) ss)
     (sym (c.streams_of.ensures c.args.replica)) c.requires.senders
 
@@ -23,8 +23,8 @@ invariant_of-result c =
     let rs : List ℕ = c.in_ok-replicas.replicas.items in
     let same : length rs ≡ length (replicas_of c.args.plan.now c.args.frag) = ap length c.in_ok-replicas.ensures in
     let low : c.args.replica < length rs = let inside = c.requires.inside in omega (arith, same, inside) in
-    let watches : length c.new-2.result ≡ c.len-2.result = ap length c.new-2.ensures ∙ length-replicate c.len-2.result new_watch in
-    let heard : length c.new.result.heard ≡ c.len.result = ap (λ (g : Grants). length g.heard) c.new.ensures ∙ length-replicate c.len.result None in
+    let watches : length c.new-3.result ≡ c.len-2.result = ap length c.new-3.ensures ∙ length-replicate c.len-2.result new_watch in
+    let heard : length c.new-2.result.heard ≡ c.len.result = ap (λ (g : Grants). length g.heard) c.new-2.ensures ∙ length-replicate c.len.result None in
     let own : c.index.result.now ≡ nth 0 rs c.args.replica = c.index.ensures ∙ nth-at 0 c.args.replica rs c.index.result.now low in (
       omega (arith, watches, c.len-2.ensures, c.in_ok-replicas.replicas.ok),
       omega (arith, heard, c.len.ensures, c.in_ok-replicas.replicas.ok),
@@ -39,6 +39,6 @@ returns c =
     let plan = c.requires.same in
     let count : c.len.result ≡ (spec_of home).replicas = omega (arith, c.len.ensures, c.in_ok-replicas.replicas.ok, same, plan) in
     let second : c.len-2.result ≡ c.len.result = c.len-2.ensures ∙ sym c.len.ensures in
-    new-view home c.args.inc c.len.result c.in_ok-ports.ports.items c.in_ok-replicas.replicas.items c.new.result c.new-2.result
+    new-view home c.args.inc c.len.result c.in_ok-ports.ports c.in_ok-replicas.replicas.items c.new-2.result c.new-3.result
     (c.in_ok-ports.ensures ∙ ap (λ (ss : List StreamRef). map (λ s. new_upstream (senders_of c.args.plan.now s)) ss) (c.streams_of.ensures c.args.replica))
-    c.in_ok-replicas.ensures count c.new.ensures (c.new-2.ensures ∙ ap (λ (n : ℕ). replicate n new_watch) second)
+    c.in_ok-replicas.ensures count c.new-2.ensures (c.new-3.ensures ∙ ap (λ (n : ℕ). replicate n new_watch) second)

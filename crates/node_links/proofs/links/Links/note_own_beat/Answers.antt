@@ -34,7 +34,7 @@ returns-in-Some c =
     let l = c.self.inside in
     let v : LinksValue = c.args.self.now in
     let found : place_of (λ a. c.args.sender == a) v.replicas ≡ Some c.in-Some.r = sym c.replica.ensures ∙ c.in-Some.is in
-    ap (λ (g : Grants). links_of l.ports.items l.replicas.items l.me g c.note_beat.new.self l.tries) c.on_beat.ensures
-    ∙ ap (λ (ws : List Watch). links_of l.ports.items l.replicas.items l.me (after_peer_beat l.grants c.in-Some.r (c.args.beat.inc, c.args.beat.over)) ws l.tries) c.note_beat.ensures
+    ap (λ (g : Grants). links_of l.ports l.replicas.items l.me g c.note_beat.new.self l.tries) c.on_beat.ensures
+    ∙ ap (λ (ws : List Watch). links_of l.ports l.replicas.items l.me (after_peer_beat l.grants c.in-Some.r (c.args.beat.inc, c.args.beat.over)) ws l.tries) c.note_beat.ensures
     ∙ ap (λ (w : LinksValue). record w { known = after_own_beat c.args.beat (Some c.in-Some.r) w.known }) c.self.view_is
     ∙ ap (λ (o : Option ℕ). record v { known = after_own_beat c.args.beat o v.known }) (sym found)

@@ -1,9 +1,0 @@
-use Rattle.std.proofs.Common.{◌≡◌}
-use Rattle.upstream.specs.Upstreams.{with_no_tick}
-use Rattle.node_links.specs.Linking.{seen_otherwise}
-use Rattle.dpc_lists.proofs.Mapped.{mapped_to}
-use Rattle.node_links.proofs.ports.forget_sessions.Given as goal
-
--- so many ports
-abbrev pub invariant-loop-port : goal.invariant-loop-port
-invariant-loop-port l = l.ports ≡ mapped_to (seen_otherwise with_no_tick) l.port-index l.fn.ports
