@@ -31,3 +31,5 @@ pub mod WordRanges
 pub mod LineRanges
 pub mod RangesKept
 pub mod ReadChecked
+pub mod UpgradedSaid
+pub mod UpgradedRanges

@@ -39,13 +39,13 @@ next-of-same : (x y : Progress) (w : World) → next_of (upgraded_progress x) (u
 unfolding ready
 next-of-same x y w = refl
 
-next-same : (s : Script) (x : Progress) (e : Event) → next_progress (upgraded s) (upgraded_progress x) e ≡ upgraded_progress (next_progress s x e)
+pub next-same : (s : Script) (x : Progress) (e : Event) → next_progress (upgraded s) (upgraded_progress x) e ≡ upgraded_progress (next_progress s x e)
 next-same s x e =
     ap (λ (y : Progress). next_of (upgraded_progress x) y (happens (upgraded_world x.world) e)) (noting-same s x e)
     ∙ ap (λ (w : World). next_of (upgraded_progress x) (upgraded_progress (noting s x e)) w) (happens-same x.world e)
     ∙ next-of-same x (noting s x e) (happens x.world e)
 
-first-same : (s : Script) → first_progress (upgraded s) ≡ upgraded_progress (first_progress s)
+pub first-same : (s : Script) → first_progress (upgraded s) ≡ upgraded_progress (first_progress s)
 first-same s = ap (λ (w : World). record (first_progress s) { world = w }) (opening-same s.plan)
 
 progress-from-same : (s : Script) (x : Progress) (es : List Event) → progress_from (upgraded s) (upgraded_progress x) es ≡ upgraded_progress (progress_from s x es)
@@ -58,7 +58,7 @@ progress-same s es = ap (λ (y : Progress). progress_from (upgraded s) y es) (fi
 
 -- ---- which event may come
 
-follow-same : (s : Script) (x : Progress) (e : Event) → may_follow (upgraded s) (upgraded_progress x) e ≡ may_follow s x e
+pub follow-same : (s : Script) (x : Progress) (e : Event) → may_follow (upgraded s) (upgraded_progress x) e ≡ may_follow s x e
 unfolding ready
 follow-same s x (Phase p) = refl
 follow-same s x (Emit a t) = refl

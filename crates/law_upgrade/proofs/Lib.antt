@@ -3,6 +3,5 @@ pub mod Events
 pub mod Runs
 pub mod Journals
 pub mod Telling
+pub mod Replayed
 pub mod Checked
-pub mod Said
-pub mod Ranged

@@ -7,6 +7,7 @@ ghost use Rattle.dpc_model.specs.declared.plans.Plan.{Plan};
 ghost use Rattle.dpc_model.specs.declared.scripts.Script.{Script};
 ghost use Rattle.dpc_model.specs.ScriptText.{upgraded};
 ghost use Rattle.world_model.specs.Worlds.{World, happens, run};
+ghost use Rattle.world_model.specs.Replays.{replay_end};
 ghost use Rattle.world_model.specs.Schedules.{progress, may, is_live_so_far, is_live, lockstep_journal};
 ghost use Rattle.script_rules.specs.Checking.{IsChecked};
 ghost use Rattle.law_safety.specs.Plans.{IsCheckedPlan};
@@ -31,13 +32,15 @@ pub fn upgraded_runs_are_the_same()
     ensures envelopes { (plan : Plan) (events : List Event) → (run (upgraded_plan plan) events).envelopes ≡ (run plan events).envelopes }
 {}
 
-/// The same events may come next after the same journals, the same journals are live, and the one-thread journal is the same.
+/// The same events may come next after the same journals, the same journals are live, a replay stops at the same place, and the one-thread
+/// journal is the same.
 pub fn upgraded_scripts_have_the_same_journals()
     ensures next { (s : Script) (es : List Event) (e : Event) → may (upgraded s) es e ≡ may s es e }
     ensures so_far { (s : Script) (es : List Event) → is_live_so_far (upgraded s) es ≡ is_live_so_far s es }
     ensures live { (s : Script) (es : List Event) → is_live (upgraded s) es ≡ is_live s es }
     ensures lock { (s : Script) → lockstep_journal (upgraded s) ≡ lockstep_journal s }
     ensures world { (s : Script) (es : List Event) → run (upgraded s).plan es ≡ upgraded_world (run s.plan es) }
+    ensures replay { (s : Script) (es : List Event) → replay_end (upgraded s) es ≡ replay_end s es }
     ensures stands { (s : Script) (es : List Event) → progress (upgraded s) es ≡ upgraded_progress (progress s es) }
 {}
 

@@ -2,7 +2,7 @@
 ghost use Rattle.std.specs.Prelude.{◌≡◌, ◌↔◌, ℕ, true, false, [], Ok, Err, IfOk, OnErr};
 ghost use Rattle.law_fit.specs.Fits.{CanRun};
 ghost use Rattle.world_model.specs.Schedules.{may, is_live};
-ghost use Rattle.world_model.specs.Worlds.{WouldReach};
+ghost use Rattle.world_model.specs.Worlds.{WouldReach, passes_limit};
 ghost use Rattle.world_core.specs.Runs.{world_of};
 ghost use Rattle.world_core.specs.declared.faults.ApplyFault.TheVariants as fault;
 ghost use Rattle.live_run.specs.Lives.{IsLost, world_in, with_event};
@@ -107,6 +107,7 @@ impl LiveRun {
     pub fn apply(&mut self, alloc: Global, e: Event) -> Result<bool, ApplyFault>
         ensures may { IfOk result (λ told. told ≡ may self.old.script self.old.events e) }
         ensures yes { result ≡ Ok true → self.new ≡ with_event self.old e }
+        ensures within { result ≡ Ok true → passes_limit (world_of (world_in self.old)) e ≡ false }
         ensures no { result ≡ Ok false → self.new ≡ self.old }
         ensures long { (envelopes items : ℕ) → result ≡ Err (fault.TooLong envelopes items)
             → (self.new ≡ record self.old { spent = true }) × (may self.old.script self.old.events e ≡ true)

@@ -1,4 +1,4 @@
-use Rattle.law_upgrade.proofs.Ranged.{upgraded-checked}
+use Rattle.law_scripts.proofs.UpgradedRanges.{upgraded-checked}
 use Rattle.law_upgrade.proofs.upgraded_scripts_are_checked.Goals as goal
 
 pub returns : goal.returns

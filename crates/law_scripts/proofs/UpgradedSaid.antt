@@ -3,6 +3,7 @@ use Rattle.std.proofs.Common.{◌≡◌, ℕ, ◌+◌, ◌/◌, ◌≤◌, true,
 use Rattle.dpc_lists.proofs.Truths.{not-less}
 use Rattle.dpc_model.specs.ScriptText.{upgraded}
 use Rattle.dpc_model.specs.declared.scripts.Script.{Script}
+use Rattle.dpc_model.specs.declared.plans.Plan.{Plan}
 use Rattle.script_rules.specs.declared.reasons.PlanFault.{PlanFault}
 use Rattle.script_rules.specs.declared.reasons.Reason.{Reason}
 use Rattle.script_rules.specs.Statements.{Statement, HeaderLine, SourceLine, LogLine, FragmentLine, PatienceLine, OperatorLine, ClientLine, BeginLine, SendLine, LinkLine, NodeLine, TickLine, SettleLine}
@@ -12,7 +13,10 @@ use Rattle.script_rules.specs.Checking.{header_statements, check, check_from, st
 use Rattle.script_rules.proofs.Passing.{IsFine, Passes, all_said, is_fine, fine_tests, passes_first, passes_then, checked_passes}
 use Rattle.script_rules.proofs.Headers.{passing_number, header_of, declared, header_said, few_buckets}
 use Rattle.script_rules.proofs.Parts.{said_of_sources, said_of_frags, said_of_clients, said_from_begin, parts}
-use Rattle.law_upgrade.specs.Upgrading.{upgraded_plan}
+
+-- the plan of an upgraded script
+abbrev pub upgraded_plan : Plan → Plan
+upgraded_plan plan = record plan { version = 3 }
 
 -- ---- behind the header
 

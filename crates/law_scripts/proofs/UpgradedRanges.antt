@@ -15,8 +15,7 @@ use Rattle.script_rules.specs.Places.{is_between}
 use Rattle.script_rules.specs.Reasons.{agg_reads_below}
 use Rattle.script_rules.specs.Checking.{top, is_in_range, is_header_in_range, is_frag_in_range, is_op_in_range, is_kind_in_range, are_inputs_in_range, is_delay_in_range, is_u64, is_source_in_range, is_client_in_range, is_phase_in_range, IsChecked}
 use Rattle.script_rules.proofs.Ranges.{between, top_is_low}
-use Rattle.law_upgrade.specs.Upgrading.{upgraded_plan}
-use Rattle.law_upgrade.proofs.Said.{upgraded-passes}
+use Rattle.law_scripts.proofs.UpgradedSaid.{upgraded_plan, upgraded-passes}
 
 is-between : (low high n : ℕ) → low ≤ n → n ≤ high → is_between low high n ≡ true
 is-between low high n l h = both-of (nat_le low n) (nat_le n high) (le-test low n l) (le-test n high h)

@@ -1,0 +1,93 @@
+-- What is promised of a journal that is replayed, and of a script that is upgraded, holds.
+use Rattle.std.proofs.Common.{◌≡◌, ◌⊎◌, inl, inr, ℕ, ◌+◌, List, length, Ok, Some, Bool, true, false, refl, ap, ◌∙◌}
+use Rattle.std.specs.Prelude.{not, ◌&&◌, IsTrue}
+use Rattle.std.proofs.lemmas.Bool.{and_parts}
+use Rattle.dpc_model.specs.declared.messages.Event.{Event}
+use Rattle.dpc_model.specs.ScriptText.{upgraded}
+use Rattle.dpc_model.specs.declared.scripts.Script.{Script}
+use Rattle.script_rules.specs.Reading.{read}
+use Rattle.script_rules.specs.Checking.{IsChecked}
+use Rattle.script_rules.proofs.ReadForms.{reads_have_facts}
+use Rattle.law_scripts.proofs.ReadChecked.{reads_checked}
+use Rattle.law_settling_whole.proofs.Whole.{checked-settles}
+use Rattle.law_healing.proofs.Opening.{opens-well}
+use Rattle.law_fit.specs.Fits.{CanRun}
+use Rattle.law_checked_runs.proofs.Plans.{can_run}
+use Rattle.law_safety.proofs.Law.{run-safe}
+use Rattle.law_journals.proofs.Replayed.{whole-where}
+use Rattle.law_upgrade.proofs.Events.{run-same}
+use Rattle.law_upgrade.proofs.Journals.{live-same}
+use Rattle.law_upgrade.proofs.Replayed.{replays-same}
+use Rattle.law_upgrade.proofs.Telling.{lock-same}
+use Rattle.law_upgrade.proofs.Runs.{report-same}
+use Rattle.world_model.specs.Worlds.{World, run, all_settled}
+use Rattle.world_model.specs.Schedules.{quiet_limit}
+use Rattle.world_model.specs.Replays.{ReplayEnd, Whole, replay_end}
+use Rattle.world_model.specs.Replays as replay
+use Rattle.law_schedules.specs.Journals.{phases_in}
+use Rattle.law_schedules.proofs.Timely.{live-ends}
+use Rattle.report.specs.Text.{report_text}
+use Rattle.journal_inputs.specs.Parts.{script_part}
+use Rattle.journal_inputs.specs.Inputs.{input_of}
+use Rattle.journal_inputs.proofs.ByParts.{is_both}
+use Rattle.journal_commands.specs.declared.outcome.JournalCommand.{JournalCommand}
+use Rattle.journal_commands.specs.declared.outcome.JournalCommand.TheVariants.{Replay, Upgrade}
+use Rattle.journal_commands.specs.Endings.{told_or_open, replay_ending}
+use Rattle.journal_commands.specs.Promises.{IsGoodRun, IsSameRun, Holds}
+
+-- a client is left open behind settle only where all quiet phases went by
+pub quiet-so : (b : Bool) (p q : ℕ) → (b ≡ true) ⊎ (p ≡ q) → not b ≡ true → p ≡ q
+quiet-so b p q (inl settled) open_still = absurd (cc)
+quiet-so b p q (inr all) open_still = all
+
+-- nobody is left open where, behind settle, all are settled
+pub none-open : (settle all : Bool) → (IsTrue settle → IsTrue all) → (settle && not all) ≡ false
+none-open false all h = refl
+none-open true true h = refl
+none-open true false h = let clash : false ≡ true = h refl in cc
+
+good-run : (s : Script) (events : List Event) → CanRun s.plan → IsChecked s → replay_end s events ≡ Whole → IsGoodRun s events
+good-run s events can checked is =
+    let end = (whole-where s events).0 is in
+    record {
+      safe = run-safe s.plan events can.checked;
+      live = end.live;
+      within = end.within;
+      quiet = λ e.
+          let both = and_parts s.settle (not (all_settled (run s.plan events))) e in
+          quiet-so (all_settled (run s.plan events)) (phases_in events) (length s.phases + quiet_limit s.plan) ((live-ends s events end.live).1 both.0) both.1;
+      steady = λ well steady. none-open s.settle (all_settled (run s.plan events)) (λ on. checked-settles s events checked on end.live well steady);
+      heals = λ healed steady.
+          none-open s.settle (all_settled (run s.plan events)) (λ on. checked-settles s events checked on end.live (opens-well s events healed end.live) steady);
+    }
+
+-- a replay that stops at the same place comes to the same
+ending-same : (s : Script) (events : List Event) (end : ReplayEnd) → replay_ending (upgraded s) events end ≡ replay_ending s events end
+ending-same s events (replay.Refused k) = refl
+ending-same s events (replay.Passes k reached) = refl
+ending-same s events replay.Unfinished = refl
+ending-same s events replay.Whole =
+    ap (λ (w : World). told_or_open (s.settle && not (all_settled w)) (report_text (run (upgraded s).plan events))) (run-same s.plan events)
+    ∙ ap (λ text. told_or_open (s.settle && not (all_settled (run s.plan events))) text) (report-same s.plan events)
+
+same-run : (s : Script) → IsSameRun s
+same-run s =
+    record {
+      live = live-same s;
+      lock = lock-same s;
+      report = report-same s.plan;
+      replays = λ events. ap (replay_ending (upgraded s) events) (replays-same s events) ∙ ending-same s events (replay_end s events);
+    }
+
+-- what is read can be run
+read-can-run : (text : List ℕ) (s : Script) → read text ≡ Some s → CanRun s.plan
+read-can-run text s is = can_run s (reads_have_facts text s is)
+
+pub input-can-run : (input : List ℕ) (s : Script) (events : List Event) → input_of input ≡ Ok (s, events) → CanRun s.plan
+input-can-run input s events is = read-can-run (script_part input) s (is_both input s events is).script
+
+pub input-holds : (what : JournalCommand) (input : List ℕ) → Holds what input
+input-holds Replay input = λ s events is whole.
+    let script = (is_both input s events is).script in
+    good-run s events (read-can-run (script_part input) s script) (reads_checked (script_part input) s script) whole
+input-holds Upgrade input = λ s is. same-run s

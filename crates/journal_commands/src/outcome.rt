@@ -1,0 +1,23 @@
+//! What a command on a script and a journal comes to.
+
+/// What is done with a script and the journal behind it.
+#[derive(Clone, Copy, PartialEq, Eq, Debug)]
+pub enum JournalCommand {
+    /// Writes the report of the journal's run.
+    Replay,
+    /// Writes both in their newest form.
+    Upgrade,
+}
+
+/// What is to be written.
+#[derive(Drop)]
+pub enum Outcome {
+    /// This text.
+    Text(Vec<u8>),
+    /// This report, and that a client is not settled after all quiet phases.
+    Open(Vec<u8>),
+    /// The line on a run that would pass a limit.
+    TooLong(Vec<u8>),
+    /// The line that tells why the input is refused.
+    Refused(Vec<u8>),
+}

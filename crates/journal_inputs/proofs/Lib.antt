@@ -1,0 +1,5 @@
+pub mod Places
+pub mod Refused
+pub mod ByParts
+pub mod Beside
+pub mod ReadBack
