@@ -3,7 +3,8 @@ use Rattle.std.proofs.Common.{◌≡◌, ℕ, Option, None, Some, refl}
 use Rattle.dpc_edge.specs.Edges.{Edge}
 use Rattle.borealis_top.specs.declared.command.Reading.{Reading}
 use Rattle.borealis_top.specs.declared.command.Command.{Command}
-use Rattle.borealis_top.specs.declared.command.Command.TheVariants.{Read, Gen, Help, Reasons, Version}
+use Rattle.borealis_top.specs.declared.command.Command.TheVariants.{Read, Journal, Gen, Help, Reasons, Version}
+use Rattle.journal_commands.specs.declared.outcome.JournalCommand.{JournalCommand}
 use Rattle.borealis_top.specs.declared.status.Status.{Status}
 use Rattle.borealis_top.specs.Programs.{CommandEnds}
 
@@ -14,10 +15,12 @@ pub ends-of : (command : Option Command) (input input_new out out_new err err_ne
     (command ≡ Some Version → CommandEnds (Some Version) input input_new out out_new err err_new result) →
     ((seed : ℕ) → command ≡ Some (Gen seed) → CommandEnds (Some (Gen seed)) input input_new out out_new err err_new result) →
     ((reading : Reading) → command ≡ Some (Read reading) → CommandEnds (Some (Read reading)) input input_new out out_new err err_new result) →
+    ((what : JournalCommand) → command ≡ Some (Journal what) → CommandEnds (Some (Journal what)) input input_new out out_new err err_new result) →
     CommandEnds command input input_new out out_new err err_new result
-ends-of None input input_new out out_new err err_new result none help reasons version gen read = none refl
-ends-of (Some Help) input input_new out out_new err err_new result none help reasons version gen read = help refl
-ends-of (Some Reasons) input input_new out out_new err err_new result none help reasons version gen read = reasons refl
-ends-of (Some Version) input input_new out out_new err err_new result none help reasons version gen read = version refl
-ends-of (Some (Gen seed)) input input_new out out_new err err_new result none help reasons version gen read = gen seed refl
-ends-of (Some (Read reading)) input input_new out out_new err err_new result none help reasons version gen read = read reading refl
+ends-of None input input_new out out_new err err_new result none help reasons version gen read journal = none refl
+ends-of (Some Help) input input_new out out_new err err_new result none help reasons version gen read journal = help refl
+ends-of (Some Reasons) input input_new out out_new err err_new result none help reasons version gen read journal = reasons refl
+ends-of (Some Version) input input_new out out_new err err_new result none help reasons version gen read journal = version refl
+ends-of (Some (Gen seed)) input input_new out out_new err err_new result none help reasons version gen read journal = gen seed refl
+ends-of (Some (Read reading)) input input_new out out_new err err_new result none help reasons version gen read journal = read reading refl
+ends-of (Some (Journal what)) input input_new out out_new err err_new result none help reasons version gen read journal = journal what refl

@@ -15,8 +15,8 @@ use Rattle.borealis_top.specs.declared.command.Reading.{Reading}
 use Rattle.borealis_top.specs.declared.command.Reading.TheVariants.{Ideal}
 use Rattle.borealis_top.specs.declared.status.Status.{Status}
 use Rattle.borealis_top.specs.declared.status.Status.TheVariants.{Done, Refused, NoMemory, NotSettled, TooLong}
-use Rattle.borealis_top.specs.Texts.{not_settled_line, too_long_line}
-use Rattle.borealis_top.specs.Ends.{IsTold, IsToldOpen, IsToldAlong, IsReadInPart, IsRead, IsNotRead, Answers, Passes, fault_line, answer_to, excess_of, leaves_open, ReadEnds, IsWhole, ReadIsWhole}
+use Rattle.status_lines.specs.Lines.{fault_line, not_settled_line, too_long_line}
+use Rattle.borealis_top.specs.Ends.{IsTold, IsToldOpen, IsToldAlong, IsReadInPart, IsRead, IsNotRead, Answers, Passes, answer_to, excess_of, leaves_open, ReadEnds, IsWhole, ReadIsWhole}
 use Rattle.borealis_top.proofs.Runs.{read-Holds}
 
 -- ---- what was read

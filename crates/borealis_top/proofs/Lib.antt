@@ -1,5 +1,6 @@
 pub mod Known
 pub mod Runs
 pub mod Ended
+pub mod Journaled
 pub mod Commands
 pub mod Ideals

@@ -12,7 +12,8 @@ use Rattle.law_scripts.proofs.ReadChecked.{reads_checked}
 use Rattle.law_settling_whole.proofs.Whole.{checked-settles, healed-settles, crashless-settles}
 use Rattle.law_fit.specs.Fits.{CanRun}
 use Rattle.law_checked_runs.proofs.Plans.{can_run}
-use Rattle.law_safety.proofs.Law.{run-good, run-safe}
+use Rattle.journal_commands.proofs.Promised.{quiet-so, none-open}
+use Rattle.law_safety.proofs.Law.{run-safe}
 use Rattle.world_model.specs.Worlds.{run, all_settled}
 use Rattle.world_model.specs.Schedules.{lockstep_journal, quiet_limit}
 use Rattle.law_schedules.specs.Journals.{phases_in}
@@ -25,21 +26,6 @@ use Rattle.borealis_top.specs.Ends.{run_of, IsGoodRun, Holds}
 -- so its plan can be run
 pub read_can_run : (text : List ℕ) (s : Script) → reading text ≡ Ok s → CanRun s.plan
 read_can_run text s e = can_run s (reads_have_facts text s (ap script_in e))
-
--- the world of a run is one of its plan
-pub run-plan : (plan : Plan) (events : List Event) → CanRun plan → (run plan events).plan ≡ plan
-run-plan plan events can = (run-good plan events can.checked).of_plan
-
--- a client is left open behind settle only where all quiet phases went by
-quiet-so : (b : Bool) (p : ℕ) (q : ℕ) → (b ≡ true) ⊎ (p ≡ q) → not b ≡ true → p ≡ q
-quiet-so b p q (inl settled) open_still = absurd (cc)
-quiet-so b p q (inr all) open_still = all
-
--- nobody is left open where, behind settle, all are settled
-none-open : (settle all : Bool) → (IsTrue settle → IsTrue all) → (settle && not all) ≡ false
-none-open false all h = refl
-none-open true true h = refl
-none-open true false h = let clash : false ≡ true = h refl in cc
 
 good-run : (s : Script) → CanRun s.plan → IsChecked s → IsGoodRun s
 good-run s can checked =
@@ -59,8 +45,3 @@ read-Holds (Run form) text s e = good-run s (read_can_run text s e) (reads_check
 read-Holds Check text s e = tt
 read-Holds Print text s e = tt
 read-Holds Ideal text s e = tt
-
--- what holds of a value, if there is one, gives what follows from it; what holds stands before what follows, which it tells the type of
-pub then-IfOk : {A E : Type 0} {P : A → Type 0} (r : Result A E) → IfOk r P → (Q : A → Type 0) → ((x : A) → P x → Q x) → IfOk r Q
-then-IfOk (Ok x) p Q f = f x p
-then-IfOk (Err e) p Q f = tt

@@ -6,7 +6,9 @@ use Rattle.borealis_top.specs.declared.command.Form.TheVariants.{Text, Short, Js
 use Rattle.borealis_top.specs.declared.command.Reading.{Reading}
 use Rattle.borealis_top.specs.declared.command.Reading.TheVariants.{Run, Check, Print, Ideal}
 use Rattle.borealis_top.specs.declared.command.Command.{Command}
-use Rattle.borealis_top.specs.declared.command.Command.TheVariants.{Read, Gen, Help, Reasons, Version}
+use Rattle.borealis_top.specs.declared.command.Command.TheVariants.{Read, Journal, Gen, Help, Reasons, Version}
+use Rattle.journal_commands.specs.declared.outcome.JournalCommand.{JournalCommand}
+use Rattle.journal_commands.specs.declared.outcome.JournalCommand.TheVariants.{Replay, Upgrade}
 
 -- what is done with a script that is read
 abbrev pub reading_word : List ℕ → Option Reading
@@ -17,13 +19,24 @@ reading_word w =
     else (if bytes_eq w (codes "ideal") then Some Ideal
     else None)))
 
+-- what is done with a script and the journal behind it
+abbrev pub journal_word : List ℕ → Option JournalCommand
+journal_word w =
+    if bytes_eq w (codes "replay") then Some Replay
+    else (if bytes_eq w (codes "upgrade") then Some Upgrade
+    else None)
+
+-- what is done with an input
+abbrev pub input_word : List ℕ → Option Command
+input_word w = elim (reading_word w) [ Some reading ↦ Some (Read reading) | None ↦ option_map Journal (journal_word w) ]
+
 -- the command that one word is
 abbrev pub command_word : List ℕ → Option Command
 command_word w =
     if bytes_eq w (codes "--help") then Some Help
     else (if bytes_eq w (codes "--version") then Some Version
     else (if bytes_eq w (codes "reasons") then Some Reasons
-    else option_map Read (reading_word w)))
+    else input_word w))
 
 -- the number of a generated script: 1 to 1000
 abbrev pub seed_of : List ℕ → Option ℕ

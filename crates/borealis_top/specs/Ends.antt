@@ -7,7 +7,6 @@ use Rattle.dpc_model.specs.Limits.{most_input}
 use Rattle.dpc_model.specs.ScriptText.{script_text}
 use Rattle.dpc_model.specs.declared.scripts.Script.{Script}
 use Rattle.script_rules.specs.declared.reasons.PlanFault.{PlanFault}
-use Rattle.script_rules.specs.ReasonTable.{number_of}
 use Rattle.script_rules.specs.Reading.{read, refusal}
 use Rattle.load_gen.specs.Generated.{generated}
 use Rattle.world_model.specs.Worlds.{World, Sums, run, all_settled, excess}
@@ -28,7 +27,8 @@ use Rattle.borealis_top.specs.declared.command.Reading.{Reading}
 use Rattle.borealis_top.specs.declared.command.Reading.TheVariants.{Run, Check, Print, Ideal}
 use Rattle.borealis_top.specs.declared.status.Status.{Status}
 use Rattle.borealis_top.specs.declared.status.Status.TheVariants.{Done, Words, Refused, NoMemory, NotSettled, ReadFault, WriteFault, TooLong}
-use Rattle.borealis_top.specs.Texts.{refusal_line, ok_text, not_settled_line, too_long_line}
+use Rattle.status_lines.specs.Lines.{fault_line, not_settled_line, too_long_line}
+use Rattle.borealis_top.specs.Texts.{ok_text}
 use Rattle.borealis_top.specs.Transfers.{GaveAtMost}
 
 -- a text was to be written, with a status: it was, or the sink failed, which is a status of its own
@@ -118,9 +118,6 @@ pub record Passes (reading : Reading) (input input_new : Edge) (sums : Sums) : T
   pub script : Script
   pub read : IsRead input input_new script
   pub past : excess_of reading script ≡ Some sums
-
-abbrev pub fault_line : PlanFault → List ℕ
-fault_line fault = refusal_line fault.line (number_of fault.reason)
 
 -- the failure-free streams, which are written as they are milled, were written in part
 pub record WroteSome (reading : Reading) (input input_new out out_new : Edge) : Type 0 where

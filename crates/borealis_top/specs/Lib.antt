@@ -3,4 +3,5 @@ pub mod Commands
 pub mod Texts
 pub mod Transfers
 pub mod Ends
+pub mod JournalEnds
 pub mod Programs

@@ -3,13 +3,14 @@ use Rattle.std.specs.Prelude.{◌≡◌, ℕ, ◌⊎◌, List, Option, None, Som
 use Rattle.dpc_edge.specs.Edges.{Edge}
 use Rattle.script_rules.specs.ReasonTable.{reasons_text}
 use Rattle.borealis_top.specs.declared.command.Command.{Command}
-use Rattle.borealis_top.specs.declared.command.Command.TheVariants.{Read, Gen, Help, Reasons, Version}
+use Rattle.borealis_top.specs.declared.command.Command.TheVariants.{Read, Journal, Gen, Help, Reasons, Version}
 use Rattle.borealis_top.specs.declared.status.Status.{Status}
 use Rattle.borealis_top.specs.declared.status.Status.TheVariants.{Done, Words, NoMemory}
 use Rattle.borealis_top.specs.Codes.{code_of}
 use Rattle.borealis_top.specs.Commands.{command_of}
 use Rattle.borealis_top.specs.Texts.{help_text, version_text, unknown_words_line}
 use Rattle.borealis_top.specs.Ends.{IsTold, ReadEnds, ReadIsWhole, GenEnds}
+use Rattle.borealis_top.specs.JournalEnds.{JournalEnds, JournalIsWhole}
 
 -- how a command ends, or words that are none
 abbrev pub CommandEnds : Option Command → Edge → Edge → Edge → Edge → Edge → Edge → Status → Type 0
@@ -23,6 +24,8 @@ CommandEnds (Some Version) input input_new out out_new err err_new result =
     IsTold out out_new version_text Done result × (err_new ≡ err) × (input_new ≡ input)
 CommandEnds (Some (Read reading)) input input_new out out_new err err_new result =
     ReadEnds reading input input_new out out_new err err_new result × ReadIsWhole reading input input_new out out_new err err_new result
+CommandEnds (Some (Journal what)) input input_new out out_new err err_new result =
+    JournalEnds what input input_new out out_new err err_new result × JournalIsWhole what input input_new out out_new err err_new result
 CommandEnds (Some (Gen seed)) input input_new out out_new err err_new result =
     GenEnds seed out out_new result × (err_new ≡ err) × (input_new ≡ input)
 

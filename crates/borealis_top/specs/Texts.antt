@@ -1,6 +1,5 @@
 -- The texts and lines that the program writes beside reports.
-use Rattle.std.specs.Prelude.{ℕ, List, [], ◌∷◌, ◌++◌, flat_map, codes, decimal}
-use Rattle.world_model.specs.Worlds.{Sums}
+use Rattle.std.specs.Prelude.{ℕ, List, [], ◌∷◌, ◌++◌, flat_map, codes}
 
 -- lines as a text: behind each one a line feed
 abbrev pub of_lines : List (List ℕ) → List ℕ
@@ -16,6 +15,8 @@ help_text =
     ∷ codes "borealis check < SCRIPT      tells whether a script is right, or its first faulty line and why"
     ∷ codes "borealis print < SCRIPT      writes a script in canonical form"
     ∷ codes "borealis ideal < SCRIPT      writes the failure-free stream of each client"
+    ∷ codes "borealis replay < BOTH       runs the journal behind a script, and writes what each client received"
+    ∷ codes "borealis upgrade < BOTH      writes a script, and the journal behind it if there is one, in the newest form"
     ∷ codes "borealis gen N               writes the generated script of a number, 1 to 1000"
     ∷ codes "borealis reasons             writes the reasons to refuse a line, each with its number"
     ∷ codes "borealis --help              writes these lines"
@@ -30,18 +31,6 @@ version_text = codes "borealis 0.1" ++ 10 ∷ []
 -- the line on words that are no command
 abbrev pub unknown_words_line : List ℕ
 unknown_words_line = codes "borealis: unknown words" ++ 10 ∷ []
-
--- the line on a refusal: the first faulty line, and the number of the reason
-abbrev pub refusal_line : ℕ → ℕ → List ℕ
-refusal_line line number = codes "line " ++ decimal line ++ codes ": reason " ++ decimal number ++ 10 ∷ []
-
--- the line on clients that are not settled after all quiet phases
-abbrev pub not_settled_line : List ℕ
-not_settled_line = codes "not settled" ++ 10 ∷ []
-
--- the line on a run that would pass a limit: how many envelopes and items there would be
-abbrev pub too_long_line : Sums → List ℕ
-too_long_line s = codes "too long: " ++ decimal s.envelopes ++ codes " envelopes, " ++ decimal s.items ++ codes " items" ++ 10 ∷ []
 
 -- what `check` writes of a right script
 abbrev pub ok_text : List ℕ

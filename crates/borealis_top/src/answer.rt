@@ -5,7 +5,6 @@ ghost use Rattle.law_fit.specs.Fits.{CanRun};
 ghost use Rattle.client_reports.specs.Json.{HasPlainNames};
 ghost use Rattle.world_core.specs.Runs.{world_of};
 ghost use Rattle.borealis_top.specs.Ends.{IsAnswer, report_as};
-ghost use Rattle.borealis_top.specs.Texts.{too_long_line};
 ghost use Rattle.borealis_top.specs.declared.command.Reading.TheVariants as reading;
 
 use crate::command::{Form, Reading};
@@ -15,10 +14,10 @@ use diagram_printer::print_script;
 use dpc_lists::faults::NoMemory;
 use dpc_model::plans::Plan;
 use dpc_model::scripts::Script;
-use itoa::Buffer;
 use lockstep::faults::RunFault;
 use lockstep::lock::run;
-use std::alloc::{AllocError, Global};
+use status_lines::too_long_line;
+use std::alloc::Global;
 use world_core::world::World;
 
 /// What `check` writes of a right script.
@@ -67,7 +66,7 @@ fn run_answer(alloc: Global, form: Form, script: Script) -> Result<Answer, NoMem
         Ok(world) => world,
         Err(RunFault::NoMemory) => return Err(NoMemory),
         Err(RunFault::TooLong { envelopes, items }) => {
-            return Ok(Answer::TooLong(too_long(alloc, envelopes, items)?));
+            return Ok(Answer::TooLong(too_long_line(alloc, envelopes, items)?));
         }
     };
     let text = report(alloc, form, &world)?;
@@ -90,18 +89,4 @@ fn report(alloc: Global, form: Form, world: &World) -> Result<Vec<u8>, NoMemory>
         Form::Short => report_short(alloc, world.plan(), world.clients()),
         Form::Json => report_json(alloc, world.plan(), world.clients()),
     }
-}
-
-/// The line on a run that would pass a limit.
-fn too_long(alloc: Global, envelopes: u64, items: u64) -> Result<Vec<u8>, AllocError>
-    ensures { IfOk result (λ line. line.items ≡ too_long_line (record { envelopes = envelopes; items = items })) }
-{
-    let mut buffer = Buffer::new();
-    let mut line = Vec::from_slice(alloc, b"too long: ")?;
-    line.extend_from_slice(buffer.format(envelopes).as_bytes())?;
-    line.extend_from_slice(b" envelopes, ")?;
-    line.extend_from_slice(buffer.format(items).as_bytes())?;
-    line.extend_from_slice(b" items")?;
-    line.push(b'\n')?;
-    Ok(line)
 }

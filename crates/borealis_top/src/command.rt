@@ -1,7 +1,8 @@
 //! What the words of the command line ask for.
 ghost use Rattle.std.specs.Prelude.{◌≡◌, map, string_bytes, bytes_eq};
-ghost use Rattle.borealis_top.specs.Commands.{reading_word, form_word, seed_of, command_word, two_words, command_of};
+ghost use Rattle.borealis_top.specs.Commands.{reading_word, journal_word, input_word, form_word, seed_of, command_word, two_words, command_of};
 
+use journal_commands::outcome::JournalCommand;
 use script_words::spelling::number;
 
 /// How a run is reported.
@@ -33,6 +34,8 @@ pub enum Reading {
 pub enum Command {
     /// Reads a script, and answers.
     Read(Reading),
+    /// Reads a script and the journal behind it, and answers.
+    Journal(JournalCommand),
     /// Writes the generated script of a number.
     Gen(u64),
     /// Writes which words there are.
@@ -70,6 +73,29 @@ fn reading_in(word: &String) -> Option<Reading>
     }
 }
 
+/// What is done with a script and the journal behind it, where a word asks for that.
+fn journal_command_in(word: &String) -> Option<JournalCommand>
+    ensures { result ≡ journal_word (string_bytes word.now) }
+{
+    if is_word(word, b"replay") {
+        Some(JournalCommand::Replay)
+    } else if is_word(word, b"upgrade") {
+        Some(JournalCommand::Upgrade)
+    } else {
+        None
+    }
+}
+
+/// What is done with an input, where a word asks for that.
+fn input_command(word: &String) -> Option<Command>
+    ensures { result ≡ input_word (string_bytes word.now) }
+{
+    match reading_in(word) {
+        Some(reading) => Some(Command::Read(reading)),
+        None => Some(Command::Journal(journal_command_in(word)?)),
+    }
+}
+
 /// The command that one word is.
 fn lone_command(word: &String) -> Option<Command>
     ensures { result ≡ command_word (string_bytes word.now) }
@@ -81,7 +107,7 @@ fn lone_command(word: &String) -> Option<Command>
     } else if is_word(word, b"reasons") {
         Some(Command::Reasons)
     } else {
-        Some(Command::Read(reading_in(word)?))
+        input_command(word)
     }
 }
 

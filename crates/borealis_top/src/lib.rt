@@ -3,6 +3,7 @@
 
 mod answer;
 mod command;
+mod journal;
 pub mod plain;
 pub mod program;
 pub mod status;

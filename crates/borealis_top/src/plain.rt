@@ -6,15 +6,19 @@ ghost use Rattle.report.specs.Text.{ideal_text};
 ghost use Rattle.ideal_run.specs.IdealPlans.{IsIdealPlan};
 ghost use Rattle.load_gen.specs.Generated.{generated};
 ghost use Rattle.script_rules.specs.ReasonTable.{reasons_text};
+ghost use Rattle.journal_commands.specs.declared.outcome.JournalCommand as journal;
+ghost use Rattle.status_lines.specs.Lines as lines;
 ghost use Rattle.borealis_top.specs.Commands.{command_of};
-ghost use Rattle.borealis_top.specs.Texts.{help_text, version_text, unknown_words_line, refusal_line};
-ghost use Rattle.borealis_top.specs.Ends.{IsTold, IsToldOpen, IsToldAlong, fault_line, ReadEnds, ReadIsWhole, GenEnds};
+ghost use Rattle.borealis_top.specs.JournalEnds.{JournalEnds, JournalIsWhole};
+ghost use Rattle.borealis_top.specs.Texts.{help_text, version_text, unknown_words_line};
+ghost use Rattle.borealis_top.specs.Ends.{IsTold, IsToldOpen, IsToldAlong, ReadEnds, ReadIsWhole, GenEnds};
 ghost use Rattle.borealis_top.specs.declared.command.Reading as reading;
 
 use crate::answer::{Answer, answer_script};
 use crate::command::{Command, Reading, command_in};
+use crate::journal::read_journal;
 use crate::status::Status;
-use crate::transfer::{InputFault, read_whole};
+use crate::transfer::{InputFault, MOST_INPUT, read_whole};
 use diagram_printer::print_script;
 use diagram_reader::faults::ScriptFault;
 use diagram_reader::read_script;
@@ -25,10 +29,10 @@ use dpc_lists::faults::NoMemory;
 use dpc_model::plans::Plan;
 use ideal_run::faults::WriteFault;
 use ideal_run::write_ideal;
-use itoa::Buffer;
 use load_gen::generate;
 use script_rules::reasons::{PlanFault, Reason};
-use std::alloc::{AllocError, Global};
+use status_lines::fault_line;
+use std::alloc::Global;
 
 /// What `--help` writes.
 const HELP: &[u8] = b"\
@@ -38,6 +42,8 @@ borealis run json < SCRIPT   the same as JSON
 borealis check < SCRIPT      tells whether a script is right, or its first faulty line and why
 borealis print < SCRIPT      writes a script in canonical form
 borealis ideal < SCRIPT      writes the failure-free stream of each client
+borealis replay < BOTH       runs the journal behind a script, and writes what each client received
+borealis upgrade < BOTH      writes a script, and the journal behind it if there is one, in the newest form
 borealis gen N               writes the generated script of a number, 1 to 1000
 borealis reasons             writes the reasons to refuse a line, each with its number
 borealis --help              writes these lines
@@ -69,8 +75,8 @@ const VERSION: &[u8] = b"borealis 0.1\n";
 /// The line for words that are no command.
 const UNKNOWN_WORDS: &[u8] = b"borealis: unknown words\n";
 
-/// The refusal of an input that is longer than the longest script.
-const TOO_LONG: PlanFault = PlanFault {
+/// The refusal of an input that is longer than the longest.
+pub(crate) const TOO_LONG: PlanFault = PlanFault {
     line: 0,
     reason: Reason::PastLimit,
 };
@@ -107,6 +113,11 @@ pub fn plain<S: Source, O: Sink, E: Sink>(
     ensures complete { (what : reading.Reading) → command_of (map string_bytes words.now) ≡ Some (Command.Read what)
         → ReadIsWhole what (S.edge input.old) (S.edge input.new) (O.edge out.old) (O.edge out.new) (E.edge err.old)
         (E.edge err.new) result }
+    ensures journal { (what : journal.JournalCommand) → command_of (map string_bytes words.now) ≡ Some (Command.Journal what)
+        → JournalEnds what (S.edge input.old) (S.edge input.new) (O.edge out.old) (O.edge out.new) (E.edge err.old) (E.edge err.new) result }
+    ensures answered { (what : journal.JournalCommand) → command_of (map string_bytes words.now) ≡ Some (Command.Journal what)
+        → JournalIsWhole what (S.edge input.old) (S.edge input.new) (O.edge out.old) (O.edge out.new) (E.edge err.old)
+        (E.edge err.new) result }
 {
     match command_in(words) {
         None => told(err, UNKNOWN_WORDS, Status::Words),
@@ -115,11 +126,12 @@ pub fn plain<S: Source, O: Sink, E: Sink>(
         Some(Command::Version) => told(out, VERSION, Status::Done),
         Some(Command::Gen(seed)) => gen_script(alloc, seed, out),
         Some(Command::Read(reading)) => read(alloc, reading, input, out, err),
+        Some(Command::Journal(what)) => read_journal(alloc, what, input, out, err),
     }
 }
 
 /// Writes a text or a line: the status is this one, or that of a failed write.
-fn told<K: Sink>(sink: &mut K, text: &[u8], status: Status) -> Status
+pub(crate) fn told<K: Sink>(sink: &mut K, text: &[u8], status: Status) -> Status
     ensures { IsTold (K.edge sink.old) (K.edge sink.new) text.now status result }
 {
     match write_whole(sink, text) {
@@ -166,7 +178,7 @@ fn read<S: Source, O: Sink, E: Sink>(
     ensures complete { ReadIsWhole reading (S.edge input.old) (S.edge input.new) (O.edge out.old) (O.edge out.new)
         (E.edge err.old) (E.edge err.new) result }
 {
-    let text = match read_whole(alloc, input) {
+    let text = match read_whole(alloc, input, MOST_INPUT) {
         Ok(text) => text,
         Err(InputFault::NoMemory) => return Status::NoMemory,
         Err(InputFault::Failed) => return Status::ReadFault,
@@ -189,7 +201,7 @@ fn read<S: Source, O: Sink, E: Sink>(
 }
 
 /// Writes the report of a run that left a client open, and then the line that says so.
-fn told_open<O: Sink, E: Sink>(out: &mut O, err: &mut E, text: &[u8]) -> Status
+pub(crate) fn told_open<O: Sink, E: Sink>(out: &mut O, err: &mut E, text: &[u8]) -> Status
     ensures { IsToldOpen (O.edge out.old) (O.edge out.new) (E.edge err.old) (E.edge err.new) text.now result }
 {
     match write_whole(out, text) {
@@ -212,24 +224,11 @@ fn told_ideal<O: Sink>(alloc: Global, plan: &Plan, out: &mut O) -> Status
 
 /// Tells the first faulty line and the reason.
 fn refused<K: Sink>(alloc: Global, err: &mut K, fault: PlanFault) -> Status
-    ensures { IsTold (K.edge err.old) (K.edge err.new) (fault_line fault) Status.Refused result
+    ensures { IsTold (K.edge err.old) (K.edge err.new) (lines.fault_line fault) Status.Refused result
         ⊎ ((result ≡ Status.NoMemory) × Stays (K.edge err.old) (K.edge err.new)) }
 {
-    match refusal(alloc, fault.line, fault.reason.number()) {
+    match fault_line(alloc, fault) {
         Ok(text) => told(err, text.as_slice(), Status::Refused),
         Err(_) => Status::NoMemory,
     }
-}
-
-/// The line of a refusal, by the number of its reason.
-fn refusal(alloc: Global, line: u64, number: u64) -> Result<Vec<u8>, AllocError>
-    ensures { IfOk result (λ text. text.items ≡ refusal_line line number) }
-{
-    let mut buffer = Buffer::new();
-    let mut text = Vec::from_slice(alloc, b"line ")?;
-    text.extend_from_slice(buffer.format(line).as_bytes())?;
-    text.extend_from_slice(b": reason ")?;
-    text.extend_from_slice(buffer.format(number).as_bytes())?;
-    text.push(b'\n')?;
-    Ok(text)
 }

@@ -1,5 +1,5 @@
 //! Whole inputs, over sources that move pieces.
-ghost use Rattle.std.specs.Prelude.{◌≡◌, ◌≢◌, ◌+◌, ◌<◌, ◌≤◌, ◌++◌, ℕ, List, take, length, vec_len, IfOk, OnOk, OnErr, Err};
+ghost use Rattle.std.specs.Prelude.{◌≡◌, ◌≢◌, ◌+◌, ◌^◌, ◌<◌, ◌≤◌, ◌++◌, ℕ, List, take, length, vec_len, IfOk, OnOk, OnErr, Err};
 ghost use Rattle.std.specs.Io.KnownBytes.{IsAtEnd};
 ghost use Rattle.dpc_edge.specs.Faults.{Rises};
 ghost use Rattle.dpc_edge.specs.Edges.{Gave};
@@ -12,6 +12,9 @@ use std::alloc::{AllocError, AllocFailed, Global};
 /// The longest script, in bytes: 64 MiB.
 pub const MOST_INPUT: usize = 1 << 26;
 
+/// The longest script with a journal behind it, in bytes: 512 MiB.
+pub const MOST_JOURNAL_INPUT: usize = 1 << 29;
+
 /// The most bytes that one read asks for.
 const PIECE: usize = 1 << 16;
 
@@ -21,7 +24,7 @@ pub enum InputFault {
     NoMemory,
     /// The source failed.
     Failed,
-    /// It is longer than the longest script. One byte past that was read.
+    /// It is longer than the longest input. One byte past that was read.
     TooLong,
 }
 
@@ -72,23 +75,28 @@ fn read_more<S: Source>(
     Ok(given)
 }
 
-/// Reads an input to its end, or to one byte past the longest script.
-pub fn read_whole<S: Source>(alloc: Global, input: &mut S) -> Result<Vec<u8>, InputFault>
+/// Reads an input to its end, or to one byte past the longest, which has `longest` bytes.
+pub fn read_whole<S: Source>(
+    alloc: Global,
+    input: &mut S,
+    longest: usize,
+) -> Result<Vec<u8>, InputFault>
+    requires { longest + 1 < 2 ^ 62 }
     ensures gave { IfOk result (λ bytes. Gave (S.edge input.old) (S.edge input.new) bytes.items) }
     ensures end { OnOk result (IsAtEnd (S.edge input.new).bytes) }
-    ensures short { IfOk result (λ bytes. vec_len bytes ≤ MOST_INPUT) }
+    ensures short { IfOk result (λ bytes. vec_len bytes ≤ longest) }
     ensures long { result ≡ Err InputFault.TooLong
-        → (bytes : List ℕ) × Gave (S.edge input.old) (S.edge input.new) bytes × (length bytes ≡ MOST_INPUT + 1) }
+        → (bytes : List ℕ) × Gave (S.edge input.old) (S.edge input.new) bytes × (length bytes ≡ longest + 1) }
     ensures failed { result ≡ Err InputFault.Failed → Rises (S.edge input.old).faults (S.edge input.new).faults }
     ensures others { result ≢ Err InputFault.Failed → (S.edge input.new).faults ≡ (S.edge input.old).faults }
 
-    // Whatever ends it, at most one byte past the longest script is read.
-    ensures most { OnErr result (GaveAtMost (MOST_INPUT + 1) (S.edge input.old) (S.edge input.new)) }
+    // Whatever ends it, at most one byte past the longest input is read.
+    ensures most { OnErr result (GaveAtMost (longest + 1) (S.edge input.old) (S.edge input.new)) }
 {
     let mut room = piece_room(alloc)?;
     let mut bytes = Vec::new(alloc);
-    while bytes.len() <= MOST_INPUT {
-        let most = PIECE.min(MOST_INPUT + 1 - bytes.len());
+    while bytes.len() <= longest {
+        let most = PIECE.min(longest + 1 - bytes.len());
         if read_more(input, &mut room[..most], &mut bytes)? == 0 {
             return Ok(bytes);
         }

@@ -1,7 +1,7 @@
 -- The clients stand for those of the world, which is one of this plan.
 use Rattle.std.proofs.Common.{◌∙◌, sym}
 use Rattle.world_core.specs.Runs.{world_of}
-use Rattle.borealis_top.proofs.Runs.{run-plan, then-IfOk}
+use Rattle.journal_commands.proofs.Answered.{run-plan, then-IfOk}
 use Rattle.borealis_top.proofs.answer.report.Goals as goal
 
 pub returns-in-Text : goal.returns-in-Text

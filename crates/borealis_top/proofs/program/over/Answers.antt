@@ -24,7 +24,8 @@ returns g c =
                 (λ e. let h = done.ensures.reasons e in (h.0, ap line.edge h.1, ap source.edge h.2))
                 (λ e. let h = done.ensures.version e in (h.0, ap line.edge h.1, ap source.edge h.2))
                 (λ seed e. let h = done.ensures.made seed e in (h.0, ap line.edge h.1, ap source.edge h.2))
-                (λ reading e. (done.ensures.read reading e, done.ensures.complete reading e))));
+                (λ reading e. (done.ensures.read reading e, done.ensures.complete reading e))
+                (λ what e. (done.ensures.journal what e, done.ensures.answered what e))));
           }
       | in-Err w ↦
           record {

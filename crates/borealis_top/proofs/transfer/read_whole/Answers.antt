@@ -1,4 +1,4 @@
-use Rattle.std.proofs.Common.{Result, Ok, Err, OnErr, arith}
+use Rattle.std.proofs.Common.{Result, Ok, Err, OnErr, ◌+◌, arith}
 use Rattle.std.proofs.lemmas.List.{length-take}
 use Rattle.borealis_top.proofs.Known.{Gave-some}
 use Rattle.borealis_top.proofs.transfer.read_whole.Goals as goal
@@ -13,5 +13,5 @@ pub returns-in_err-read_more-clause-most : goal.returns-in_err-read_more-clause-
 returns-in_err-read_more-clause-most g c =
     let before = c.loop-bytes.invariant in
     let last = c.in_err-read_more.ensures.most in
-    on_err _ _ (Gave-some _ _ _ c.loop-bytes.bytes.items _ 67108865 before.gave last
+    on_err _ _ (Gave-some _ _ _ c.loop-bytes.bytes.items _ (c.args.longest + 1) before.gave last
     (omega (arith, length-take c.min-most.result c.deref_mut.result.now, c.min-most.ensures, before.short, c.loop-bytes.bytes.ok, c.loop-bytes-test.true, c.len.ensures, c.len-in-loop-bytes.ensures)))

@@ -1,0 +1,89 @@
+-- How a command on a script and the journal behind it ends: what each side of it took or gave, by status.
+use Rattle.std.specs.Prelude.{◌≡◌, ◌⊎◌, ℕ, ◌+◌, List, length, Some}
+use Rattle.std.specs.Io.KnownBytes.{IsAtEnd}
+use Rattle.dpc_edge.specs.Faults.{Rises}
+use Rattle.dpc_edge.specs.Edges.{Edge, Stays, Gave, Took, TookPart}
+use Rattle.status_lines.specs.Lines.{not_settled_line, too_long_line}
+use Rattle.world_model.specs.Worlds.{Sums}
+use Rattle.journal_commands.specs.declared.outcome.JournalCommand.{JournalCommand}
+use Rattle.journal_commands.specs.declared.outcome.Outcome.{Outcome}
+use Rattle.journal_commands.specs.Endings.{Ending, Told, LeftOpen, PastLimits, RefusedBy, most_journal_input, ending_of, IsEnding}
+use Rattle.journal_commands.specs.Promises.{Holds}
+use Rattle.borealis_top.specs.declared.status.Status.{Status}
+use Rattle.borealis_top.specs.declared.status.Status.TheVariants.{Done, Words, Refused, NoMemory, NotSettled, ReadFault, WriteFault, TooLong}
+use Rattle.borealis_top.specs.declared.transfer.InputFault.{InputFault}
+use Rattle.borealis_top.specs.declared.transfer.InputFault.TheVariants as input_fault
+use Rattle.borealis_top.specs.Transfers.{GaveAtMost}
+use Rattle.borealis_top.specs.Ends.{IsTold, IsToldOpen}
+
+-- an input was read to its end, or to one byte past the longest, and comes to this; what is promised of it holds
+pub record ComesTo (what : JournalCommand) (input input_new : Edge) (ending : Ending) : Type 0 where
+  pub text : List ℕ
+  pub gave : Gave input input_new text
+  pub whole : IsAtEnd input_new.bytes ⊎ (length text ≡ most_journal_input + 1)
+  pub comes : ending_of what text ≡ ending
+  pub holds : Holds what text
+
+abbrev pub IsReadInPart : Edge → Edge → Type 0
+IsReadInPart old new = GaveAtMost (most_journal_input + 1) old new
+
+-- how it ends, by its status
+abbrev pub JournalEnds : JournalCommand → Edge → Edge → Edge → Edge → Edge → Edge → Status → Type 0
+JournalEnds what input input_new out out_new err err_new Done =
+    (text : List ℕ) × ComesTo what input input_new (Told text) × Took out out_new text × Stays err err_new
+JournalEnds what input input_new out out_new err err_new NotSettled =
+    (text : List ℕ) × ComesTo what input input_new (LeftOpen text) × Took out out_new text × Took err err_new not_settled_line
+JournalEnds what input input_new out out_new err err_new TooLong =
+    (sums : Sums) × ComesTo what input input_new (PastLimits sums) × Stays out out_new × Took err err_new (too_long_line sums)
+JournalEnds what input input_new out out_new err err_new Refused =
+    (line : List ℕ) × ComesTo what input input_new (RefusedBy line) × Stays out out_new × Took err err_new line
+JournalEnds what input input_new out out_new err err_new NoMemory =
+    Stays out out_new × Stays err err_new × IsReadInPart input input_new × (input_new.faults ≡ input.faults)
+JournalEnds what input input_new out out_new err err_new ReadFault =
+    Stays out out_new × Stays err err_new × IsReadInPart input input_new × Rises input.faults input_new.faults
+JournalEnds what input input_new out out_new err err_new WriteFault =
+    ((text : List ℕ) × ComesTo what input input_new (Told text) × TookPart out out_new text × Stays err err_new)
+    ⊎ ((text : List ℕ) × ComesTo what input input_new (LeftOpen text) × TookPart out out_new text × Stays err err_new)
+    ⊎ ((text : List ℕ) × ComesTo what input input_new (LeftOpen text) × Took out out_new text × TookPart err err_new not_settled_line)
+    ⊎ ((sums : Sums) × ComesTo what input input_new (PastLimits sums) × Stays out out_new × TookPart err err_new (too_long_line sums))
+    ⊎ ((line : List ℕ) × ComesTo what input input_new (RefusedBy line) × Stays out out_new × TookPart err err_new line)
+JournalEnds what input input_new out out_new err err_new Words = ⊥
+
+-- ---- the parts of such a command
+
+-- what was read comes to this
+abbrev pub IsOutcome : JournalCommand → Edge → Edge → Outcome → Type 0
+IsOutcome what input input_new outcome = (ending : Ending) × ComesTo what input input_new ending × IsEnding ending outcome
+
+-- why an input was not read whole
+abbrev pub FailsSo : Edge → Edge → InputFault → Type 0
+FailsSo input input_new input_fault.NoMemory = IsReadInPart input input_new × (input_new.faults ≡ input.faults)
+FailsSo input input_new input_fault.Failed = IsReadInPart input input_new × Rises input.faults input_new.faults
+FailsSo input input_new input_fault.TooLong = ⊥
+
+-- what an input comes to was written, or a sink failed
+abbrev pub IsToldBy : Ending → Edge → Edge → Edge → Edge → Status → Type 0
+IsToldBy (Told text) out out_new err err_new result = IsTold out out_new text Done result × (err_new ≡ err)
+IsToldBy (LeftOpen text) out out_new err err_new result = IsToldOpen out out_new err err_new text result
+IsToldBy (PastLimits sums) out out_new err err_new result = IsTold err err_new (too_long_line sums) TooLong result × (out_new ≡ out)
+IsToldBy (RefusedBy line) out out_new err err_new result = IsTold err err_new line Refused result × (out_new ≡ out)
+
+-- ---- an answer for each input
+
+-- where what is written to does not fail, all of it is written, unless memory runs out
+abbrev pub IsWholeBy : Ending → Edge → Edge → Edge → Edge → Status → Type 0
+IsWholeBy (Told text) out out_new err err_new result =
+    (Rises out.faults out_new.faults → ⊥) → ((result ≡ Done) × Took out out_new text) ⊎ (result ≡ NoMemory)
+IsWholeBy (LeftOpen text) out out_new err err_new result =
+    (Rises out.faults out_new.faults → ⊥) → (Rises err.faults err_new.faults → ⊥) →
+    ((result ≡ NotSettled) × Took out out_new text × Took err err_new not_settled_line) ⊎ (result ≡ NoMemory)
+IsWholeBy (PastLimits sums) out out_new err err_new result =
+    (Rises err.faults err_new.faults → ⊥) → ((result ≡ TooLong) × Took err err_new (too_long_line sums)) ⊎ (result ≡ NoMemory)
+IsWholeBy (RefusedBy line) out out_new err err_new result =
+    (Rises err.faults err_new.faults → ⊥) → ((result ≡ Refused) × Took err err_new line) ⊎ (result ≡ NoMemory)
+
+-- so it is of every input that does not fail
+abbrev pub JournalIsWhole : JournalCommand → Edge → Edge → Edge → Edge → Edge → Edge → Status → Type 0
+JournalIsWhole what input input_new out out_new err err_new result =
+    (bytes : List ℕ) → input.bytes ≡ Some bytes → (Rises input.faults input_new.faults → ⊥) →
+    IsWholeBy (ending_of what bytes) out out_new err err_new result
