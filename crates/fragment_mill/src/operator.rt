@@ -51,35 +51,6 @@ impl Operator {
         })
     }
 
-    /// Takes the inputs of the next bucket, and then gives the rows that they add.
-    fn give_bucket<K, R: RowSink<K>>(
-        &mut self,
-        alloc: Global,
-        inputs: &[Tagged],
-        k: u64,
-        sink: &mut R,
-        out: &mut K,
-    ) -> Result<(), Ended>
-        requires next { k ≡ next_of self.old }
-        requires range { k + 1 < 2 ^ 64 }
-        requires accepts { Accepts (width_of self.old) k inputs.now }
-        ensures rows { OnOk result ((before : List Tagged) → OperatorAfter self.old before k
-            → Takes (R.took sink.old out.old) (R.took sink.new out.new) (added_of self.old before inputs.now k)) }
-        ensures first { OnErr result ((before : List Tagged) → OperatorAfter self.old before k
-            → TakesFirst (R.took sink.old out.old) (R.took sink.new out.new) (added_of self.old before inputs.now k)) }
-        ensures after { OnOk result ((before : List Tagged) → OperatorAfter self.old before k
-            → OperatorAfter self.new (before ++ inputs.now) (k + 1)) }
-        ensures idle { OnOk result (spent_of self.new ≡ false) }
-        ensures operators { operators_of self.new ≡ operators_of self.old }
-        ensures width { width_of self.new ≡ width_of self.old }
-    {
-        let Ok(rows) = self.bucket(alloc, inputs, k) else {
-            return Err(Ended);
-        };
-        give_all(rows.as_slice(), sink, out)?;
-        Ok(())
-    }
-
     /// Takes the inputs of the next bucket, as `bucket` does, and gives the rows that they add one behind
     /// another. A join holds none of them.
     pub fn bucket_into<K, R: RowSink<K>>(
@@ -105,7 +76,12 @@ impl Operator {
     {
         match self {
             Operator::Join(join) => join.bucket_into(alloc, inputs, k, sink, out),
-            _ => self.give_bucket(alloc, inputs, k, sink, out),
+            _ => {
+                let Ok(rows) = self.bucket(alloc, inputs, k) else {
+                    return Err(Ended);
+                };
+                give_all(rows.as_slice(), sink, out)
+            }
         }
     }
 }

@@ -1,5 +1,5 @@
 //! A stage of a mill: an operator with what it reads.
-ghost use Rattle.std.specs.Prelude.{◌≡◌, ◌+◌, ◌^◌, ◌<◌, ◌++◌, ◌↔◌, ℕ, true, false, List, [], map, length, IfOk, OnOk, OnErr, IsTrue};
+ghost use Rattle.std.specs.Prelude.{◌≡◌, ◌+◌, ◌^◌, ◌<◌, ◌++◌, ◌↔◌, ℕ, true, false, List, [], map, IfOk, OnOk, OnErr, IsTrue};
 ghost use Rattle.dpc_lists.specs.Lists.{push};
 ghost use Rattle.dpc_model.specs.Engines.{Accepts, is_serial};
 ghost use Rattle.dpc_model.specs.Fragments.{serial, tag, read_wire, at_port, IsSoundKind};

@@ -1,5 +1,5 @@
 //! The rows of pairs of partners, given one behind another.
-ghost use Rattle.std.specs.Prelude.{◌≡◌, ℕ, [], ◌++◌, ◌*◌, ◌+◌, ◌-◌, ◌<◌, ◌≤◌, ◌^◌, map, reverse, take, drop, length, flat_map, All, IfOk, IfSome, OnOk, OnErr};
+ghost use Rattle.std.specs.Prelude.{◌≡◌, ℕ, [], ◌++◌, ◌+◌, ◌-◌, ◌<◌, ◌≤◌, map, reverse, take, drop, length, flat_map, All, IfOk, IfSome, OnOk, OnErr};
 ghost use Rattle.dpc_model.specs.Streams.{InOrder, IsOrdered};
 ghost use Rattle.dpc_model.specs.Operators.{paired, pairs_with, are_partners};
 ghost use Rattle.dpc_model.specs.Fragments.{at_port};
