@@ -3,7 +3,6 @@ pub mod Steps
 pub mod Texts
 pub mod Ways
 pub mod Mills
-pub mod Stops
 pub mod Clients
 pub mod Lines
 pub mod Givings

@@ -25,9 +25,6 @@ use Rattle.ideal_run.specs.IdealPlans.{IsIdealPlan}
 pub rest-whole : (n : ℕ) (ts : List Tuple) → take (length ts - n) (drop n ts) ≡ drop n ts
 rest-whole n ts = rw (← length-drop n ts) (take-length (drop n ts))
 
-pub log-get : (plan : Plan) (s : ℕ) → log_of plan s ≡ unwrap_or (option_map (λ (source : SourceSpec). source.log) (slice_get plan.sources s)) []
-log-get plan s = ap (λ (o : Option (List Tuple)). unwrap_or o []) (slice_get-map (λ (source : SourceSpec). source.log) plan.sources s)
-
 -- the stream of a source is its log
 pub ideal-log : (plan : Plan) (s : ℕ) → IsIdealPlan plan → ideal plan (Source s) ≡ log_of plan s
 unfolding ideal ideal_upto

@@ -53,17 +53,10 @@ cut-next w k ts o =
     ∙ ap (λ (us : List Tuple). cut (cut ts ((k + 1) * w)) (k * w) ++ us) (filter-filter (is_below ((k + 1) * w)) (λ (t : Tuple). nat_le (k * w) t.stime) ts)
     ∙ sym (ordered-split time_of (k * w) (cut ts ((k + 1) * w)) (IsOrdered-filter time_of (is_below ((k + 1) * w)) ts o))
 
-cut-some : (ts : List Tuple) (b : ℕ) → InOrder ts → (rest : List Tuple) × (ts ≡ cut ts b ++ rest)
-cut-some ts b o = (from_time b ts, ordered-split time_of b ts o)
-
 -- ---- a client's text
 
 abbrev pub name_words : ClientSpec → List Word
 name_words c = codes "client" ∷ c.name ∷ []
-
--- the lines of a client up to bucket k: its name, and the tuples below the bucket
-abbrev pub text_upto : Plan → ClientSpec → ℕ → List ℕ
-text_upto plan c k = line_of (name_words c) ++ numbered 0 (cut (ideal plan c.input) (k * plan.width))
 
 pub ideal-ordered : (plan : Plan) (s : StreamRef) → IsIdealPlan plan → InOrder (ideal plan s)
 unfolding ideal
@@ -76,58 +69,12 @@ ideal-cut plan s h = cut-ideal_upto plan s plan.end plan.end h.sound.ops (omega 
 pub none-early : (w : ℕ) (ts : List Tuple) → InOrder ts → cut ts (0 * w) ≡ []
 none-early w ts o = let none : 0 * w ≡ 0 = omega arith in rw none (none-below time_of 0 0 ts (omega arith) (none_below-zero time_of ts))
 
-pub upto-none : (plan : Plan) (c : ClientSpec) → IsIdealPlan plan → line_of (name_words c) ≡ text_upto plan c 0
-upto-none plan c h =
-    let none = none-early plan.width (ideal plan c.input) (ideal-ordered plan c.input h) in
-    sym (ap (λ (ts : List Tuple). line_of (name_words c) ++ numbered 0 ts) none ∙ append-nil (line_of (name_words c)))
-
-pub count-none : (plan : Plan) (c : ClientSpec) → IsIdealPlan plan → 0 ≡ length (cut (ideal plan c.input) (0 * plan.width))
-count-none plan c h = sym (ap length (none-early plan.width (ideal plan c.input) (ideal-ordered plan c.input h)))
-
-pub upto-next : (plan : Plan) (c : ClientSpec) (k n : ℕ) (ts : List Tuple) → IsIdealPlan plan → n ≡ length (cut (ideal plan c.input) (k * plan.width)) → ts ≡ bucket_of plan k c.input →
-    text_upto plan c k ++ numbered n ts ≡ text_upto plan c (k + 1)
-upto-next plan c k n ts h count is =
-    let early = cut (ideal plan c.input) (k * plan.width) in
-    ap (λ (xs : List ℕ). text_upto plan c k ++ xs) (ap (λ (m : ℕ). numbered m ts) count ∙ ap (λ (us : List Tuple). numbered (length early) us) is)
-    ∙ append_assoc (line_of (name_words c)) (numbered 0 early) (numbered (length early) (bucket_of plan k c.input))
-    ∙ ap (λ (xs : List ℕ). line_of (name_words c) ++ xs) (numbered-more early (bucket_of plan k c.input) ∙ ap (λ (us : List Tuple). numbered 0 us) (cut-next plan.width k (ideal plan c.input) (ideal-ordered plan c.input h)))
-
-pub count-next : (plan : Plan) (c : ClientSpec) (k n : ℕ) (ts : List Tuple) → IsIdealPlan plan → n ≡ length (cut (ideal plan c.input) (k * plan.width)) → ts ≡ bucket_of plan k c.input →
-    n + length ts ≡ length (cut (ideal plan c.input) ((k + 1) * plan.width))
-count-next plan c k n ts h count is =
-    let early = cut (ideal plan c.input) (k * plan.width) in
-    ap (λ (m : ℕ). m + length ts) count ∙ ap (λ (us : List Tuple). length early + length us) is ∙ sym (length-append early (bucket_of plan k c.input))
-    ∙ ap length (cut-next plan.width k (ideal plan c.input) (ideal-ordered plan c.input h))
-
 pub whole-text : (c : ClientSpec) (ts : List Tuple) → text_of (stream_lines c.name ts) ≡ (line_of (name_words c) ++ numbered 0 ts) ++ line_of (total_words (length ts))
 whole-text c ts =
     ap (λ (xs : List ℕ). line_of (name_words c) ++ xs)
     (flat_map-append line_of (map item_words (stable_items 0 ts)) (total_words (length ts) ∷ [])
     ∙ ap (λ (xs : List ℕ). numbered 0 ts ++ xs) (append-nil (line_of (total_words (length ts)))))
     ∙ sym (append_assoc (line_of (name_words c)) (numbered 0 ts) (line_of (total_words (length ts))))
-
-pub upto-whole : (plan : Plan) (c : ClientSpec) (k n : ℕ) → IsIdealPlan plan → k * plan.width ≡ plan.end → n ≡ length (cut (ideal plan c.input) (k * plan.width)) →
-    text_upto plan c k ++ line_of (total_words n) ≡ client_text plan c
-upto-whole plan c k n h end count =
-    let all : cut (ideal plan c.input) (k * plan.width) ≡ ideal plan c.input = ap (λ (b : ℕ). cut (ideal plan c.input) b) end ∙ ideal-cut plan c.input h in
-    ap (λ (m : ℕ). text_upto plan c k ++ line_of (total_words m)) (count ∙ ap length all)
-    ∙ ap (λ (ts : List Tuple). (line_of (name_words c) ++ numbered 0 ts) ++ line_of (total_words (length (ideal plan c.input)))) all
-    ∙ sym (whole-text c (ideal plan c.input))
-
--- it is a beginning of the client's text
-pub upto-some : (plan : Plan) (c : ClientSpec) (k : ℕ) → IsIdealPlan plan → (rest : List ℕ) × (client_text plan c ≡ text_upto plan c k ++ rest)
-upto-some plan c k h =
-    let ts = ideal plan c.input in
-    let early = cut ts (k * plan.width) in
-    let late = from_time (k * plan.width) ts in
-    let last = line_of (total_words (length ts)) in
-    let name = line_of (name_words c) in (
-      numbered (length early) late ++ last,
-      whole-text c ts
-          ∙ ap (λ (xs : List ℕ). (name ++ xs) ++ last) (ap (λ (us : List Tuple). numbered 0 us) (ordered-split time_of (k * plan.width) ts (ideal-ordered plan c.input h)) ∙ sym (numbered-more early late))
-          ∙ ap (λ (xs : List ℕ). xs ++ last) (sym (append_assoc name (numbered 0 early) (numbered (length early) late)))
-          ∙ append_assoc (text_upto plan c k) (numbered (length early) late) last,
-    )
 
 -- ---- clients
 

@@ -22,10 +22,10 @@ use dpc_model::plans::Plan;
 use std::alloc::Global;
 
 /// Writes the failure-free stream of each client in order, as it is milled: a line of its name, one line for
-/// each tuple, and how many there are. No stream is held, nor a bucket of what a fragment's last join makes, so
-/// that memory is for the operators' state, a bucket of each other operator and one piece of the text; each
-/// client's fragment is milled anew, with those before it. Where it ends early, a beginning of the text stands
-/// on the sink.
+/// each tuple, and how many there are. No stream is held, nor a bucket of what a join makes that stands last in
+/// the client's own fragment, so that memory is for the operators' state, a bucket of each other operator and one
+/// piece of the text; that fragment is milled anew for each client, with those before it. Where it ends early, a
+/// beginning of the text stands on the sink.
 pub fn write_ideal<K: Sink>(alloc: Global, plan: &Plan, out: &mut K) -> Result<(), WriteFault>
     requires { IsIdealPlan plan.now }
     ensures took { OnOk result (Took (K.edge out.old) (K.edge out.new) (ideal_text plan.now)) }
