@@ -5,7 +5,7 @@ use Rattle.law_buckets.specs.Series.{buckets_from, AreReady}
 use Rattle.fragment_mill.specs.Mills.{MillState}
 use Rattle.mill_work.specs.Milling.{OrderValue}
 use Rattle.pipeline.specs.Committing.{ready_in, CanMillReady, IsAt, IsDone, CanPut}
-use Rattle.node_model.specs.Nodes.{Home, spec_of, buckets_of, PlainNode}
+use Rattle.node_model.specs.Nodes.{Home, spec_of, buckets_of, PlainNode, ready}
 use Rattle.node_model.specs.NodeParts.{inputs_of, outputs_of}
 use Rattle.node_model.specs.Fitting.{IsFit}
 use Rattle.law_node.proofs.Buckets.{buckets-are}
@@ -14,12 +14,12 @@ use Rattle.dpc_model.specs.Limits.{most_milled}
 use Rattle.dpc_lists.proofs.Truths.{eq-of, not-false, neither}
 use Rattle.node_core.specs.declared.faults.Point.{Point}
 use Rattle.node_core.specs.declared.faults.CommitFault.{CommitFault}
-use Rattle.node_core.specs.declared.faults.CommitFault.TheVariants.{Stale}
+use Rattle.node_core.specs.declared.faults.CommitFault.TheVariants.{Spent, Stale}
 use Rattle.node_core.specs.Milling.{CanMill, CanMillNode, Fits, IsWorkAt, IsBeside, needed_by, is_stale, WasStale}
 use Rattle.node_core.specs.Standing.{NodeValue, StandsForNode}
 use Rattle.node_core.proofs.Milled.{can-mill-path}
 use Rattle.node_core.proofs.Orders.{engine-at}
-use Rattle.node_core.proofs.Readying.{none-ready, all-ready}
+use Rattle.node_core.proofs.Readying.{most-ready}
 
 -- all ready buckets can be processed
 pub can-ready : (home : Home) (v : NodeValue) (p : PlainNode) → StandsForNode home v p → IsFit home p → CanMillReady (spec_of home).ops v.path (inputs_of p) (outputs_of p)
@@ -35,25 +35,23 @@ can-ready home v p h fit =
 
 -- ---- whether it fits
 
-pub fits-at : (home : Home) (v : NodeValue) (p : PlainNode) (o : OrderValue MillState) → StandsForNode home v p → v.recovering ≡ false → IsAt (spec_of home).ops v.path (inputs_of p) o → Fits home p o
-fits-at home v p o h up at =
+pub fits-at : (home : Home) (v : NodeValue) (p : PlainNode) (o : OrderValue MillState) → StandsForNode home v p → length o.buckets ≤ ready home p → IsAt (spec_of home).ops v.path (inputs_of p) o → Fits home p o
+fits-at home v p o h few at =
     record {
       engine = (engine-at home v p o.before h).0 at.engine;
-      ready = subst (λ (k : ℕ). length o.buckets ≤ k) (sym (all-ready home v p h up)) at.few;
+      ready = few;
       buckets = at.buckets ∙ ap (λ (w : ℕ). buckets_from w (inputs_of p) p.cursor (length o.buckets)) h.setting.width ∙ sym (buckets-are home p p.cursor (length o.buckets));
     }
 
-pub at-fits : (home : Home) (v : NodeValue) (p : PlainNode) (o : OrderValue MillState) → StandsForNode home v p → v.recovering ≡ false → Fits home p o → IsAt (spec_of home).ops v.path (inputs_of p) o
-at-fits home v p o h up fits =
+pub at-fits : (home : Home) (v : NodeValue) (p : PlainNode) (o : OrderValue MillState) → StandsForNode home v p → Fits home p o → IsAt (spec_of home).ops v.path (inputs_of p) o
+at-fits home v p o h fits =
+    let few = fits.ready in
+    let most = most-ready home v p h in
     record {
       engine = (engine-at home v p o.before h).1 fits.engine;
-      few = subst (λ (k : ℕ). length o.buckets ≤ k) (all-ready home v p h up) fits.ready;
+      few = omega (arith, few, most);
       buckets = fits.buckets ∙ buckets-are home p p.cursor (length o.buckets) ∙ ap (λ (w : ℕ). buckets_from w (inputs_of p) p.cursor (length o.buckets)) (sym h.setting.width);
     }
-
--- a node that recovers has no ready bucket, and an order has some
-pub none-fits : (home : Home) (v : NodeValue) (p : PlainNode) (o : OrderValue MillState) → StandsForNode home v p → v.recovering ≡ true → 1 ≤ length o.buckets → Fits home p o → IsTrue false
-none-fits home v p o h e some fits = let none = none-ready home v p h e in let few = fits.ready in absurd (omega (arith, none, few, some))
 
 -- ---- whether it is stale
 
@@ -74,6 +72,11 @@ not-stale had needed e =
     }
 
 -- ---- what is put back
+
+-- a node that could be compared is not spent
+pub not-spent : {X : Type 0} (x : X) (spent : Bool) → (spent ≡ true → ◌≡◌ {A = Result X CommitFault} (Ok x) (Err Spent)) → spent ≡ false
+not-spent x true h = let no_way = h refl in cc
+not-spent x false h = refl
 
 pub can-put : (home : Home) (v : NodeValue) (p : PlainNode) (o : OrderValue MillState) (after : MillState) (outputs : List Tuple) → 1 ≤ length o.buckets → IsDone o after outputs →
     Fits home p o → CanMill (length o.buckets) home v p → CanPut (spec_of home).ops v.path (inputs_of p) (outputs_of p) (length o.buckets) after outputs
@@ -102,12 +105,22 @@ pub was-stale : (v : NodeValue) (o : OrderValue MillState) (had needed : Point) 
     ((home : Home) (p : PlainNode) → StandsForNode home v p → IsFit home p → IsBeside home p o had) → WasStale o v v had needed
 was-stale v o had needed same e beside = record { stays = refl; asked = same; stale = e; beside = beside }
 
-abbrev stale-of : {X : Type 0} → Result X CommitFault → CommitFault → CommitFault
-stale-of (Err fault) other = fault
-stale-of (Ok x) other = other
+-- ---- faults
+
+abbrev fault-in : {X : Type 0} → Result X CommitFault → CommitFault → CommitFault
+fault-in (Err fault) other = fault
+fault-in (Ok x) other = other
+
+same-fault : {X : Type 0} (a b : CommitFault) → ◌≡◌ {A = Result X CommitFault} (Err a) (Err b) → a ≡ b
+same-fault {X} a b e = ap (λ (r : Result X CommitFault). fault-in r a) e
 
 same-points : (a b c d : Point) → Stale a b ≡ Stale c d → (a ≡ c) × (b ≡ d)
 same-points a b c d e = (cc, cc)
 
 pub same-stale : {X : Type 0} (a b c d : Point) → ◌≡◌ {A = Result X CommitFault} (Err (Stale a b)) (Err (Stale c d)) → (a ≡ c) × (b ≡ d)
-same-stale {X} a b c d e = same-points a b c d (ap (λ (r : Result X CommitFault). stale-of r (Stale a b)) e)
+same-stale {X} a b c d e = same-points a b c d (same-fault {X = X} (Stale a b) (Stale c d) e)
+
+-- a stale answer that is handed on
+pub handed-stale : {X Y : Type 0} (fault : CommitFault) (a b had needed c d : Point) → fault ≡ Stale a b → had ≡ a → needed ≡ b → ◌≡◌ {A = Result X CommitFault} (Err (Stale had needed)) (Err (Stale c d)) → ◌≡◌ {A = Result Y CommitFault} (Err fault) (Err (Stale c d))
+handed-stale {X} {Y} fault a b had needed c d is same also e =
+    ap (λ (y : CommitFault). Err y) (is ∙ ap (λ (p : Point). Stale p b) (sym same) ∙ ap (λ (q : Point). Stale had q) (sym also) ∙ same-fault {X = X} (Stale had needed) (Stale c d) e)

@@ -31,6 +31,14 @@ all-ready home v p h e =
     let here : ready home p ≡ complete_buckets home p = rw up refl in
     here ∙ ready-is home p ∙ ap (λ (w : ℕ). ready_in w (inputs_of p)) (sym h.setting.width)
 
+-- never more than that
+pub most-ready : (home : Home) (v : NodeValue) (p : PlainNode) → StandsForNode home v p → ready home p ≤ ready_in v.path.union.width (inputs_of p)
+most-ready home v p h =
+    (elim v.recovering as (λ (b : Bool). v.recovering ≡ b → ready home p ≤ ready_in v.path.union.width (inputs_of p)) [
+      | true ↦ λ e. let none = none-ready home v p h e in omega (arith, none)
+      | false ↦ λ e. let all = all-ready home v p h e in omega (arith, all)
+    ]) refl
+
 pub told-ready : (home : Home) (v : NodeValue) (p : PlainNode) (k : ℕ) → StandsForNode home v p → v.recovering ≡ false → TellsReady v.path k → k ≡ ready home p
 told-ready home v p k h e tells = tells (spec_of home).ops (inputs_of p) (outputs_of p) h.path ∙ sym (all-ready home v p h e)
 

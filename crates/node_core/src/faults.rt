@@ -1,4 +1,9 @@
 //! Why work that was done apart is not put back.
+ghost use Rattle.std.specs.Prelude.{◌≡◌};
+ghost use Rattle.node_core.specs.Milling.{needed_by};
+
+use fragment_mill::mill::FragMill;
+use mill_work::order::Order;
 
 /// Where a node stands, beside an order.
 #[derive(Clone, Copy, PartialEq, Eq)]
@@ -22,4 +27,17 @@ pub enum CommitFault {
     Spent,
     /// The node does not stand any more where the order was taken.
     Stale { had: Point, needed: Point },
+}
+
+/// Where a node would have to stand for an order to be put back.
+pub fn needed_by(order: &Order<FragMill>) -> Point
+    ensures { result ≡ needed_by order.now }
+{
+    Point {
+        up: true,
+        inc: order.inc,
+        cursor: order.cursor,
+        ready: order.buckets.len() as u64,
+        fits: true,
+    }
 }

@@ -1,16 +1,16 @@
 //! Work that was done apart and is put back.
-ghost use Rattle.std.specs.Prelude.{◌≡◌, ◌↔◌, ◌≤◌, false, true, length, Err, IsTrue, IfOk};
+ghost use Rattle.std.specs.Prelude.{◌≡◌, ◌↔◌, false, true, Err, IsTrue, IfOk, OnOk};
 ghost use Rattle.node_model.specs.Nodes.{Home, PlainNode, spec_of};
 ghost use Rattle.node_model.specs.NodeParts.{inputs_of, outputs_of};
 ghost use Rattle.pipeline.specs.Committing.{CanPut};
 ghost use Rattle.node_model.specs.Fitting.{IsFit};
 ghost use Rattle.node_core.specs.declared.faults.Point.{Point};
 ghost use Rattle.node_core.specs.declared.faults.CommitFault.TheVariants as commit;
-ghost use Rattle.node_core.specs.Milling.{CanMill, CanMillNode, MillSteps, Fits, IsBeside, is_stale, IsCommitted, WasStale};
+ghost use Rattle.node_core.specs.Milling.{CanMill, CanMillNode, MillSteps, Fits, IsWorkAt, IsBeside, is_stale, IsCommitted, WasStale};
 ghost use Rattle.node_core.specs.Standing.{StandsForNode};
 ghost use Rattle.node_core.specs.Stepping.{IsSound};
 
-use crate::faults::{CommitFault, Point};
+use crate::faults::{CommitFault, Point, needed_by};
 use crate::node::Node;
 use crate::packets::Mail;
 use crate::sending::to_readers;
@@ -29,6 +29,29 @@ fn is_stale(had: Point, needed: Point) -> bool
 }
 
 impl Node {
+    /// Compares the node with an order: stale exactly where it stands elsewhere than where the order was taken.
+    /// Nothing changes.
+    pub fn compare(&self, alloc: Global, milled: &Milled<FragMill>) -> Result<(), CommitFault>
+        requires { self.now.spent ≡ false → IsSound self.now }
+        ensures ok { OnOk result ((home : Home) (p : PlainNode) → StandsForNode home self.now p → IsFit home p
+            → IsWorkAt home p milled.now.order) }
+        ensures stale { (had needed : Point) → result ≡ Err (commit.Stale had needed)
+            → WasStale milled.now.order self.now self.now had needed }
+        ensures spent { result ≡ Err commit.Spent ↔ self.now.spent ≡ true }
+    {
+        if self.spent {
+            return Err(CommitFault::Spent);
+        }
+        let Ok(had) = self.point(alloc, milled.order()) else {
+            return Err(CommitFault::NoMemory);
+        };
+        let needed = needed_by(milled.order());
+        if is_stale(had, needed) {
+            return Err(CommitFault::Stale { had, needed });
+        }
+        Ok(())
+    }
+
     /// Puts work back that was done apart: exactly the step of `mill`, where the node still stands where
     /// the order was taken. Where that is stale nothing changes.
     pub fn commit(
@@ -44,25 +67,20 @@ impl Node {
         ensures kept { IfOk result (λ mails. self.new.spent ≡ false) }
         ensures stays { result ≡ Err commit.Spent → self.new ≡ self.old }
     {
-        if self.spent {
-            return Err(CommitFault::Spent);
+        match self.compare(alloc, &milled) {
+            Ok(()) => {}
+            Err(CommitFault::NoMemory) => {
+                self.spent = true;
+                return Err(CommitFault::NoMemory);
+            }
+            Err(CommitFault::Spent) => return Err(CommitFault::Spent),
+            Err(CommitFault::Stale { had, needed }) => {
+                return Err(CommitFault::Stale { had, needed });
+            }
         }
         let (order, after, outputs) = milled.into_parts();
-        let Ok(had) = self.point(alloc, &order) else {
-            self.spent = true;
-            return Err(CommitFault::NoMemory);
-        };
-        let needed = Point {
-            up: true,
-            inc: order.inc,
-            cursor: order.cursor,
-            ready: order.buckets.len() as u64,
-            fits: true,
-        };
-        if is_stale(had, needed) {
-            return Err(CommitFault::Stale { had, needed });
-        }
-        let Ok(mails) = self.put(alloc, after, outputs, needed.ready) else {
+        let count = order.buckets.len() as u64;
+        let Ok(mails) = self.put(alloc, after, outputs, count) else {
             self.spent = true;
             return Err(CommitFault::NoMemory);
         };
@@ -92,12 +110,11 @@ impl Node {
 
     /// Whether an order's engine is the one at the cursor, and its buckets are the next ready ones.
     fn fits(&self, alloc: Global, order: &Order<FragMill>) -> Result<bool, NoMemory>
-        requires sound { IsSound self.now }
-        requires some { 1 ≤ length order.now.buckets }
+        requires { IsSound self.now }
         ensures { IfOk result (λ fits. (home : Home) (p : PlainNode) → StandsForNode home self.now p → IsFit home p
             → (IsTrue fits ↔ Fits home p order.now)) }
     {
-        if self.recovering {
+        if self.ready() < order.buckets.len() as u64 {
             return Ok(false);
         }
         let fits = self.path.is_at(alloc, order)?;
@@ -106,8 +123,7 @@ impl Node {
 
     /// Where the node stands beside an order.
     fn point(&self, alloc: Global, order: &Order<FragMill>) -> Result<Point, NoMemory>
-        requires sound { IsSound self.now }
-        requires some { 1 ≤ length order.now.buckets }
+        requires { IsSound self.now }
         ensures { IfOk result (λ had. (home : Home) (p : PlainNode) → StandsForNode home self.now p → IsFit home p
             → IsBeside home p order.now had) }
     {
