@@ -5,7 +5,6 @@ ghost use Rattle.node_model.specs.Nodes.{Home};
 ghost use Rattle.node_model.specs.Making.{IsReplica};
 ghost use Rattle.node_core.specs.declared.faults.Point.{Point};
 ghost use Rattle.node_core.specs.declared.faults.CommitFault.TheVariants as fault;
-ghost use Rattle.node_core.specs.Milling.{needed_by};
 ghost use Rattle.world_model.specs.Worlds.{Slot as PlainSlot, home_of, ready_in, restart_slot};
 ghost use Rattle.world_parts.specs.Handing.{IsSlotOrder, IsUpAt, IsSlotStale, down_point};
 ghost use Rattle.world_parts.specs.Parts.{StandsForSlot};
@@ -18,7 +17,7 @@ use dpc_model::plans::Plan;
 use fragment_mill::mill::FragMill;
 use mill_work::milling::Milled;
 use mill_work::order::Order;
-use node_core::faults::{CommitFault, Point};
+use node_core::faults::{CommitFault, Point, needed_by};
 use node_core::node::Node;
 use node_core::packets::{Mail, Packet};
 use std::alloc::Global;
@@ -56,19 +55,6 @@ pub(crate) fn down_point(last_inc: u64) -> Point
         cursor: 0,
         ready: 0,
         fits: false,
-    }
-}
-
-/// Where a node would have to stand for an order to be put back.
-pub(crate) fn needed_by(order: &Order<FragMill>) -> Point
-    ensures { result ≡ needed_by order.now }
-{
-    Point {
-        up: true,
-        inc: order.inc,
-        cursor: order.cursor,
-        ready: order.buckets.len() as u64,
-        fits: true,
     }
 }
 
@@ -170,6 +156,28 @@ impl Slot {
             return Err(NoMemory);
         };
         Ok(Some(order))
+    }
+
+    /// Compares the place with an order: stale exactly where its node is down, or stands elsewhere than where
+    /// the order was taken. Nothing changes.
+    pub(crate) fn compare(
+        &self,
+        alloc: Global,
+        milled: &Milled<FragMill>,
+    ) -> Result<(), CommitFault>
+        requires { (home : Home) × (x : PlainSlot) × CanStep home self.now x }
+        ensures fits { OnOk result (IsUpAt self.now.node milled.now.order) }
+        ensures stale { (had needed : Point) → result ≡ Err (fault.Stale had needed)
+            → IsSlotStale self.now milled.now.order had needed }
+    {
+        let Some(node) = self.node.as_ref() else {
+            return Err(CommitFault::Stale {
+                had: down_point(self.last_inc),
+                needed: needed_by(milled.order()),
+            });
+        };
+        node.compare(alloc, milled)?;
+        Ok(())
     }
 
     /// Puts work back that was done apart: exactly the step of `mill`, where the node is up and still stands

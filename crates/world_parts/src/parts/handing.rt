@@ -10,13 +10,14 @@ ghost use Rattle.world_parts.specs.Handing.{IsHandedOut, IsTimely, IsStaleAt};
 
 use crate::faults::CommitFault;
 use crate::parts::WorldParts;
-use crate::slots::{down_point, needed_by};
+use crate::slots::down_point;
 use actor_roster::roster::Roster;
 use dpc_lists::faults::NoMemory;
 use dpc_model::actors::Role;
 use fragment_mill::mill::FragMill;
 use mill_work::milling::Milled;
 use mill_work::order::Order;
+use node_core::faults::needed_by;
 use std::alloc::Global;
 
 impl WorldParts {
@@ -40,6 +41,33 @@ impl WorldParts {
         };
         let order = self.nodes[place].order(alloc)?;
         Ok(order)
+    }
+
+    /// Compares an order's node with the order: stale exactly where it is down, or stands elsewhere than where
+    /// the order was taken. Nothing changes.
+    pub fn compare(
+        &self,
+        alloc: Global,
+        roster: &Roster,
+        milled: &Milled<FragMill>,
+    ) -> Result<(), CommitFault>
+        requires plan { CanRun roster.now }
+        requires some { IsSomeWorld roster.now self.now }
+        ensures fits { OnOk result (IsTimely roster.now self.now milled.now.order) }
+        ensures long { (envelopes items : ℕ) → result ≡ Err (fault.TooLong envelopes items) → ⊥ }
+        ensures stale { (had needed : Point) → result ≡ Err (fault.Stale had needed)
+            → IsStaleAt roster.now self.now milled.now.order had needed }
+    {
+        let actor = milled.order().node;
+        let place = self.node_place(roster, actor);
+        let Role::Node(_, _) = roster.role_of(actor) else {
+            return Err(CommitFault::Stale {
+                had: down_point(self.last_inc(roster, actor)),
+                needed: needed_by(milled.order()),
+            });
+        };
+        self.nodes[place].compare(alloc, milled)?;
+        Ok(())
     }
 
     /// Puts work back that was done apart: exactly the event of milling its buckets, where its node is up
