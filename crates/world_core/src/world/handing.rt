@@ -62,6 +62,21 @@ impl World {
         Ok(order)
     }
 
+    /// Compares an order's node with the order: stale exactly as `commit` would answer it. Nothing changes.
+    pub fn compare(&self, alloc: Global, milled: &Milled<FragMill>) -> Result<(), CommitFault>
+        ensures fits { OnOk result (Fits self.now milled.now.order) }
+        ensures stale { (had needed : Point) → result ≡ Err (fault.Stale had needed)
+            → IsStaleAt self.now milled.now.order had needed }
+        ensures long { (envelopes items : ℕ) → result ≡ Err (fault.TooLong envelopes items) → ⊥ }
+        ensures spent { result ≡ Err fault.Spent ↔ self.now.spent ≡ true }
+    {
+        if self.spent {
+            return Err(CommitFault::Spent);
+        }
+        self.parts.compare(alloc, &self.roster, milled)?;
+        Ok(())
+    }
+
     /// Puts work back that was done apart: the event of milling its buckets happens, where its node is up
     /// and still stands where the order was taken; the run keeps all its promises. Where that is stale nothing
     /// changes; each other fault leaves the world spent, and its events those that were.
