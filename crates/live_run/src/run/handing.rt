@@ -4,7 +4,7 @@ ghost use Rattle.dpc_model.specs.declared.messages.Event.TheVariants as event;
 ghost use Rattle.node_core.specs.declared.faults.Point.{Point};
 ghost use Rattle.world_model.specs.Schedules.{may};
 ghost use Rattle.world_model.specs.Worlds.{WouldReach, ready_at};
-ghost use Rattle.world_core.specs.Handing.{IsWorkOf, IsStaleAt, is_loss};
+ghost use Rattle.world_core.specs.Handing.{Fits, IsWorkOf, IsStaleAt, is_loss};
 ghost use Rattle.world_core.specs.Runs.{world_of};
 ghost use Rattle.world_core.specs.declared.faults.ApplyFault.TheVariants as apply;
 ghost use Rattle.world_core.specs.declared.faults.CommitFault.TheVariants as fault;
@@ -49,12 +49,14 @@ impl LiveRun {
         Ok(order)
     }
 
-    /// Puts work back that was done apart, where the event of milling its buckets may come next; where it may
-    /// not the answer is false, and nothing changes. Where the work is stale nothing changes; each other fault
+    /// Puts work back that was done apart. Stale comes first: where the work is stale that is the answer, and
+    /// nothing changes. Else the event of milling its buckets happens where it may come next. False comes exactly
+    /// where the work is not stale and the event may not come next, and then nothing changes. Each other fault
     /// leaves the run spent.
     pub fn commit(&mut self, alloc: Global, milled: Milled<FragMill>) -> Result<bool, CommitFault>
         ensures may { IfOk result (λ told. told ≡ may self.old.script self.old.events
             (event.Mill milled.order.node (length milled.order.buckets))) }
+        ensures fits { IfOk result (λ _. Fits (world_in self.old) milled.order) }
         ensures yes { result ≡ Ok true → self.new ≡ with_event self.old
             (event.Mill milled.order.node (length milled.order.buckets)) }
         ensures no { result ≡ Ok false → self.new ≡ self.old }
@@ -75,6 +77,10 @@ impl LiveRun {
             return Err(CommitFault::NoMemory);
         };
         if !self.may(e) {
+            if let Err(fault) = self.world.compare(alloc, &milled) {
+                self.spent = is_loss(fault);
+                return Err(fault);
+            }
             return Ok(false);
         }
         // spent, but where all goes well or nothing changes

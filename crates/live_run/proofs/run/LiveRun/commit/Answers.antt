@@ -12,41 +12,49 @@ use Rattle.world_core.specs.Runs.{RunOf, world_of}
 use Rattle.world_core.specs.declared.faults.CommitFault.TheVariants as fault
 use Rattle.law_schedules.proofs.Journals.{progress-run}
 use Rattle.live_run.specs.Courses.{IsOf, Stands}
-use Rattle.live_run.specs.Lives.{LiveRunOf, script_of, world_in}
+use Rattle.live_run.specs.Lives.{LiveRunOf, script_of}
 use Rattle.live_run.proofs.Lives.{may_told, next_live, next_world, next_course}
-use Rattle.live_run.proofs.Work.{left_by, same_fault}
+use Rattle.live_run.proofs.Work.{left_by, same_fault, run_seen, world_seen, still_seen}
 use Rattle.live_run.proofs.run.LiveRun.commit.Goals as goal
-
-pub invariant_of-self-in-Err : goal.invariant_of-self-in-Err
-invariant_of-self-in-Err c =
-    let t = c.self.inside.timetable in
-    let w : RunOf = c.self.inside.world in
-    let script : Script = script_of w.plan t in
-    let before = c.self.invariant.2 c.if-self.false in
-    let ok : c.commit.new.self ≡ record w { spent = is_loss c.in-Err.fault } =
-    left_by c.in-Err.fault w c.commit.new.self before.0 c.in-Err.ensures.lost (λ had needed e. (c.in-Err.ensures.stale had needed (ap Err e)).0) in (
-      subst (λ (r : RunOf). is_live_so_far (script_of r.plan t) r.events ≡ true) (sym ok) c.self.invariant.0,
-      subst (λ (r : RunOf). IsOf (script_of r.plan t) t) (sym ok) c.self.invariant.1,
-      λ h. (
-        ap (λ (r : RunOf). r.spent) ok ∙ sym c.is_loss-self-inside.ensures ∙ h,
-        subst (λ (r : RunOf). Stands c.self.inside.course (progress (script_of r.plan t) r.events)) (sym ok) before.1,
-      ),
-    )
 
 pub returns-in-Err-clause-stale : goal.returns-in-Err-clause-stale
 returns-in-Err-clause-stale c = λ had needed told.
     let t = c.self.inside.timetable in
     let w : RunOf = c.self.inside.world in
-    let script : Script = script_of w.plan t in
     let before = c.self.invariant.2 c.if-self.false in
     let why : c.in-Err.fault ≡ fault.Stale had needed = same_fault c.in-Err.fault (fault.Stale had needed) told in
-    let at = c.in-Err.ensures.stale had needed (ap Err why) in
-    let seen : RunOf → LiveRunOf = λ r. record { script = script_of r.plan t; events = r.events; spent = c.is_loss-self-inside.result } in
-    let whole : Bool → LiveRunOf = λ b. record { script = script; events = w.events; spent = b } in
-    let with_spent : Bool → RunOf = λ b. record w { spent = b } in
-    let here : w ≡ world_in c.args.self.now = ap with_spent (before.0 ∙ sym c.if-self.false) ∙ ap world_in c.self.view_is in (
-      ap seen at.0 ∙ ap whole (c.is_loss-self-inside.ensures ∙ ap is_loss why ∙ sym c.if-self.false) ∙ c.self.view_is,
-      subst (λ (r : RunOf). IsStaleAt r c.args.milled.order had needed) here at.1,
+    let at = c.in-Err.ensures.stale had needed (ap Err why) in (
+      still_seen t w c.in-Err.fault had needed c.is_loss-self-inside.result c.self.inside.spent c.args.self.now c.is_loss-self-inside.ensures why c.if-self.false c.self.view_is,
+      subst (λ (r : RunOf). IsStaleAt r c.args.milled.order had needed) (world_seen t w c.self.inside.spent c.args.self.now before.0 c.if-self.false c.self.view_is) at,
+    )
+
+pub invariant_of-self-in-Err-commit : goal.invariant_of-self-in-Err-commit
+invariant_of-self-in-Err-commit c =
+    let t = c.self.inside.timetable in
+    let w : RunOf = c.self.inside.world in
+    let script : Script = script_of w.plan t in
+    let before = c.self.invariant.2 c.if-self.false in
+    let ok : c.commit.new.self ≡ record w { spent = is_loss c.in-Err-commit.fault } =
+    left_by c.in-Err-commit.fault w c.commit.new.self before.0 c.in-Err-commit.ensures.lost (λ had needed e. (c.in-Err-commit.ensures.stale had needed (ap Err e)).0) in (
+      subst (λ (r : RunOf). is_live_so_far (script_of r.plan t) r.events ≡ true) (sym ok) c.self.invariant.0,
+      subst (λ (r : RunOf). IsOf (script_of r.plan t) t) (sym ok) c.self.invariant.1,
+      λ h. (
+        ap (λ (r : RunOf). r.spent) ok ∙ sym c.is_loss-self-inside-in-Err-commit.ensures ∙ h,
+        subst (λ (r : RunOf). Stands c.self.inside.course (progress (script_of r.plan t) r.events)) (sym ok) before.1,
+      ),
+    )
+
+pub returns-in-Err-commit-clause-stale : goal.returns-in-Err-commit-clause-stale
+returns-in-Err-commit-clause-stale c = λ had needed told.
+    let t = c.self.inside.timetable in
+    let w : RunOf = c.self.inside.world in
+    let lost : Bool = c.is_loss-self-inside-in-Err-commit.result in
+    let before = c.self.invariant.2 c.if-self.false in
+    let why : c.in-Err-commit.fault ≡ fault.Stale had needed = same_fault c.in-Err-commit.fault (fault.Stale had needed) told in
+    let at = c.in-Err-commit.ensures.stale had needed (ap Err why) in (
+      ap (λ (r : RunOf). run_seen t r lost) at.0
+          ∙ still_seen t w c.in-Err-commit.fault had needed lost c.self.inside.spent c.args.self.now c.is_loss-self-inside-in-Err-commit.ensures why c.if-self.false c.self.view_is,
+      subst (λ (r : RunOf). IsStaleAt r c.args.milled.order had needed) (world_seen t w c.self.inside.spent c.args.self.now before.0 c.if-self.false c.self.view_is) at.1,
     )
 
 pub invariant_of-self-in_err-note : goal.invariant_of-self-in_err-note
