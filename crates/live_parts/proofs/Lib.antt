@@ -4,3 +4,4 @@ pub mod Filing
 pub mod Taking
 pub mod Ends
 pub mod Served
+pub mod Opening

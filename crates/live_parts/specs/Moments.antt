@@ -1,5 +1,5 @@
 -- How what is kept of a phase stands for the progress of a run.
-use Rattle.std.specs.Prelude.{◌≡◌, ℕ, ◌≤◌, Bool, false, length, drop, Option, Some, None}
+use Rattle.std.specs.Prelude.{◌≡◌, ℕ, ◌≤◌, Bool, false, [], ◌∷◌, length, drop, Option, Some, None}
 use Rattle.dpc_lists.specs.Lists.{nth, has}
 use Rattle.dpc_model.specs.declared.messages.Event.{Event}
 use Rattle.dpc_model.specs.declared.scripts.Directive.{Directive}
@@ -15,6 +15,10 @@ is_event_of w d e = elim (event_of w d) [ None ↦ false | Some f ↦ same_event
 abbrev pub is_event_there : World → Option Directive → Event → Bool
 is_event_there w None e = false
 is_event_there w (Some d) e = is_event_of w d e
+
+-- the event of the next directive
+abbrev pub next_event : Progress → Option Event
+next_event p = elim p.todo [ [] ↦ None | d ∷ rest ↦ event_of p.world d ]
 
 -- the number of phases, the directives that are left, and the actors that ticked
 pub record StandsForMoment (m : Moment) (p : Progress) : Type 0 where

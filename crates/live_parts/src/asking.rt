@@ -1,12 +1,34 @@
-//! Whether an event is that of a directive.
-ghost use Rattle.std.specs.Prelude.{◌≡◌, false};
+//! The event of a directive, and whether an event is that.
+ghost use Rattle.std.specs.Prelude.{◌≡◌, false, IfOk};
 ghost use Rattle.dpc_model.specs.declared.scripts.Directive.TheVariants as directive;
 ghost use Rattle.world_core.specs.Runs.{world_of};
+ghost use Rattle.world_model.specs.Schedules.{event_of};
 ghost use Rattle.live_parts.specs.Moments.{is_event_of};
 
+use dpc_lists::faults::NoMemory;
+use dpc_model::actors::narrow;
 use dpc_model::messages::Event;
 use dpc_model::scripts::Directive;
 use world_core::world::World;
+
+/// The event of a directive, where it has one. A restart takes the next incarnation.
+pub fn event_of(world: &World, directive: Directive) -> Result<Option<Event>, NoMemory>
+    requires { world.now.spent ≡ false }
+    ensures { IfOk result (λ event. event ≡ event_of (world_of world.now) directive) }
+{
+    Ok(match directive {
+        Directive::Emit(source, time) => Some(Event::Emit(narrow(source)?, time)),
+        Directive::Release(source, time) => Some(Event::Release(narrow(source)?, time)),
+        Directive::Cut(a, b) => Some(Event::Cut(narrow(a)?, narrow(b)?)),
+        Directive::Heal(a, b) => Some(Event::Heal(narrow(a)?, narrow(b)?)),
+        Directive::Lose(_, _) | Directive::Repeat(_, _) => None,
+        Directive::Crash(node) => Some(Event::Crash(narrow(node)?)),
+        Directive::Restart(node) => Some(Event::Restart(
+            narrow(node)?,
+            world.last_inc(node).checked_add(1).ok_or(NoMemory)?,
+        )),
+    })
+}
 
 /// Whether this is the event of a restart of this node, into the incarnation behind its last one.
 fn is_restart(world: &World, e: Event, node: u64) -> bool

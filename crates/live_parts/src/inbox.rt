@@ -1,11 +1,14 @@
 //! The envelopes that wait at one addressee.
-ghost use Rattle.std.specs.Prelude.{◌≡◌, ◌==◌, ◌<◌, [], ◌∷◌, ◌++◌, false, length, position, slice_index_or, MatchOption, IfOk, OnOk};
+ghost use Rattle.std.specs.Prelude.{◌≡◌, ◌==◌, ◌<◌, [], ◌∷◌, ◌++◌, false, length, position, slice_index_or, if◌then◌else◌, MatchOption, IfOk, OnOk};
 ghost use Rattle.dpc_lists.specs.Lists.{list_any};
 ghost use Rattle.world_core.specs.Runs.{world_of};
 ghost use Rattle.live_parts.specs.Inboxes.{is_first_from, made_at, made_from, loses_way, repeats_way, becomes_due, is_kept, opened, newly_awaited, is_due};
 
+use crate::due::Due;
+use dpc_model::messages::Event;
 use dpc_model::scripts::Directive;
 use std::alloc::{AllocError, Global};
+use std::collections::VecDeque;
 use std::marker::Model;
 use world_core::world::World;
 
@@ -21,7 +24,7 @@ pub struct Awaited {
 /// The envelopes that wait at one addressee, in order of number. Contracts see their list.
 #[derive(Drop)]
 pub struct Inbox {
-    queue: Vec<Awaited>,
+    queue: VecDeque<Awaited>,
 }
 
 impl Model for Inbox {
@@ -101,42 +104,57 @@ fn is_due(world: &World, one: Awaited) -> bool
     one.pending && world.may_come(one.number)
 }
 
+/// Appends what waits before a phase with these directives opens, where it is pending in it.
+fn push_due(
+    to: u64,
+    directives: &[Directive],
+    one: Awaited,
+    due: &mut VecDeque<Awaited>,
+) -> Result<(), AllocError>
+    ensures { OnOk result (due.new.items
+        ≡ due.old.items ++ (if is_kept to directives.now one then becomes_due to directives.now one ∷ [] else [])) }
+{
+    if is_kept(to, directives, one) {
+        due.push_back(becomes_due(to, directives, one))?;
+    }
+    Ok(())
+}
+
 /// What is pending in a phase with these directives, of what waits before it opens.
+#[tactic(auto, using(crate::proofs::Opening::opened_more))]
 fn all_due(
     alloc: Global,
     to: u64,
     directives: &[Directive],
-    queue: &[Awaited],
-) -> Result<Vec<Awaited>, AllocError>
-    ensures { IfOk result (λ due. due.items ≡ opened to directives.now queue.now) }
+    queue: &VecDeque<Awaited>,
+) -> Result<VecDeque<Awaited>, AllocError>
+    ensures { IfOk result (λ due. due.items ≡ opened to directives.now queue.now.items) }
 {
-    let mut due = Vec::new(alloc);
-    for one in queue {
-        if is_kept(to, directives, *one) {
-            due.push(becomes_due(to, directives, *one))?;
-        }
+    let mut due = VecDeque::new(alloc);
+    for i in 0..queue.len() {
+        push_due(to, directives, at(queue, i), &mut due)?;
     }
     Ok(due)
 }
 
 /// The place of the first from a sender.
-fn place_from(queue: &[Awaited], sender: u64) -> Option<usize>
-    ensures { result ≡ position (λ q. q.sender == sender) queue.now }
+fn place_from(queue: &VecDeque<Awaited>, sender: u64) -> Option<usize>
+    ensures { result ≡ position (λ q. q.sender == sender) queue.now.items }
 {
     queue.iter().position(|one| one.sender == sender)
 }
 
 /// What stands at a place.
-fn at(queue: &[Awaited], place: usize) -> Awaited
-    requires { place < length queue.now }
-    ensures { result ≡ slice_index_or queue.now place result }
+fn at(queue: &VecDeque<Awaited>, place: usize) -> Awaited
+    requires { place < length queue.now.items }
+    ensures { result ≡ slice_index_or queue.now.items place result }
 {
     queue[place]
 }
 
 /// Whether the first from a sender has this number.
-fn is_first_in(queue: &[Awaited], sender: u64, number: u64) -> bool
-    ensures { result ≡ is_first_from sender number queue.now }
+fn is_first_in(queue: &VecDeque<Awaited>, sender: u64, number: u64) -> bool
+    ensures { result ≡ is_first_from sender number queue.now.items }
 {
     match place_from(queue, sender) {
         Some(place) => at(queue, place).number == number,
@@ -145,9 +163,9 @@ fn is_first_in(queue: &[Awaited], sender: u64, number: u64) -> bool
 }
 
 /// The place of the first from a sender, and what stands there: to deliver that once is to deliver from the sender.
-fn first_from(queue: &[Awaited], sender: u64) -> Option<(usize, Awaited)>
-    ensures { MatchOption result (queue.now ≡ made_from sender queue.now)
-        (λ found. (found.0 < length queue.now) × (made_at found.1 queue.now found.0 ≡ made_from sender queue.now)) }
+fn first_from(queue: &VecDeque<Awaited>, sender: u64) -> Option<(usize, Awaited)>
+    ensures { MatchOption result (queue.now.items ≡ made_from sender queue.now.items)
+        (λ found. (found.0 < length queue.now.items) × (made_at found.1 queue.now.items found.0 ≡ made_from sender queue.now.items)) }
 {
     match place_from(queue, sender) {
         Some(place) => Some((place, at(queue, place))),
@@ -156,7 +174,7 @@ fn first_from(queue: &[Awaited], sender: u64) -> Option<(usize, Awaited)>
 }
 
 /// What stands at a place is delivered once.
-fn deliver_at(queue: &mut Vec<Awaited>, place: usize, one: Awaited)
+fn deliver_at(queue: &mut VecDeque<Awaited>, place: usize, one: Awaited)
     requires { place < length queue.old.items }
     ensures { queue.new.items ≡ made_at one queue.old.items place }
 {
@@ -171,10 +189,10 @@ fn deliver_at(queue: &mut Vec<Awaited>, place: usize, one: Awaited)
 }
 
 /// The first from a sender is delivered once.
-fn deliver_from(queue: &mut Vec<Awaited>, sender: u64)
+fn deliver_from(queue: &mut VecDeque<Awaited>, sender: u64)
     ensures { queue.new.items ≡ made_from sender queue.old.items }
 {
-    if let Some((place, one)) = first_from(queue.as_slice(), sender) {
+    if let Some((place, one)) = first_from(queue, sender) {
         deliver_at(queue, place, one);
     }
 }
@@ -185,7 +203,7 @@ impl Inbox {
         ensures { result ≡ [] }
     {
         Inbox {
-            queue: Vec::new(alloc),
+            queue: VecDeque::new(alloc),
         }
     }
 
@@ -193,7 +211,7 @@ impl Inbox {
     pub fn is_first(&self, sender: u64, number: u64) -> bool
         ensures { result ≡ is_first_from sender number self.now }
     {
-        is_first_in(self.queue.as_slice(), sender, number)
+        is_first_in(&self.queue, sender, number)
     }
 
     /// The first from a sender is delivered once.
@@ -207,7 +225,7 @@ impl Inbox {
     pub fn push(&mut self, number: u64, sender: u64) -> Result<(), AllocError>
         ensures { OnOk result (self.new ≡ self.old ++ newly_awaited number sender ∷ []) }
     {
-        self.queue.push(Awaited {
+        self.queue.push_back(Awaited {
             number,
             sender,
             left: 1,
@@ -225,7 +243,7 @@ impl Inbox {
     ) -> Result<(), AllocError>
         ensures { OnOk result (self.new ≡ opened to directives.now self.old) }
     {
-        self.queue = all_due(alloc, to, directives, self.queue.as_slice())?;
+        self.queue = all_due(alloc, to, directives, &self.queue)?;
         Ok(())
     }
 
@@ -235,5 +253,22 @@ impl Inbox {
         ensures { result ≡ list_any (is_due (world_of world.now)) self.now }
     {
         self.queue.iter().any(|one| is_due(world, *one))
+    }
+
+    /// Appends a delivery of each that is pending and may come, as often as it is still to come.
+    pub fn add_due(&self, world: &World, actor: u32, due: &mut Vec<Due>) -> Result<(), AllocError>
+        requires { world.now.spent ≡ false }
+    {
+        for one in &self.queue {
+            if is_due(world, *one) {
+                for _ in 0..one.left {
+                    due.push(Due {
+                        actor,
+                        event: Event::Deliver(one.number),
+                    })?;
+                }
+            }
+        }
+        Ok(())
     }
 }

@@ -7,6 +7,7 @@ ghost use Rattle.law_schedules.proofs.Calm.{IsGrown};
 ghost use Rattle.world_core.specs.Runs.{world_of};
 ghost use Rattle.live_parts.specs.Inboxes.{StandsForWaiting, is_due, is_first_from, made_from, newly_awaited, opened};
 
+use crate::due::Due;
 use crate::inbox::Inbox;
 use dpc_lists::faults::NoMemory;
 use dpc_model::scripts::Directive;
@@ -183,5 +184,16 @@ impl Inboxes {
             → not result ≡ all_delivered p }
     {
         self.any_due(world)
+    }
+
+    /// Appends a delivery of each that is pending for an addressee and may come, as often as it is still to
+    /// come, in order of number.
+    pub fn add_due(&self, world: &World, actor: u32, due: &mut Vec<Due>) -> Result<(), NoMemory>
+        requires { world.now.spent ≡ false }
+    {
+        if let Some(inbox) = self.boxes.get(actor as usize) {
+            inbox.add_due(world, actor, due)?;
+        }
+        Ok(())
     }
 }

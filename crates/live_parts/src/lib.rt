@@ -2,6 +2,7 @@
 #![tactic(auto)]
 
 pub mod asking;
+pub mod due;
 pub mod inbox;
 pub mod inboxes;
 pub mod moment;

@@ -5,9 +5,10 @@ ghost use Rattle.world_model.specs.Schedules.{Progress, is_free, is_next, all_ti
 ghost use Rattle.dpc_model.specs.Actors.{roles_of};
 ghost use Rattle.dpc_lists.specs.Lists.{has, is_nil, nth};
 ghost use Rattle.world_core.specs.Runs.{world_of};
-ghost use Rattle.live_parts.specs.Moments.{StandsForMoment};
+ghost use Rattle.live_parts.specs.Moments.{StandsForMoment, next_event};
 
-use crate::asking::is_event_of;
+use crate::asking::{event_of, is_event_of};
+use dpc_lists::faults::NoMemory;
 use dpc_model::messages::Event;
 use dpc_model::scripts::Directive;
 use std::alloc::{AllocError, Global};
@@ -59,6 +60,18 @@ impl Moment {
         match self.todo.get(self.done) {
             Some(directive) => is_event_of(world, *directive, e),
             None => false,
+        }
+    }
+
+    /// The event of the next directive, where one is left.
+    pub fn next_event(&self, world: &World) -> Result<Option<Event>, NoMemory>
+        requires { world.now.spent ≡ false }
+        ensures { IfOk result (λ told. (p : Progress) → StandsForMoment self.now p → p.world ≡ world_of world.now
+            → told ≡ next_event p) }
+    {
+        match self.todo.get(self.done) {
+            Some(directive) => event_of(world, *directive),
+            None => Ok(None),
         }
     }
 

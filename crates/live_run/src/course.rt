@@ -15,6 +15,7 @@ use dpc_lists::faults::NoMemory;
 use dpc_model::messages::Event;
 use dpc_model::plans::Plan;
 use dpc_model::scripts::Directive;
+use live_parts::due::Due;
 use live_parts::inboxes::Inboxes;
 use live_parts::moment::Moment;
 use std::alloc::{AllocError, Global};
@@ -145,6 +146,28 @@ impl Course {
             | Event::Crash(_)
             | Event::Restart(_, _) => self.moment.is_next(world, e),
         }
+    }
+
+    /// Appends what an actor has to do behind the directives of the open phase: to take what is pending for it, in
+    /// order of number, and to tick.
+    pub fn add_due(
+        &self,
+        world: &World,
+        timetable: &Timetable,
+        actor: u32,
+        due: &mut Vec<Due>,
+    ) -> Result<(), NoMemory>
+        requires { world.now.spent ≡ false }
+    {
+        self.inboxes.add_due(world, actor, due)?;
+        if self.moment.may_tick(world, actor) {
+            let now = timetable.now(self.moment.phase)?;
+            due.push(Due {
+                actor,
+                event: Event::Tick(actor, now),
+            })?;
+        }
+        Ok(())
     }
 
     /// A phase with these directives opened.

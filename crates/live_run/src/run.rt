@@ -1,7 +1,7 @@
 //! A run that keeps to its script.
 ghost use Rattle.std.specs.Prelude.{◌≡◌, ◌↔◌, ℕ, true, false, [], Ok, Err, IfOk, OnErr};
 ghost use Rattle.law_fit.specs.Fits.{CanRun};
-ghost use Rattle.world_model.specs.Schedules.{may, is_live};
+ghost use Rattle.world_model.specs.Schedules.{may, is_live, is_live_so_far};
 ghost use Rattle.world_model.specs.Worlds.{WouldReach, passes_limit};
 ghost use Rattle.world_core.specs.Runs.{world_of};
 ghost use Rattle.world_core.specs.declared.faults.ApplyFault.TheVariants as fault;
@@ -17,6 +17,7 @@ use std::marker::Model;
 use world_core::faults::ApplyFault;
 use world_core::world::World;
 
+mod due;
 mod handing;
 
 /// A run so far that keeps to its script: each of its events was one that might come next. Where it wants
@@ -74,6 +75,7 @@ impl LiveRun {
         ensures plan { result.now.plan ≡ self.now.script.plan }
         ensures events { result.now.events ≡ self.now.events }
         ensures spent { self.now.spent ≡ false → result.now.spent ≡ false }
+        ensures live { is_live_so_far self.now.script self.now.events ≡ true }
     {
         &self.world
     }
@@ -99,7 +101,7 @@ impl LiveRun {
         requires { self.now.spent ≡ false }
         ensures { result ≡ is_live self.now.script self.now.events }
     {
-        self.course.is_complete(&self.world) && !self.course.has_next(&self.world, &self.timetable)
+        !self.course.has_next(&self.world, &self.timetable) && self.course.is_complete(&self.world)
     }
 
     /// The event happens, where it may come next; where it may not the answer is false, and nothing changes.

@@ -1,9 +1,10 @@
 //! The phases of a script, and the quiet ones behind them.
-ghost use Rattle.std.specs.Prelude.{◌≡◌, ◌-◌, ◌&&◌, ◌||◌, ◌==◌, not, fold, map, max, length, nat_lt};
+ghost use Rattle.std.specs.Prelude.{◌≡◌, ◌-◌, ◌&&◌, ◌||◌, ◌==◌, not, fold, map, max, length, nat_lt, IfOk};
 ghost use Rattle.dpc_model.specs.declared.scripts.Script.{Script as PlainScript};
 ghost use Rattle.world_model.specs.Schedules.{phase_of, quiet_limit};
 ghost use Rattle.live_run.specs.Courses.{IsOf};
 
+use dpc_lists::faults::NoMemory;
 use dpc_lists::lists::Listed;
 use dpc_model::plans::{FragSpec, Plan};
 use dpc_model::scripts::{Directive, Phase};
@@ -84,6 +85,13 @@ impl Timetable {
             Some(spec) => spec.now as u128,
             None => self.last as u128 + phase.saturating_sub(phases.len() as u64) as u128,
         }
+    }
+
+    /// The clock of a phase, where it is in range.
+    pub fn now(&self, phase: u64) -> Result<u64, NoMemory>
+        ensures { IfOk result (λ now. (script : PlainScript) → IsOf script self.now → now ≡ (phase_of script phase).now) }
+    {
+        u64::try_from(self.clock(phase)).ok().ok_or(NoMemory)
     }
 
     /// Whether a phase has this clock.

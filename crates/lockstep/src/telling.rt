@@ -1,14 +1,12 @@
 //! Events that happen one after another in the world of a run.
-ghost use Rattle.std.specs.Prelude.{◌≡◌, false, fold, OnOk, IfOk, IfErr};
-ghost use Rattle.world_model.specs.Schedules.{event_of, tell, tell_all, tell_directive};
-ghost use Rattle.world_core.specs.Runs.{world_of};
+ghost use Rattle.std.specs.Prelude.{◌≡◌, false, fold, OnOk, IfErr};
+ghost use Rattle.world_model.specs.Schedules.{tell, tell_all, tell_directive};
 ghost use Rattle.lockstep.specs.Locking.{Follows, Exceeds};
 
 use crate::faults::RunFault;
-use dpc_lists::faults::NoMemory;
-use dpc_model::actors::narrow;
 use dpc_model::messages::Event;
 use dpc_model::scripts::Directive;
+use live_parts::asking::event_of;
 use std::alloc::Global;
 use world_core::world::World;
 
@@ -30,25 +28,6 @@ pub fn tell_all(world: &mut World, alloc: Global, events: &[Event]) -> Result<()
         tell(world, alloc, *event)?;
     }
     Ok(())
-}
-
-/// The event of a directive, where it has one. A restart takes the next incarnation.
-fn event_of(world: &World, directive: Directive) -> Result<Option<Event>, NoMemory>
-    requires { world.now.spent ≡ false }
-    ensures { IfOk result (λ event. event ≡ event_of (world_of world.now) directive) }
-{
-    Ok(match directive {
-        Directive::Emit(source, time) => Some(Event::Emit(narrow(source)?, time)),
-        Directive::Release(source, time) => Some(Event::Release(narrow(source)?, time)),
-        Directive::Cut(a, b) => Some(Event::Cut(narrow(a)?, narrow(b)?)),
-        Directive::Heal(a, b) => Some(Event::Heal(narrow(a)?, narrow(b)?)),
-        Directive::Lose(_, _) | Directive::Repeat(_, _) => None,
-        Directive::Crash(node) => Some(Event::Crash(narrow(node)?)),
-        Directive::Restart(node) => Some(Event::Restart(
-            narrow(node)?,
-            world.last_inc(node).checked_add(1).ok_or(NoMemory)?,
-        )),
-    })
 }
 
 /// One directive.

@@ -62,6 +62,7 @@ impl LiveRun {
         ensures no { result ≡ Ok false → self.new ≡ self.old }
         ensures long { (envelopes items : ℕ) → result ≡ Err (fault.TooLong envelopes items)
             → (self.new ≡ record self.old { spent = true })
+            × (may self.old.script self.old.events (event.Mill milled.order.node (length milled.order.buckets)) ≡ true)
             × WouldReach (world_of (world_in self.old)) (event.Mill milled.order.node (length milled.order.buckets)) envelopes items }
         ensures stale { (had needed : Point) → result ≡ Err (fault.Stale had needed) → (self.new ≡ self.old)
             × IsStaleAt (world_in self.old) milled.order had needed }

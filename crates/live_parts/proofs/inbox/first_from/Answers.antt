@@ -6,12 +6,12 @@ use Rattle.live_parts.proofs.inbox.first_from.Goals as goal
 pub returns-in-Some : goal.returns-in-Some
 returns-in-Some c =
     let found = sym c.place_from.ensures ∙ c.in-Some.is in (
-      place-low c.args.sender c.in-Some.place c.args.queue.now found,
-      made-some c.args.sender c.in-Some.place c.args.queue.now (made_at c.at.result c.args.queue.now c.in-Some.place) c.at.result found c.at.ensures refl,
+      place-low c.args.sender c.in-Some.place c.args.queue.now.items found,
+      made-some c.args.sender c.in-Some.place c.args.queue.now.items (made_at c.at.result c.args.queue.now.items c.in-Some.place) c.at.result found c.at.ensures refl,
     )
 
 pub returns-in-None : goal.returns-in-None
-returns-in-None c = made-none c.args.sender c.args.queue.now (sym c.place_from.ensures ∙ c.in-None.is)
+returns-in-None c = made-none c.args.sender c.args.queue.now.items (sym c.place_from.ensures ∙ c.in-None.is)
 
 pub at-requires : goal.at-requires
-at-requires c = place-low c.args.sender c.in-Some.place c.args.queue.now (sym c.place_from.ensures ∙ c.in-Some.is)
+at-requires c = place-low c.args.sender c.in-Some.place c.args.queue.now.items (sym c.place_from.ensures ∙ c.in-Some.is)

@@ -1,0 +1,14 @@
+use Rattle.std.proofs.Common.{◌∙◌, ap}
+use Rattle.dpc_model.specs.declared.scripts.Script.{Script}
+use Rattle.world_model.specs.Schedules.{progress}
+use Rattle.law_schedules.proofs.Journals.{progress-run}
+use Rattle.live_parts.specs.Moments.{next_event}
+use Rattle.live_run.specs.Lives.{LiveRunOf, script_of}
+use Rattle.live_run.proofs.run.LiveRun.next_directive.Goals as goal
+
+pub returns : goal.returns
+returns c =
+    let script : Script = script_of c.self.inside.world.plan c.self.inside.timetable in
+    let events = c.self.inside.world.events in
+    let stands = (c.self.invariant.2 (ap (λ (r : LiveRunOf). r.spent) c.self.view_is ∙ c.requires)).1 in
+    c.in_ok-told.ensures (progress script events) stands.moment (progress-run script events) ∙ ap (λ (r : LiveRunOf). next_event (progress r.script r.events)) c.self.view_is
