@@ -24,8 +24,9 @@ pub record ComesTo (what : JournalCommand) (input input_new : Edge) (ending : En
   pub comes : ending_of what text ≡ ending
   pub holds : Holds what text
 
-abbrev pub IsReadInPart : Edge → Edge → Type 0
-IsReadInPart old new = GaveAtMost (most_journal_input + 1) old new
+-- at most one byte past the longest input was read
+abbrev pub IsInPart : Edge → Edge → Type 0
+IsInPart old new = GaveAtMost (most_journal_input + 1) old new
 
 -- how it ends, by its status
 abbrev pub JournalEnds : JournalCommand → Edge → Edge → Edge → Edge → Edge → Edge → Status → Type 0
@@ -38,9 +39,9 @@ JournalEnds what input input_new out out_new err err_new TooLong =
 JournalEnds what input input_new out out_new err err_new Refused =
     (line : List ℕ) × ComesTo what input input_new (RefusedBy line) × Stays out out_new × Took err err_new line
 JournalEnds what input input_new out out_new err err_new NoMemory =
-    Stays out out_new × Stays err err_new × IsReadInPart input input_new × (input_new.faults ≡ input.faults)
+    Stays out out_new × Stays err err_new × IsInPart input input_new × (input_new.faults ≡ input.faults)
 JournalEnds what input input_new out out_new err err_new ReadFault =
-    Stays out out_new × Stays err err_new × IsReadInPart input input_new × Rises input.faults input_new.faults
+    Stays out out_new × Stays err err_new × IsInPart input input_new × Rises input.faults input_new.faults
 JournalEnds what input input_new out out_new err err_new WriteFault =
     ((text : List ℕ) × ComesTo what input input_new (Told text) × TookPart out out_new text × Stays err err_new)
     ⊎ ((text : List ℕ) × ComesTo what input input_new (LeftOpen text) × TookPart out out_new text × Stays err err_new)
@@ -57,8 +58,8 @@ IsOutcome what input input_new outcome = (ending : Ending) × ComesTo what input
 
 -- why an input was not read whole
 abbrev pub FailsSo : Edge → Edge → InputFault → Type 0
-FailsSo input input_new input_fault.NoMemory = IsReadInPart input input_new × (input_new.faults ≡ input.faults)
-FailsSo input input_new input_fault.Failed = IsReadInPart input input_new × Rises input.faults input_new.faults
+FailsSo input input_new input_fault.NoMemory = IsInPart input input_new × (input_new.faults ≡ input.faults)
+FailsSo input input_new input_fault.Failed = IsInPart input input_new × Rises input.faults input_new.faults
 FailsSo input input_new input_fault.TooLong = ⊥
 
 -- what an input comes to was written, or a sink failed

@@ -1,5 +1,5 @@
 //! The commands on a script and the journal behind it.
-ghost use Rattle.std.specs.Prelude.{◌≡◌, IfOk, IfErr};
+ghost use Rattle.std.specs.Prelude.{IfOk, IfErr};
 ghost use Rattle.borealis_top.specs.JournalEnds.{IsOutcome, FailsSo, IsToldBy, JournalEnds, JournalIsWhole};
 ghost use Rattle.journal_commands.specs.Endings.{Ending, IsEnding};
 

@@ -1,5 +1,5 @@
 //! The commands that wait for nobody.
-ghost use Rattle.std.specs.Prelude.{◌≡◌, ◌⊎◌, ℕ, IfOk, Some, None, map, string_bytes, MatchOption};
+ghost use Rattle.std.specs.Prelude.{◌≡◌, ◌⊎◌, ℕ, IfOk, Some, None, map, string_bytes};
 ghost use Rattle.dpc_edge.specs.Edges.{Stays};
 ghost use Rattle.dpc_model.specs.ScriptText.{script_text};
 ghost use Rattle.report.specs.Text.{ideal_text};

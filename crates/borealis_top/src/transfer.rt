@@ -7,7 +7,7 @@ ghost use Rattle.borealis_top.specs.Transfers.{GaveAtMost};
 
 use dpc_edge::faults::Failed;
 use dpc_edge::source::Source;
-use std::alloc::{AllocError, AllocFailed, Global};
+use std::alloc::{AllocError, Global};
 
 /// The longest script, in bytes: 64 MiB.
 pub const MOST_INPUT: usize = 1 << 26;

@@ -1,5 +1,5 @@
 //! What is to be written of a script and the journal behind it.
-ghost use Rattle.std.specs.Prelude.{◌≡◌, ◌≤◌, ◌++◌, ◌&&◌, not, length, vec_len, false, if◌then◌else◌, IfOk};
+ghost use Rattle.std.specs.Prelude.{◌≡◌, ◌≤◌, ◌&&◌, not, vec_len, false, IfOk};
 ghost use Rattle.law_fit.specs.Fits.{CanRun};
 ghost use Rattle.journal_inputs.specs.Inputs.{input_of, upgraded_text};
 ghost use Rattle.report.specs.Text.{report_text};

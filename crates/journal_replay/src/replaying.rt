@@ -1,5 +1,5 @@
 //! The replay of a journal.
-ghost use Rattle.std.specs.Prelude.{◌≡◌, ◌<◌, ◌^◌, false, length, IfOk, OnOk, IfErr};
+ghost use Rattle.std.specs.Prelude.{◌≡◌, false, IfOk, OnOk, IfErr};
 ghost use Rattle.law_fit.specs.Fits.{CanRun};
 ghost use Rattle.world_model.specs.Replays.{Whole, replay_end};
 ghost use Rattle.journal_replay.specs.Stopping.{Happened, StopsAt, StopsSo};

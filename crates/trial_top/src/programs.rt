@@ -26,6 +26,17 @@ const CENTRAL: &str =
 const CENTRAL_REPORT: &str =
     "client c\nstable 0 1 10\nstable 1 4 20\nboundary 10 2\ntentative 11 11\nundo 2\nstable 2 11 11\nstable 3 13 21\nboundary 20 4\nrec_done\nsummary c stable 4 bound 20 tentative 0 settled\n";
 
+/// A script without a log, and the journal of its run.
+const JOURNAL: &str =
+    "borealis 1\nwidth 10\ndelay 5\nend 10\nsource a 1\nfragment f 1 a\nfilter k a 1\nclient c f\nbegin\nrelease a 10\ntick 1\njournal\nphase 1\nrelease a 10\ntick a 1\ntick f.0 1\ntick c 1\njournal end\n";
+
+/// Both in their newest form.
+const UPGRADED: &str =
+    "borealis 3\nwidth 10\ndelay 5\nend 10\npassing 0\nsource a 1\nfragment f 1 a\nfilter k a 1\nclient c f\nbegin\nrelease a 10\ntick 1\njournal 3 5\nphase 1\nrelease a 10\ntick a 1\ntick f.0 1\ntick c 1\njournal end\n";
+
+/// The summary of its client.
+const UNREAD: &str = "client c\nsummary c stable 0 bound 0 tentative 0 open\n";
+
 /// A source of this text, so many bytes a call, that fails its call 1 where told.
 fn source(alloc: Global, text: &str, piece: u64, fails: bool) -> Result<MemSource, AllocError> {
     let mut failing = Vec::new(alloc);
@@ -274,5 +285,57 @@ fn a_script_is_checked_and_printed(rt: HostRuntime) -> Result<(), Fail> {
         assert_eq!(rt; status, Status::Done, "at {word}");
         assert_eq!(rt; out.bytes(), wanted.as_bytes(), "at {word}");
     }
+    Ok(())
+}
+
+/// What a command writes of an input, where nothing fails.
+fn answer(
+    alloc: Global,
+    first: &str,
+    text: &str,
+) -> Result<(Status, Vec<u8>, Vec<u8>), AllocError> {
+    let words = words(alloc, first, "")?;
+    let mut input = source(alloc, text, 1000, false)?;
+    let mut out = sink(alloc, 1000, false)?;
+    let mut err = sink(alloc, 1000, false)?;
+    let status = plain(alloc, words.as_slice(), &mut input, &mut out, &mut err);
+    Ok((
+        status,
+        out.bytes().to_vec(alloc)?,
+        err.bytes().to_vec(alloc)?,
+    ))
+}
+
+#[test]
+fn a_journal_is_replayed(rt: HostRuntime) -> Result<(), Fail> {
+    let alloc = rt.alloc();
+    for input in [JOURNAL, UPGRADED] {
+        let (status, out, err) = answer(alloc, "replay", input)?;
+        assert_eq!(rt; status, Status::Done);
+        assert_eq!(rt; out.as_slice(), UNREAD.as_bytes());
+        assert_eq!(rt; err.len(), 0);
+    }
+    let Some((early, _)) = JOURNAL.split_once("tick c 1") else {
+        return Ok(assert!(rt; false, "no tick of the client"));
+    };
+    let text = format!(in alloc; "{early}journal end\n")?;
+    let (status, out, err) = answer(alloc, "replay", text.as_str())?;
+    assert_eq!(rt; status, Status::Refused);
+    assert_eq!(rt; out.len(), 0);
+    assert_eq!(rt; err.as_slice(), "entry 4: reason 3\n".as_bytes());
+    Ok(())
+}
+
+#[test]
+fn a_journal_is_upgraded(rt: HostRuntime) -> Result<(), Fail> {
+    let alloc = rt.alloc();
+    let (status, out, err) = answer(alloc, "upgrade", JOURNAL)?;
+    assert_eq!(rt; status, Status::Done);
+    assert_eq!(rt; out.as_slice(), UPGRADED.as_bytes());
+    assert_eq!(rt; err.len(), 0);
+    let (status, out, err) = answer(alloc, "upgrade", UPGRADED)?;
+    assert_eq!(rt; status, Status::Refused);
+    assert_eq!(rt; out.len(), 0);
+    assert_eq!(rt; err.as_slice(), "line 1: reason 5\n".as_bytes());
     Ok(())
 }
