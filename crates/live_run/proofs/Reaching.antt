@@ -14,6 +14,7 @@ use Rattle.world_model.specs.Schedules.{Progress, all_milled, target_of, targets
 use Rattle.world_parts.specs.Parts.{StandsForUp}
 use Rattle.world_parts.specs.Telling.{StandsForRole}
 use Rattle.dpc_lists.proofs.Truths.{both, both-of, eq-of, eq-test, le-test, lt-of, lt-test, not-less, not-lt, or-left, or-right, true-not-false, in-range}
+use Rattle.std.proofs.lemmas.Grind.{common_steps}
 use Rattle.dpc_lists.proofs.Elements.{range-more}
 use Rattle.dpc_model.proofs.Roles.{node-past}
 use Rattle.law_safety.proofs.Numbering.{node-at}
@@ -75,6 +76,20 @@ recovering_none w a h = ap (λ (o : Option PlainNode). elim o [ None ↦ true | 
 
 pub none_given : (goals : List ℕ) → ((a : ℕ) → nth 0 goals a ≡ 0) → StandsForTargets goals []
 none_given goals h = record { noted = refl; given = λ a. inl (h a) }
+
+-- no goal is kept
+pub none_kept : (goals : List ℕ) → list_any (λ (g : ℕ). not (g == 0)) goals ≡ false → (a : ℕ) → nth 0 goals a ≡ 0
+none_kept [] none a = refl
+none_kept (zero ∷ goals) none zero = refl
+none_kept (zero ∷ goals) none (suc a) = none_kept goals none a
+none_kept (suc g ∷ goals) none a =
+    let some : (suc g == 0) ≡ false = grind (arith, common_steps) in
+    absurd (true-not-false (ap (λ (b : Bool). not b || list_any (λ (n : ℕ). not (n == 0)) goals) (sym some) ∙ none))
+
+pub zero_eased : (w : World) (goals : List ℕ) → ((a : ℕ) → nth 0 goals a ≡ 0) → (a : ℕ) → nth 0 goals a ≡ cond (is_recovering w a) 0 (nth 0 goals a)
+zero_eased w goals h a =
+    h a ∙ (elim (is_recovering w a) as (λ b. ◌≡◌ {A = ℕ} 0 (cond b 0 0)) [ true ↦ refl | false ↦ refl ])
+    ∙ ap (λ (g : ℕ). cond (is_recovering w a) 0 g) (sym (h a))
 
 -- ---- all goals of a world
 

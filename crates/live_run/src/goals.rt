@@ -1,6 +1,6 @@
 //! The cursors that nodes must reach in a phase.
-ghost use Rattle.std.specs.Prelude.{◌≡◌, if◌then◌else◌, ℕ, false, [], List, length, nat_lt, option_map, IfOk, OnOk};
-ghost use Rattle.dpc_lists.specs.Lists.{nth, list_all, range_with_len};
+ghost use Rattle.std.specs.Prelude.{◌≡◌, ◌==◌, if◌then◌else◌, ℕ, false, not, [], List, length, nat_lt, option_map, IfOk, OnOk};
+ghost use Rattle.dpc_lists.specs.Lists.{nth, list_all, list_any, range_with_len};
 ghost use Rattle.dpc_model.specs.Actors.{roles_of};
 ghost use Rattle.node_model.specs.Nodes.{PlainNode};
 ghost use Rattle.world_model.specs.Worlds.{node_at};
@@ -17,17 +17,22 @@ use world_core::world::World;
 #[derive(Drop)]
 pub struct Goals {
     cursors: Vec<u64>,
+    /// Whether there is any: else no node is looked at.
+    any: bool,
 }
 
 impl Model for Goals {
     ghost use Rattle.std.specs.Coded.{codes};
-    ghost use Rattle.std.specs.Prelude.{List, ℕ};
+    ghost use Rattle.std.specs.Prelude.{◌≡◌, List, ℕ, false};
+    ghost use Rattle.dpc_lists.specs.Lists.{nth};
 
     ghost Value = { List ℕ };
 
     ghost coded = { Prim.hlevel codes };
 
     ghost view = { λ g. g.cursors.items };
+
+    ghost invariant = { λ g. g.any ≡ false → (a : ℕ) → nth 0 g.cursors.items a ≡ 0 };
 }
 
 /// Whether the node that an actor is recovers, and its cursor; `None` where it is none, or is down.
@@ -100,7 +105,11 @@ fn eased(world: &World, actor: u64, goal: u64) -> u64
     requires { world.now.spent ≡ false }
     ensures { result ≡ (if is_recovering (world_of world.now) actor then 0 else goal) }
 {
-    if is_recovering(world, actor) { 0 } else { goal }
+    if goal == 0 || is_recovering(world, actor) {
+        0
+    } else {
+        goal
+    }
 }
 
 /// None where an actor recovers.
@@ -114,6 +123,13 @@ fn ease_all(cursors: &mut Vec<u64>, world: &World)
         let goal = goal_at(cursors, actor);
         cursors[actor] = eased(world, actor as u64, goal);
     }
+}
+
+/// Whether there is any cursor to reach.
+fn has_any(cursors: &[u64]) -> bool
+    ensures { result ≡ list_any (λ goal. not (goal == 0)) cursors.now }
+{
+    cursors.iter().any(|goal| *goal != 0)
 }
 
 /// Whether each actor stands where it must.
@@ -140,6 +156,7 @@ impl Goals {
     {
         Ok(Goals {
             cursors: vec![in alloc; 0; actors]?,
+            any: false,
         })
     }
 
@@ -150,6 +167,7 @@ impl Goals {
         ensures many { length self.new ≡ length self.old }
     {
         self.cursors.fill(0);
+        self.any = false;
     }
 
     /// All that is ready now must be milled.
@@ -159,7 +177,9 @@ impl Goals {
             → StandsForTargets self.new (targets_in (world_of world.now))) }
         ensures many { OnOk result (length self.new ≡ length self.old) }
     {
+        self.any = true;
         set_all(&mut self.cursors, world)?;
+        self.any = has_any(self.cursors.as_slice());
         Ok(())
     }
 
@@ -170,7 +190,9 @@ impl Goals {
             → StandsForTargets self.new (targets_left (world_of world.now) ts) }
         ensures many { length self.new ≡ length self.old }
     {
-        ease_all(&mut self.cursors, world);
+        if self.any {
+            ease_all(&mut self.cursors, world);
+        }
     }
 
     /// A phase begins: all that is ready must be milled, where it has no directives.
