@@ -3,7 +3,7 @@ ghost use Rattle.std.specs.Prelude.{◌≡◌, ◌↔◌, ℕ, true, false, leng
 ghost use Rattle.dpc_model.specs.declared.messages.Event.TheVariants as event;
 ghost use Rattle.node_core.specs.declared.faults.Point.{Point};
 ghost use Rattle.world_model.specs.Schedules.{may};
-ghost use Rattle.world_model.specs.Worlds.{WouldReach, ready_at};
+ghost use Rattle.world_model.specs.Worlds.{WouldReach, passes_limit, ready_at};
 ghost use Rattle.world_core.specs.Handing.{Fits, IsWorkOf, IsStaleAt, is_loss};
 ghost use Rattle.world_core.specs.Runs.{world_of};
 ghost use Rattle.world_core.specs.declared.faults.ApplyFault.TheVariants as apply;
@@ -40,6 +40,7 @@ impl LiveRun {
     pub fn order(&self, alloc: Global, actor: u64) -> Result<Option<Order<FragMill>>, ApplyFault>
         ensures none { IfOk result (λ told. IsNone told ↔ (ready_at (world_of (world_in self.now)) actor ≡ 0)) }
         ensures some { IfOk result (λ told. IfSome told (IsWorkOf (world_in self.now) actor)) }
+        ensures long { (envelopes items : ℕ) → result ≡ Err (apply.TooLong envelopes items) → ⊥ }
         ensures spent { result ≡ Err apply.Spent ↔ self.now.spent ≡ true }
     {
         if self.spent {
@@ -59,6 +60,8 @@ impl LiveRun {
         ensures fits { IfOk result (λ _. Fits (world_in self.old) milled.order) }
         ensures yes { result ≡ Ok true → self.new ≡ with_event self.old
             (event.Mill milled.order.node (length milled.order.buckets)) }
+        ensures within { result ≡ Ok true → passes_limit (world_of (world_in self.old))
+            (event.Mill milled.order.node (length milled.order.buckets)) ≡ false }
         ensures no { result ≡ Ok false → self.new ≡ self.old }
         ensures long { (envelopes items : ℕ) → result ≡ Err (fault.TooLong envelopes items)
             → (self.new ≡ record self.old { spent = true })
