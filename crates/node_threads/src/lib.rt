@@ -1,0 +1,10 @@
+//! The run of a script by several threads: the value behind their lock, their shares of its events, and their work.
+#![tactic(auto)]
+
+pub mod faults;
+pub mod hall;
+pub mod hand;
+pub mod live;
+mod looking;
+pub mod stop;
+pub mod worker;

@@ -1,0 +1,149 @@
+//! What a worker finds to do under the lock.
+ghost use Rattle.std.specs.Prelude.{◌≡◌, false};
+ghost use Rattle.node_threads.specs.Halls.{GrowTogether};
+
+use crate::hall::Hall;
+use dpc_lists::faults::NoMemory;
+use dpc_model::actors::narrow;
+use dpc_model::messages::Event;
+use event_shares::names::RunName;
+use event_shares::share::Share;
+use live_parts::due::Due;
+use live_run::run::LiveRun;
+use std::alloc::Global;
+use world_core::faults::ApplyFault;
+
+/// What a worker is to do.
+#[derive(Clone, Copy, PartialEq, Eq)]
+pub(crate) enum Look {
+    /// The run is at its end.
+    Over,
+    /// Others have work, and this worker has none.
+    Wait,
+    /// An event that is the first worker's: of a directive, or of the next phase.
+    Lead(Event),
+    /// What its actors have to do in the phase of this number was put down.
+    Share(u64),
+}
+
+/// Which worker of how many looks, and of which phase it took its work last.
+#[derive(Clone, Copy)]
+pub(crate) struct Seat {
+    pub worker: u64,
+    pub workers: u64,
+    pub taken: u64,
+}
+
+/// What a worker's actors have to do in a phase: nodes that have ready buckets, and then events in order.
+#[derive(Drop)]
+pub(crate) struct Work {
+    pub ready: Vec<u32>,
+    pub due: Vec<Due>,
+}
+
+impl Work {
+    pub fn new(alloc: Global) -> Work {
+        Work {
+            ready: Vec::new(alloc),
+            due: Vec::new(alloc),
+        }
+    }
+
+    /// Puts down what a worker's actors have to do in the open phase.
+    fn put_down(&mut self, run: &LiveRun, seat: Seat) -> Result<(), NoMemory>
+        requires { run.now.spent ≡ false }
+    {
+        self.ready.clear();
+        self.due.clear();
+        for actor in 0..narrow(run.actor_count() as u64)? {
+            if u64::from(actor) % seat.workers.max(1) == seat.worker {
+                if run.world().ready(u64::from(actor)) > 0 {
+                    self.ready.push(actor)?;
+                }
+                run.add_due(actor, &mut self.due)?;
+            }
+        }
+        Ok(())
+    }
+}
+
+impl<N: RunName> Hall<N> {
+    /// What a worker may do next. The work of a phase is put down once. The first worker makes the events of
+    /// directives and phases, and looks for the end where all rest.
+    pub(crate) fn look(&mut self, seat: Seat, work: &mut Work) -> Result<Look, ApplyFault>
+        ensures { self.new ≡ self.old }
+    {
+        if self.run.is_spent() {
+            return Err(ApplyFault::Spent);
+        }
+        let phase = self.run.phase();
+        if self.run.is_free() && phase != seat.taken {
+            work.put_down(&self.run, seat)?;
+            return Ok(Look::Share(phase));
+        }
+        if self.over {
+            return Ok(Look::Over);
+        }
+        if seat.worker != 0 {
+            return Ok(Look::Wait);
+        }
+        if let Some(e) = self.run.next_directive()? {
+            return Ok(Look::Lead(e));
+        }
+        if phase > 0 && self.resting < seat.workers {
+            return Ok(Look::Wait);
+        }
+        self.over = self.run.is_complete();
+        Ok(if self.over {
+            Look::Over
+        } else {
+            Look::Lead(Event::Phase(phase.saturating_add(1)))
+        })
+    }
+
+    /// Tries events one after another, and goes on behind one that may not come.
+    pub(crate) fn try_all(
+        &mut self,
+        alloc: Global,
+        due: &[Due],
+        share: &mut Share<N>,
+    ) -> Result<(), ApplyFault>
+        ensures { share.new.parts ≡ share.old.parts }
+    {
+        for one in due {
+            self.event(alloc, one.event, share)?;
+        }
+        Ok(())
+    }
+
+    /// Tries the event of a directive or of a phase. With a phase all workers have work again.
+    pub(crate) fn lead(
+        &mut self,
+        alloc: Global,
+        e: Event,
+        share: &mut Share<N>,
+    ) -> Result<bool, ApplyFault>
+        ensures { share.new.parts ≡ share.old.parts }
+    {
+        let told = self.event(alloc, e, share)?;
+        if told {
+            self.resting = 0;
+        }
+        Ok(told)
+    }
+
+    /// A worker has done its work of the phase.
+    pub(crate) fn rest(&mut self)
+        ensures { self.new ≡ self.old }
+    {
+        self.resting = self.resting.saturating_add(1);
+    }
+
+    /// A single worker takes over: what the others left is done anew.
+    pub(crate) fn begin_anew(&mut self)
+        ensures { self.new ≡ self.old }
+    {
+        self.resting = 0;
+        self.over = false;
+    }
+}
