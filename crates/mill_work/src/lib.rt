@@ -1,5 +1,6 @@
 //! Work that is taken out of a node, done apart, and put back.
 #![tactic(auto)]
 
+pub mod lending;
 pub mod milling;
 pub mod order;

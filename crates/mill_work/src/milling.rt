@@ -3,7 +3,7 @@ ghost use Rattle.std.specs.Prelude.{◌≡◌, ◌+◌, length, IfOk, OnOk};
 ghost use Rattle.mill_work.specs.Milling.{IsOrder, IsMilled};
 
 use crate::order::Order;
-use checkpoint_redo::keeper::Keeper;
+use checkpoint_redo::redoing::redo;
 use dpc_lists::faults::NoMemory;
 use dpc_lists::steps::Steps;
 use dpc_model::engines::Engine;
@@ -65,16 +65,14 @@ pub fn mill<M: Engine + Drop, L: Ledger>(
     ensures order { IfOk result (λ m. m.order ≡ order) }
     ensures steps { OnOk result (steps.new ≡ steps.old + length order.buckets) }
 {
-    let Ok(copy) = order.before.copy(alloc) else {
+    let Ok(mut after) = order.before.copy(alloc) else {
         return Err(NoMemory);
     };
-    let mut keeper = Keeper::new(copy);
-    let Ok(outputs) = keeper.redo(alloc, order.buckets.as_slice(), order.cursor, steps) else {
-        return Err(NoMemory);
-    };
+    let buckets = order.buckets.as_slice();
+    let outputs = redo(alloc, &mut after, buckets, order.cursor, steps)?;
     Ok(Milled {
         order,
-        after: keeper.into_state(),
+        after,
         outputs,
     })
 }
