@@ -23,6 +23,7 @@ use std::marker::Model;
 use sunion::sunion::SUnion;
 
 mod commit;
+mod lending;
 mod messages;
 mod recovery;
 

@@ -19,22 +19,25 @@ use soutput::fresh::Fresh;
 use std::alloc::Global;
 
 impl Pipeline {
-    /// Whether an order's engine is the one at the cursor. It takes no memory.
-    fn has_engine(&self, order: &Order<FragMill>) -> bool
-        ensures { (ops : List OpSpec) → (x : Inputs) → (o : Outputs) → StandsForData ops self.now x o
-            → (IsTrue result ↔ IsEngineOf ops self.now.union.width x order.now.before) }
+    /// Whether an order's engine is the one at the cursor. It wants memory where the engine is lent.
+    fn has_engine(&self, order: &Order<FragMill>) -> Result<bool, NoMemory>
+        ensures { IfOk result (λ told. (ops : List OpSpec) → (x : Inputs) → (o : Outputs) → StandsForData ops self.now x o
+            → (IsTrue told ↔ IsEngineOf ops self.now.union.width x order.now.before)) }
     {
-        self.keeper.same(&order.before)
+        let told = self.keeper.same(&order.before)?;
+        Ok(told)
     }
 
-    /// Whether an order's engine is the one at the cursor, and its buckets are the next ready ones.
+    /// Whether an order's engine is the one at the cursor, and its buckets are the next ready ones. It wants
+    /// memory too where the engine is lent.
     pub fn is_at(&self, alloc: Global, order: &Order<FragMill>) -> Result<bool, NoMemory>
         requires { (ops : List OpSpec) × (x : Inputs) × (o : Outputs) × CanMillReady ops self.now x o }
         ensures { IfOk result (λ at. (ops : List OpSpec) → (x : Inputs) → (o : Outputs) → CanMillReady ops self.now x o
             → (IsTrue at ↔ IsAt ops self.now x order.now)) }
     {
         let count = order.buckets.len() as u64;
-        if !self.has_engine(order) || self.ready() < count {
+        let has_engine = self.has_engine(order)?;
+        if !has_engine || self.ready() < count {
             return Ok(false);
         }
         if count == 0 {
@@ -44,7 +47,8 @@ impl Pipeline {
         Ok(buckets.same(&order.buckets))
     }
 
-    /// Goes on behind so many ready buckets whose work was done apart, and gives what is new as `mill`.
+    /// Goes on behind so many ready buckets whose work was done apart, and gives what is new as `mill`. If the
+    /// engine was lent, that is over.
     pub fn put(
         &mut self,
         alloc: Global,

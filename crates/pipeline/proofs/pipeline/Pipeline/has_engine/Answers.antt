@@ -8,7 +8,8 @@ use Rattle.pipeline.proofs.pipeline.Pipeline.has_engine.Goals as goal
 
 pub returns : goal.returns
 returns c = λ ops x o h.
+    let told = c.in_ok-told.told in
     let stood = subst (λ (v : PipelineValue). StandsForData ops v x o) (sym c.self.view_is) h in
-    subst (λ (q : OrderValue MillState). IsTrue c.same.result ↔ IsEngineOf ops c.args.self.now.union.width x q.before) c.order.view_is
-    (subst (λ (v : PipelineValue). IsTrue c.same.result ↔ IsEngineOf ops v.union.width x c.order.inside.before) c.self.view_is
-    (same-engine ops (the_view c.self.inside) x o c.order.inside.before c.same.result stood c.same.ensures.same c.same.ensures.determined))
+    subst (λ (q : OrderValue MillState). IsTrue told ↔ IsEngineOf ops c.args.self.now.union.width x q.before) c.order.view_is
+    (subst (λ (v : PipelineValue). IsTrue told ↔ IsEngineOf ops v.union.width x c.order.inside.before) c.self.view_is
+    (same-engine ops (the_view c.self.inside) x o c.order.inside.before told stood c.in_ok-told.ensures.same c.in_ok-told.ensures.determined))
