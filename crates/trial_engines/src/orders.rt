@@ -6,6 +6,7 @@ use dpc_lists::steps::Steps;
 use dpc_model::engines::Engine;
 use dpc_model::expressions::{Expr, ExprNode};
 use dpc_model::tuples::{Tagged, Tuple, Vals};
+use mill_work::lending::mill_in_place;
 use mill_work::milling::mill;
 use mill_work::order::Order;
 use ops_stateless::filter::Filter;
@@ -25,7 +26,8 @@ fn bucket(alloc: Global, stime: u64) -> Result<Listed<Tagged>, AllocError> {
     Ok(Listed::from_vec(inputs))
 }
 
-/// Two buckets of a filter that lets all pass: both come out, and the order is given back.
+/// Two buckets of a filter that lets all pass: both come out, and the order is given back. Done again on its
+/// own engine it comes to the same.
 fn two_buckets<L: Ledger>(alloc: Global, blank: Blank) -> Result<bool, Fail>
     requires name { blank.name ≡ L.name }
     requires parts { blank.parts ≡ L.parts }
@@ -47,7 +49,11 @@ fn two_buckets<L: Ledger>(alloc: Global, blank: Blank) -> Result<bool, Fail>
     };
     let milled = mill(alloc, order, &mut steps)?;
     let (order, after, outputs) = milled.into_parts();
-    Ok(order.node == 3 && outputs.len() == 2 && !after.same(&order.before))
+    let apart = order.node == 3 && outputs.len() == 2 && !after.same(&order.before);
+    let done = mill_in_place(alloc, order, &mut steps)?;
+    let told = done.node() == 3 && done.inc() == 1 && done.cursor() == 0 && done.count() == 2;
+    let (engine, again) = done.into_parts();
+    Ok(apart && told && again.len() == 2 && engine.same(&after))
 }
 
 #[test]
