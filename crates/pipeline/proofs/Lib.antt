@@ -8,6 +8,7 @@ pub mod OneMore
 pub mod Opening
 pub mod Plainly
 pub mod Ranges
+pub mod Spares
 pub mod Streaming
 pub mod Wholes
 pub mod Work
