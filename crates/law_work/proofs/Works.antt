@@ -6,8 +6,8 @@ use Rattle.dpc_model.specs.declared.tuples.Tagged.{Tagged}
 use Rattle.fragment_mill.specs.Mills.{MillState, MillAfter}
 use Rattle.mill_work.specs.Milling.{OrderValue}
 use Rattle.node_model.specs.Nodes.{Home, PlainNode}
-use Rattle.node_core.specs.Milling.{IsEngineAt, Fits, IsWorkAt}
-use Rattle.law_work.specs.TrueWork.{true_buckets, IsTrueEngine, IsTrueWork, IsSoundNode, FitsInNumbers}
+use Rattle.node_core.specs.Milling.{IsEngineAt, Fits, FitsInNumbers, IsWorkAt}
+use Rattle.law_work.specs.TrueWork.{true_buckets, IsTrueEngine, IsTrueWork, IsSoundNode}
 use Rattle.law_work.proofs.Inputs.{processed-true, ready-complete, next-true}
 
 -- ---- the engine

@@ -11,10 +11,10 @@ use Rattle.dpc_model.specs.declared.tuples.Tuple.{Tuple}
 use Rattle.dpc_model.specs.declared.tuples.Tagged.{Tagged}
 use Rattle.fragment_mill.specs.Mills.{MillState, MillAfter}
 use Rattle.mill_work.specs.Milling.{OrderValue}
-use Rattle.node_model.specs.Nodes.{Home, PlainNode, spec_of, ready}
+use Rattle.node_model.specs.Nodes.{Home, PlainNode, spec_of}
 use Rattle.node_model.specs.NodeParts.{inputs_of}
 use Rattle.pipeline.specs.Flowing.{IsMillOf}
-use Rattle.node_core.specs.Milling.{Fits, IsWorkAt}
+use Rattle.node_core.specs.Milling.{Fits, FitsInNumbers, IsWorkAt}
 use Rattle.world_model.specs.Safe.{ideal_inputs, IsSafeNode}
 use Rattle.world_model.specs.Worlds.{World, home_of, node_at}
 use Rattle.law_safety.specs.Plans.{IsPlace}
@@ -53,10 +53,6 @@ pub record IsSoundNode (home : Home) (p : PlainNode) : Type 0 where
   pub place : IsPlace home
   pub safe : IsSafeNode home p
   pub past : ArePastBounds (inputs_of p)
-
--- it begins at the plain node's cursor, and as many buckets are ready
-abbrev pub FitsInNumbers : Home → PlainNode → OrderValue MillState → Type 0
-FitsInNumbers home p o = (o.cursor ≡ p.cursor) × (length o.buckets ≤ ready home p)
 
 -- ---- in a world of a plan
 

@@ -11,11 +11,11 @@ ghost use Rattle.fragment_mill.specs.Mills.{MillState};
 ghost use Rattle.mill_work.specs.Milling.{OrderValue};
 ghost use Rattle.node_model.specs.Nodes.{Home, PlainNode, bucket_of, complete_upto};
 ghost use Rattle.node_model.specs.NodeParts.{inputs_of};
-ghost use Rattle.node_core.specs.Milling.{Fits, IsWorkAt};
+ghost use Rattle.node_core.specs.Milling.{Fits, FitsInNumbers, IsWorkAt};
 ghost use Rattle.world_model.specs.Worlds.{World, run};
 ghost use Rattle.law_safety.specs.Plans.{IsCheckedPlan};
 ghost use Rattle.law_safety.specs.Keeps.{IsFineWorld};
-ghost use Rattle.law_work.specs.TrueWork.{true_inputs, true_bucket, IsTrueWork, IsSoundNode, FitsInNumbers, NodesAreSound, WorkIsTrue, TrueWorkFitsByNumbers};
+ghost use Rattle.law_work.specs.TrueWork.{true_inputs, true_bucket, IsTrueWork, IsSoundNode, NodesAreSound, WorkIsTrue, TrueWorkFitsByNumbers};
 
 /// Each node that is up is sound, in a world that is safe and orderly and after every run of a checked plan. What such a node has
 /// processed while it doesn't recover are the failure-free inputs below its cursor, and each complete bucket is the failure-free one.

@@ -21,7 +21,7 @@ use Rattle.node_model.proofs.Viewed.{made_of}
 use Rattle.node_core.specs.declared.packets.Mail as code_mail
 use Rattle.node_core.specs.Milling.{CanMill, MillSteps, corrected}
 use Rattle.node_core.specs.Standing.{NodeValue, StandsForNode, AreMails}
-use Rattle.node_core.specs.Stepping.{plain_mail}
+use Rattle.node_core.specs.Stepping.{plain_mail, IsTakenAs}
 use Rattle.node_core.proofs.Frames.{set-later, made-as}
 use Rattle.node_core.proofs.Mailing.{readers-mails}
 
@@ -126,18 +126,24 @@ milled-sends home v p count done path sends some can e milled =
     (sym (mill-sends home count p some (none-tentative home v p count some can))) (readers-mails home (own_readers home) ms)))
 
 -- all of a step that leaves the data path so and sends such mails
+pub mill-taken : (home : Home) (p : PlainNode) (v old new : NodeValue) (count : ℕ) (done : Bool) (path : PipelineValue) (ms : List (ℕ × Message)) (told : List code_mail.Mail) → 1 ≤ count → v ≡ old →
+    new ≡ corrected done (record v { path = path }) → told ≡ map (λ (m : ℕ × Message). plain_mail (nth 0 v.readers m.0) m.1) ms → IsSetAs v.path path → CanMill count home v p →
+    IsMilled (spec_of home).ops v.path path (inputs_of p) (outputs_of p) count done ms → (CanMill count home old p → done ≡ ends_by home count p) → IsTakenAs new told home (mill_step home count p)
+mill-taken home p v old new count done path ms told some same behind sent set can milled ends =
+    let last = ends (subst (λ (u : NodeValue). CanMill count home u p) same can) in
+    record {
+      after = subst (λ (u : NodeValue). StandsForNode home u (mill_step home count p).after) (sym behind) (milled-stands home v p count done path ms some can last set milled);
+      sends = subst (λ (mails : List code_mail.Mail). AreMails home mails (mill_step home count p).sends) (sym sent) (milled-sends home v p count done path ms some can last milled);
+    }
+
+-- at each node where so many buckets can be processed
 pub mill-steps : (v old new : NodeValue) (count : ℕ) (done : Bool) (path : PipelineValue) (ms : List (ℕ × Message)) (told : List code_mail.Mail) → 1 ≤ count → v ≡ old →
     new ≡ corrected done (record v { path = path }) → told ≡ map (λ (m : ℕ × Message). plain_mail (nth 0 v.readers m.0) m.1) ms → IsSetAs v.path path →
     ((home : Home) (p : PlainNode) → CanMill count home v p → IsMilled (spec_of home).ops v.path path (inputs_of p) (outputs_of p) count done ms) →
     ((home : Home) (p : PlainNode) → CanMill count home old p → done ≡ ends_by home count p) → MillSteps count old new told
 mill-steps v old new count done path ms told some same behind sent set milled ends =
-    record {
-      after = λ home p h.
-          let can : CanMill count home v p = subst (λ (u : NodeValue). CanMill count home u p) (sym same) h in
-          subst (λ (u : NodeValue). StandsForNode home u (mill_step home count p).after) (sym behind)
-          (milled-stands home v p count done path ms some can (ends home p h) set (milled home p can));
-      sends = λ home p h.
-          let can : CanMill count home v p = subst (λ (u : NodeValue). CanMill count home u p) (sym same) h in
-          subst (λ (mails : List code_mail.Mail). AreMails home mails (mill_step home count p).sends) (sym sent)
-          (milled-sends home v p count done path ms some can (ends home p h) (milled home p can));
-    }
+    let taken : (home : Home) (p : PlainNode) → CanMill count home old p → IsTakenAs new told home (mill_step home count p) =
+    λ home p h.
+    let can : CanMill count home v p = subst (λ (u : NodeValue). CanMill count home u p) (sym same) h in
+    mill-taken home p v old new count done path ms told some same behind sent set can (milled home p can) (ends home p) in
+    record { after = λ home p h. (taken home p h).after; sends = λ home p h. (taken home p h).sends }

@@ -2,20 +2,22 @@
 use Rattle.std.proofs.Common.{◌≡◌, ◌↔◌, ℕ, ◌+◌, ◌*◌, ◌^◌, ◌<◌, ◌≤◌, List, length, sym, ap, subst, ◌∙◌, arith, Some}
 use Rattle.std.proofs.lemmas.Grind.{common_steps}
 use Rattle.dpc_model.specs.Limits.{most_milled}
-use Rattle.dpc_model.specs.Parts.{Neighbours}
+use Rattle.dpc_model.specs.Parts.{Inputs, Outputs, Neighbours}
+use Rattle.dpc_model.specs.declared.operators.OpSpec.{OpSpec}
+use Rattle.dpc_lists.specs.Lists.{nth}
 use Rattle.dpc_model.specs.declared.tuples.Tagged.{Tagged}
 use Rattle.dpc_model.specs.Engines.{AcceptsAll}
 use Rattle.law_buckets.specs.Series.{buckets_from}
 use Rattle.law_buckets.proofs.Accepted.{buckets-accepted, count-buckets}
 use Rattle.fragment_mill.specs.Mills.{MillState}
 use Rattle.mill_work.specs.Milling.{OrderValue}
-use Rattle.pipeline.specs.Flowing.{IsEngineOf}
+use Rattle.pipeline.specs.Flowing.{IsEngineOf, CanMill as CanMillPath}
 use Rattle.node_model.specs.Nodes.{Home, spec_of, PlainNode, ready}
-use Rattle.node_model.specs.NodeParts.{inputs_of}
+use Rattle.node_model.specs.NodeParts.{inputs_of, outputs_of}
 use Rattle.law_node.proofs.Buckets.{buckets-are}
-use Rattle.node_core.specs.Milling.{CanMill, next_buckets, CanBeMilled, IsEngineAt, IsWorkAt}
+use Rattle.node_core.specs.Milling.{CanMill, CanMillNode, next_buckets, CanBeMilled, IsEngineAt, IsWorkAt, IsOrderOf}
 use Rattle.node_core.specs.Standing.{NodeValue, StandsForNode}
-use Rattle.node_core.proofs.Milled.{ready-at}
+use Rattle.node_core.proofs.Milled.{ready-at, can-mill-path}
 
 -- the engine of the data path is the plain node's
 pub engine-at : (home : Home) (v : NodeValue) (p : PlainNode) (m : MillState) → StandsForNode home v p → (IsEngineOf (spec_of home).ops v.path.union.width (inputs_of p) m ↔ IsEngineAt home p m)
@@ -67,4 +69,22 @@ order-work home v p count o can inc at engine are =
         ready = subst (λ (k : ℕ). k ≤ ready home p) (sym many) can.ready;
         buckets = are ∙ next-are home v p count can ∙ ap (λ (k : ℕ). next_buckets home p k) (sym many);
       };
+    }
+
+-- an order that a node hands out
+pub order-of : (v : NodeValue) (count : ℕ) (o : OrderValue MillState) → CanMillNode count v → o.node ≡ nth 0 v.links.replicas v.links.me → o.inc ≡ v.links.known.grants.inc → o.cursor ≡ v.path.union.union.cursor →
+    ((ops : List OpSpec) (x : Inputs) (out : Outputs) → CanMillPath ops v.path x out count → IsEngineOf ops v.path.union.width x o.before) →
+    ((ops : List OpSpec) (x : Inputs) (out : Outputs) → CanMillPath ops v.path x out count → o.buckets ≡ buckets_from v.path.union.width x x.cursor count) → IsOrderOf v count o
+order-of v count o can_mill own inc at engines buckets =
+    let home = can_mill.node.0 in
+    let p = can_mill.node.1 in
+    let are : (home : Home) → (p : PlainNode) → CanMill count home v p → o.buckets ≡ buckets_from v.path.union.width (inputs_of p) p.cursor count =
+    λ home p can. buckets (spec_of home).ops (inputs_of p) (outputs_of p) (can-mill-path home v p count can_mill.some can) in
+    let engine : (home : Home) → (p : PlainNode) → CanMill count home v p → IsEngineOf (spec_of home).ops v.path.union.width (inputs_of p) o.before =
+    λ home p can. engines (spec_of home).ops (inputs_of p) (outputs_of p) (can-mill-path home v p count can_mill.some can) in
+    record {
+      node = own;
+      many = ap length (are home p can_mill.node.2) ∙ count-buckets v.path.union.width (inputs_of p) p.cursor count;
+      work = λ home p can. order-work home v p count o can inc at (engine home p can) (are home p can);
+      can = order-stands home v p count o can_mill.some can_mill.few can_mill.node.2 at (engine home p can_mill.node.2) (are home p can_mill.node.2);
     }

@@ -7,10 +7,12 @@ use Rattle.dpc_lists.specs.Lists.{nth, range_with_len}
 use Rattle.dpc_model.specs.declared.tuples.Tagged.{Tagged}
 use Rattle.fragment_mill.specs.Mills.{MillState}
 use Rattle.mill_work.specs.Milling.{OrderValue, IsOrder}
+use Rattle.dpc_model.specs.declared.tuples.Tuple.{Tuple}
 use Rattle.node_model.specs.Nodes.{Home, spec_of, PlainNode, bucket_of, ready}
-use Rattle.node_model.specs.NodeParts.{inputs_of}
+use Rattle.node_model.specs.NodeParts.{inputs_of, outputs_of}
 use Rattle.node_model.specs.NodeSteps.{mill_step}
 use Rattle.pipeline.specs.Flowing.{IsEngineOf}
+use Rattle.pipeline.specs.Committing.{CanPut}
 use Rattle.node_core.specs.declared.faults.Point.{Point}
 use Rattle.node_core.specs.declared.packets.Mail as code_mail
 use Rattle.node_model.specs.Fitting.{IsFit}
@@ -57,6 +59,14 @@ pub record Fits (home : Home) (p : PlainNode) (o : OrderValue MillState) : Type 
   pub ready : length o.buckets ≤ ready home p
   pub buckets : o.buckets ≡ next_buckets home p (length o.buckets)
 
+-- it begins at the plain node's cursor, and as many buckets are ready
+abbrev pub FitsInNumbers : Home → PlainNode → OrderValue MillState → Type 0
+FitsInNumbers home p o = (o.cursor ≡ p.cursor) × (length o.buckets ≤ ready home p)
+
+-- numbers alone tell whether it fits the plain node
+abbrev pub IsKnownAt : Home → PlainNode → OrderValue MillState → Type 0
+IsKnownAt home p o = Fits home p o ↔ FitsInNumbers home p o
+
 -- it is work for the plain node where that stands now
 pub record IsWorkAt (home : Home) (p : PlainNode) (o : OrderValue MillState) : Type 0 where
   pub inc : o.inc ≡ p.grants.inc
@@ -85,6 +95,11 @@ needed_by o = record { up = true; inc = o.inc; cursor = o.cursor; ready = length
 -- it stands somewhere else
 abbrev pub is_stale : Point → Point → Bool
 is_stale had needed = not (had.inc == needed.inc) || not (had.cursor == needed.cursor) || nat_lt had.ready needed.ready || not had.fits
+
+-- so many buckets may be processed at the plain node, and this engine and these tuples come of an order for exactly these
+pub record CanPutAt (count : ℕ) (v : NodeValue) (after : MillState) (outputs : List Tuple) (home : Home) (p : PlainNode) : Type 0 where
+  pub can : CanMill count home v p
+  pub path : CanPut (spec_of home).ops v.path (inputs_of p) (outputs_of p) count after outputs
 
 -- an order was put back where it was not stale, by exactly the step of processing its buckets
 pub record IsCommitted (o : OrderValue MillState) (old new : NodeValue) (sends : List code_mail.Mail) : Type 0 where

@@ -1,8 +1,9 @@
 //! Why work that was done apart is not put back.
 ghost use Rattle.std.specs.Prelude.{◌≡◌};
-ghost use Rattle.node_core.specs.Milling.{needed_by};
+ghost use Rattle.node_core.specs.Milling.{needed_by, is_stale};
 
 use fragment_mill::mill::FragMill;
+use mill_work::lending::Done;
 use mill_work::order::Order;
 
 /// Where a node stands, beside an order.
@@ -40,4 +41,24 @@ pub fn needed_by(order: &Order<FragMill>) -> Point
         ready: order.buckets.len() as u64,
         fits: true,
     }
+}
+
+/// Where a node would have to stand for work on its own engine to be put back.
+pub fn needed_when_done(done: &Done<FragMill>) -> Point
+    ensures { result ≡ needed_by done.now.order }
+{
+    Point {
+        up: true,
+        inc: done.inc(),
+        cursor: done.cursor(),
+        ready: done.count(),
+        fits: true,
+    }
+}
+
+/// Whether a node stands elsewhere than it would have to.
+pub(crate) fn is_stale(had: Point, needed: Point) -> bool
+    ensures { result ≡ is_stale had needed }
+{
+    had.inc != needed.inc || had.cursor != needed.cursor || had.ready < needed.ready || !had.fits
 }

@@ -24,6 +24,7 @@ mod announce;
 mod committing;
 mod deliver;
 mod handing;
+mod lending;
 mod mill;
 mod recover;
 mod tick;

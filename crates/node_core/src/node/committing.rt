@@ -1,16 +1,15 @@
 //! Work that was done apart and is put back.
 ghost use Rattle.std.specs.Prelude.{◌≡◌, ◌↔◌, false, true, Err, IsTrue, IfOk, OnOk};
-ghost use Rattle.node_model.specs.Nodes.{Home, PlainNode, spec_of};
-ghost use Rattle.node_model.specs.NodeParts.{inputs_of, outputs_of};
-ghost use Rattle.pipeline.specs.Committing.{CanPut};
+ghost use Rattle.node_model.specs.Nodes.{Home, PlainNode};
+ghost use Rattle.node_model.specs.NodeSteps.{mill_step};
 ghost use Rattle.node_model.specs.Fitting.{IsFit};
 ghost use Rattle.node_core.specs.declared.faults.Point.{Point};
 ghost use Rattle.node_core.specs.declared.faults.CommitFault.TheVariants as commit;
-ghost use Rattle.node_core.specs.Milling.{CanMill, CanMillNode, MillSteps, Fits, IsWorkAt, IsBeside, is_stale, IsCommitted, WasStale};
+ghost use Rattle.node_core.specs.Milling.{CanPutAt, Fits, IsWorkAt, IsBeside, IsCommitted, WasStale};
 ghost use Rattle.node_core.specs.Standing.{StandsForNode};
-ghost use Rattle.node_core.specs.Stepping.{IsSound};
+ghost use Rattle.node_core.specs.Stepping.{IsSound, IsTakenAs};
 
-use crate::faults::{CommitFault, Point, needed_by};
+use crate::faults::{CommitFault, Point, is_stale, needed_by};
 use crate::node::Node;
 use crate::packets::Mail;
 use crate::sending::to_readers;
@@ -20,13 +19,6 @@ use fragment_mill::mill::FragMill;
 use mill_work::milling::Milled;
 use mill_work::order::Order;
 use std::alloc::Global;
-
-/// Whether a node stands elsewhere than it would have to.
-fn is_stale(had: Point, needed: Point) -> bool
-    ensures { result ≡ is_stale had needed }
-{
-    had.inc != needed.inc || had.cursor != needed.cursor || had.ready < needed.ready || !had.fits
-}
 
 impl Node {
     /// Compares the node with an order: stale exactly where it stands elsewhere than where the order was taken.
@@ -88,18 +80,17 @@ impl Node {
     }
 
     /// Puts the work of so many ready buckets back that was done apart.
-    fn put(
+    pub(crate) fn put(
         &mut self,
         alloc: Global,
         after: FragMill,
         outputs: Tuples,
         count: u64,
     ) -> Result<Vec<Mail>, NoMemory>
-        requires can { CanMillNode count self.old }
-        requires made { (home : Home) → (p : PlainNode) → CanMill count home self.old p
-            → CanPut (spec_of home).ops self.old.path (inputs_of p) (outputs_of p) count after outputs }
+        requires { (home : Home) × (p : PlainNode) × CanPutAt count self.old after outputs home p }
         ensures spent { self.new.spent ≡ self.old.spent }
-        ensures after { IfOk result (λ mails. MillSteps count self.old self.new mails.items) }
+        ensures after { IfOk result (λ mails. (home : Home) (p : PlainNode) → CanPutAt count self.old after outputs home p
+            → IsTakenAs self.new mails.items home (mill_step home count p)) }
     {
         let done = self.is_last(count);
         let sends = self.path.put(alloc, after, outputs, count, done)?;
