@@ -1,5 +1,5 @@
 //! An order, done on its own engine: nothing of the engine is copied.
-ghost use Rattle.std.specs.Prelude.{◌≡◌, ◌+◌, length, IfOk, OnOk};
+ghost use Rattle.std.specs.Prelude.{◌≡◌, ◌+◌, ◌≤◌, length, IfOk, OnOk};
 ghost use Rattle.mill_work.specs.Milling.{IsOrder, IsMilled};
 
 use crate::order::Order;
@@ -66,9 +66,10 @@ impl<M: Engine + Drop> Done<M> {
         self.cursor
     }
 
-    /// How many buckets there are. It takes no memory.
+    /// How many buckets there are: one at least. It takes no memory.
     pub fn count(&self) -> u64
-        ensures { result ≡ length self.now.order.buckets }
+        ensures many { result ≡ length self.now.order.buckets }
+        ensures some { 1 ≤ result }
     {
         self.buckets.len() as u64
     }

@@ -1,5 +1,5 @@
 //! Why work that was done apart is not put back.
-ghost use Rattle.std.specs.Prelude.{◌≡◌};
+ghost use Rattle.std.specs.Prelude.{◌≡◌, ◌≤◌};
 ghost use Rattle.node_core.specs.Milling.{needed_by, is_stale};
 
 use fragment_mill::mill::FragMill;
@@ -43,9 +43,10 @@ pub fn needed_by(order: &Order<FragMill>) -> Point
     }
 }
 
-/// Where a node would have to stand for work on its own engine to be put back.
+/// Where a node would have to stand for work on its own engine to be put back. Some bucket has to be ready.
 pub fn needed_when_done(done: &Done<FragMill>) -> Point
-    ensures { result ≡ needed_by done.now.order }
+    ensures needed { result ≡ needed_by done.now.order }
+    ensures some { 1 ≤ result.ready }
 {
     Point {
         up: true,

@@ -18,3 +18,4 @@ pub mod SettledClients
 pub mod SlotWork
 pub mod NodeWork
 pub mod UpNodes
+pub mod LentWork

@@ -72,7 +72,7 @@ restart-happened plan v old a f r inc i u new h within keeps =
 pub read-step : (plan : Plan) (v old : WorldPartsValue) (a f r i : ℕ) (u : SlotValue) → CanRun plan → IsPlaceRead plan v old a f r i u → (home : Home) × (s : Slot) × CanStep home u s
 read-step plan v old a f r i u can h = some-step plan v a f r u can h.role (read-is plan v old a f r i u h) (subst (λ (w : WorldPartsValue). IsSomeWorld plan w) (sym h.same) h.some)
 
-read-leads : (plan : Plan) (v old : WorldPartsValue) (a f r i : ℕ) (u new : SlotValue) (told : List code_mail.Mail) (e : Event) → IsPlaceRead plan v old a f r i u →
+pub read-leads : (plan : Plan) (v old : WorldPartsValue) (a f r i : ℕ) (u new : SlotValue) (told : List code_mail.Mail) (e : Event) → IsPlaceRead plan v old a f r i u →
     Leads plan v (with_posted a told (with_slot (node_place plan a) new v)) e → Leads plan old (with_posted a told (with_slot i new v)) e
 read-leads plan v old a f r i u new told e h leads =
     subst (λ (o : WorldPartsValue). Leads plan o (with_posted a told (with_slot i new v)) e) h.same

@@ -33,9 +33,9 @@ use Rattle.world_parts.proofs.NodeEvents.{place_stepped, IsNoNode, mill-event, t
 
 -- a step at a node's place, and what stands for it
 pub record IsEventOf (a f r : ℕ) (new : SlotValue) (told : List code_mail.Mail) (e : Event) (x : World) : Type 0 where
-  step : Stepped Slot
-  stepped : IsStepped (home_of x.plan (f, r)) new told step
-  event : happens x e ≡ place_stepped x a step
+  pub step : Stepped Slot
+  pub stepped : IsStepped (home_of x.plan (f, r)) new told step
+  pub event : happens x e ≡ place_stepped x a step
 
 -- what the event sends is fitting
 sends-fit : (x : World) (most a : ℕ) (e : Event) (step : Stepped Slot) → IsCheckedPlan x.plan → IsFineWorld x most → happens x e ≡ place_stepped x a step → list_all (is_fitting x.plan) (map (from a) step.sends) ≡ true

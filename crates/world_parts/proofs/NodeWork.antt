@@ -38,12 +38,12 @@ use Rattle.world_parts.proofs.SlotWork.{slot-plain}
 
 -- ---- the place that was read, in a world that is stood for
 
-read-step-at : (plan : Plan) (v : WorldPartsValue) (a f r : ℕ) (u : SlotValue) (x : World) (most : ℕ) → CanRun plan → role_of plan a ≡ IsNode f r → slice_get v.nodes (node_place plan a) ≡ Some u → IsWorldOf plan v x most → CanStepAt x a f r u
+pub read-step-at : (plan : Plan) (v : WorldPartsValue) (a f r : ℕ) (u : SlotValue) (x : World) (most : ℕ) → CanRun plan → role_of plan a ≡ IsNode f r → slice_get v.nodes (node_place plan a) ≡ Some u → IsWorldOf plan v x most → CanStepAt x a f r u
 read-step-at plan v a f r u x most can role e w =
     subst (λ (p : Plan). CanRun p → role_of p a ≡ IsNode f r → slice_get v.nodes (node_place p a) ≡ Some u → IsWorldOf p v x most → CanStepAt x a f r u) w.stands.plan_is
     (λ can role e w. step-at x most a f r v u can role w e) can role e w
 
-own-role : (plan : Plan) (a f r : ℕ) (x : World) → x.plan ≡ plan → role_of plan a ≡ IsNode f r → role_of x.plan a ≡ IsNode f r
+pub own-role : (plan : Plan) (a f r : ℕ) (x : World) → x.plan ≡ plan → role_of plan a ≡ IsNode f r → role_of x.plan a ≡ IsNode f r
 own-role plan a f r x same role = ap (λ (p : Plan). role_of p a) same ∙ role
 
 ready-place : (x : World) (a f r : ℕ) (s : Slot) → role_of x.plan a ≡ IsNode f r → slice_get x.nodes (node_place x.plan a) ≡ Some s → ready_in (home_of x.plan (f, r)) s.node ≡ ready_at x a
@@ -54,7 +54,7 @@ up-place plan v a f r u role e =
     ap (λ (z : Role). up_role v (node_place plan a) z) role ∙ ap (λ (o : Option SlotValue). (unwrap_or o (record { last_inc = 0; node = None })).node) e
 
 -- what was read, of the parts as contracts see them
-read-old : (plan : Plan) (v old : WorldPartsValue) (a f r i : ℕ) (u : SlotValue) → IsPlaceRead plan v old a f r i u → slice_get old.nodes (node_place plan a) ≡ Some u
+pub read-old : (plan : Plan) (v old : WorldPartsValue) (a f r i : ℕ) (u : SlotValue) → IsPlaceRead plan v old a f r i u → slice_get old.nodes (node_place plan a) ≡ Some u
 read-old plan v old a f r i u h = subst (λ (w : WorldPartsValue). slice_get w.nodes (node_place plan a) ≡ Some u) h.same (read-is plan v old a f r i u h)
 
 -- ---- what is handed out

@@ -1,6 +1,7 @@
 pub mod Counting
 pub mod Events
 pub mod Handing
+pub mod Lending
 pub mod Opening
 pub mod Parts
 pub mod Slots

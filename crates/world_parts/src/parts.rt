@@ -23,6 +23,7 @@ use std::marker::Model;
 mod clients;
 mod dispatch;
 mod handing;
+mod lending;
 mod links;
 mod node_steps;
 mod nodes;

@@ -23,6 +23,8 @@ use node_core::packets::{Mail, Packet};
 use std::alloc::Global;
 use std::marker::Model;
 
+mod lending;
+
 /// The most buckets that are milled at once.
 pub const MOST_MILLED: u64 = 16;
 

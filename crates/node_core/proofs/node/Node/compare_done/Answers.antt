@@ -13,9 +13,9 @@ returns-then-is_stale-clause-stale c =
     let here : Point = c.needed_when_done-needed.result in
     let same = same-stale at here had needed e in
     subst (λ (n : Point). WasStaleInNumbers o v v had n) same.1
-    (subst (λ (h : Point). WasStaleInNumbers o v v h here) same.0 (was-stale-in-numbers v o at here c.needed_when_done-needed.ensures (sym (c.if-is_stale.ensures {u = tt})) c.point_in_numbers-had.ensures))
+    (subst (λ (h : Point). WasStaleInNumbers o v v h here) same.0 (was-stale-in-numbers v o at here c.needed_when_done-needed.ensures.needed (sym (c.if-is_stale.ensures {u = tt})) c.point_in_numbers-had.ensures))
 
 pub returns-clause-ok : goal.returns-clause-ok
 returns-clause-ok c =
     λ home p h fit known.
-    stands-there home p c.args.done.now.order c.point_in_numbers-had.result c.needed_when_done-needed.result c.needed_when_done-needed.ensures (sym (c.if-is_stale.ensures {u = tt})) (c.point_in_numbers-had.ensures home p h known)
+    stands-there home p c.args.done.now.order c.point_in_numbers-had.result c.needed_when_done-needed.result c.needed_when_done-needed.ensures.needed (sym (c.if-is_stale.ensures {u = tt})) (c.point_in_numbers-had.ensures home p h known)

@@ -12,8 +12,8 @@ returns-then-cursor c = λ home p h known.
     let ready = c.ready-ready.result in
     let had : Point = record { up = true; inc = c.inc.result; cursor = cursor; ready = ready; fits = nat_le count ready } in
     beside-in-numbers home c.args.self.now p c.args.done.now.order had h known refl (c.inc.ensures ∙ ap (λ (v : NodeValue). v.links.known.grants.inc) c.self.view_is) c.cursor-cursor.ensures (c.ready-ready.ensures home p h) (
-      λ e. (sym c.cursor.ensures ∙ c.if-cursor.true, subst (λ (k : ℕ). k ≤ ready) c.count.ensures (le-of count ready e)),
-      λ there. le-test count ready (subst (λ (k : ℕ). k ≤ ready) (sym c.count.ensures) there.1),
+      λ e. (sym c.cursor.ensures ∙ c.if-cursor.true, subst (λ (k : ℕ). k ≤ ready) c.count.ensures.many (le-of count ready e)),
+      λ there. le-test count ready (subst (λ (k : ℕ). k ≤ ready) (sym c.count.ensures.many) there.1),
     )
 
 pub returns-else-cursor : goal.returns-else-cursor
