@@ -107,7 +107,7 @@ run_sends = search (world-sends, sendable, crosses) depth 60 fits 20000
 -- and what has it with a book, whatever names both
 module _ (N : RattleType) (r : names.Ghosts N.Denot) (l : ledger.Ghosts N.Denot) where
   hall_fields : AllSend (shape (Hall.TheInside.the_type N r l)).fields
-  hall_fields = (run_sends, (book.the_send N l, (search sendable depth 40, (search sendable depth 20, (search sendable depth 20, tt)))))
+  hall_fields = (run_sends, (book.the_send N l, (search sendable depth 40, (search sendable depth 20, tt))))
 
   hall_plain : IsSend (Struct (shape (Hall.TheInside.the_type N r l)))
   hall_plain = struct_send (shape (Hall.TheInside.the_type N r l)) hall_fields

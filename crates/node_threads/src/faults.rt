@@ -2,22 +2,17 @@
 ghost use Rattle.std.specs.Prelude.{◌≡◌};
 ghost use Rattle.node_threads.specs.declared.faults.LiveFault.TheVariants as live_fault;
 
+use crate::stop::Stop;
 use dpc_lists::faults::NoMemory;
-use dpc_lists::lists::Listed;
-use dpc_model::messages::Event;
 use std::alloc::{AllocError, AllocFailed};
+use world_core::world::World;
 
 /// Why a run by several threads has no end.
 #[derive(Drop)]
 pub enum LiveFault {
     NoMemory,
-    /// The event would make more envelopes, or items in them, than a run may have: so many, behind this journal.
-    TooLong {
-        journal: Listed<Event>,
-        event: Event,
-        envelopes: u64,
-        items: u64,
-    },
+    /// An event would make more envelopes, or items in them, than a run may have, behind the journal of this world.
+    TooLong(World, Stop),
 }
 
 impl From<NoMemory> for LiveFault {

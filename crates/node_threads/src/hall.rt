@@ -2,7 +2,7 @@
 ghost use Rattle.std.specs.Prelude.{◌≡◌, ◌↔◌, ℕ, ◌+◌, ◌≤◌, true, false, [], length, Ok, Err, Some, None, IfOk, OnOk, IfErr, OnErr, IsNone, IfSome};
 ghost use Rattle.dpc_model.specs.declared.messages.Event.TheVariants as event;
 ghost use Rattle.node_core.specs.declared.faults.Point.{Point};
-ghost use Rattle.world_model.specs.Worlds.{ready_at};
+ghost use Rattle.world_model.specs.Worlds.{ready_at, excess};
 ghost use Rattle.world_model.specs.Schedules.{may, is_live_so_far, is_live};
 ghost use Rattle.law_fit.specs.Fits.{CanRun};
 ghost use Rattle.world_core.specs.Runs.{world_of};
@@ -11,6 +11,8 @@ ghost use Rattle.world_core.specs.declared.faults.ApplyFault.TheVariants as appl
 ghost use Rattle.world_core.specs.declared.faults.CommitFault.TheVariants as commit_fault;
 ghost use Rattle.live_run.specs.Lives.{IsLost, world_in, with_event};
 ghost use Rattle.node_threads.specs.Halls.{HallOf, StopFits, GrowTogether, counted_one};
+ghost use Rattle.node_threads.specs.Lives.{IsStopped};
+ghost use Rattle.node_threads.specs.declared.stop.Stop as stops;
 
 use crate::stop::Stop;
 use dpc_lists::faults::NoMemory;
@@ -35,9 +37,8 @@ pub struct Hall<N: RunName> {
     pub(crate) run: LiveRun,
     book: Book<N>,
     stop: Option<Stop>,
-    /// How many workers did their work of the phase, and whether the run was seen at its end: they say who looks when.
-    pub(crate) resting: u64,
-    pub(crate) over: bool,
+    /// A worker wanted memory for work that was not put back.
+    pub(crate) wanting: bool,
 }
 
 impl<N: RunName> Model for Hall<N> {
@@ -89,8 +90,7 @@ impl<N: RunName> Hall<N> {
             run,
             book,
             stop: None,
-            resting: 0,
-            over: false,
+            wanting: false,
         };
         Ok((hall, Share::whole(token, 64)))
     }
@@ -249,6 +249,9 @@ impl<N: RunName> Hall<N> {
         ensures plan { result.plan ≡ N.script.plan }
         ensures events { result.events ≡ self.run.events }
         ensures spent { self.run.spent ≡ false → result.spent ≡ false }
+        ensures live { is_live_so_far N.script result.events ≡ true }
+        ensures within { self.run.spent ≡ false → excess N.script.plan result.events ≡ None }
+        ensures stopped { (s : stops.Stop) → self.stop ≡ Some s → IsStopped N.script result s }
     {
         let Hall { run, .. } = self;
         run.into_world()

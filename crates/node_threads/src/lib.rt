@@ -6,5 +6,6 @@ pub mod hall;
 pub mod hand;
 pub mod live;
 mod looking;
+pub mod signals;
 pub mod stop;
 pub mod worker;

@@ -1,6 +1,5 @@
 //! What a worker finds to do under the lock.
 ghost use Rattle.std.specs.Prelude.{◌≡◌, false};
-ghost use Rattle.node_threads.specs.Halls.{GrowTogether};
 
 use crate::hall::Hall;
 use dpc_lists::faults::NoMemory;
@@ -16,9 +15,9 @@ use world_core::faults::ApplyFault;
 /// What a worker is to do.
 #[derive(Clone, Copy, PartialEq, Eq)]
 pub(crate) enum Look {
-    /// The run is at its end.
+    /// The run is at its end, or does not go on.
     Over,
-    /// Others have work, and this worker has none.
+    /// Nothing now.
     Wait,
     /// An event that is the first worker's: of a directive, or of the next phase.
     Lead(Event),
@@ -26,12 +25,20 @@ pub(crate) enum Look {
     Share(u64),
 }
 
-/// Which worker of how many looks, and of which phase it took its work last.
+/// Which worker of how many looks, of which phase it took its work last, and how many phases it opened to the others.
 #[derive(Clone, Copy)]
 pub(crate) struct Seat {
     pub worker: u64,
     pub workers: u64,
     pub taken: u64,
+    pub opened: u64,
+}
+
+impl Seat {
+    /// Whether all workers did their work of each phase that was opened to them, where they did it so often in all.
+    pub fn all_rested(self, rested: u64) -> bool {
+        rested >= self.opened.saturating_mul(self.workers)
+    }
 }
 
 /// What a worker's actors have to do in a phase: nodes that have ready buckets, and then events in order.
@@ -69,20 +76,18 @@ impl Work {
 
 impl<N: RunName> Hall<N> {
     /// What a worker may do next. The work of a phase is put down once. The first worker makes the events of
-    /// directives and phases, and looks for the end where all rest.
-    pub(crate) fn look(&mut self, seat: Seat, work: &mut Work) -> Result<Look, ApplyFault>
-        ensures { self.new ≡ self.old }
-    {
+    /// directives and phases; it comes here where all others rest.
+    pub(crate) fn look(&self, seat: Seat, work: &mut Work) -> Result<Look, ApplyFault> {
         if self.run.is_spent() {
             return Err(ApplyFault::Spent);
+        }
+        if self.wanting {
+            return Ok(Look::Over);
         }
         let phase = self.run.phase();
         if self.run.is_free() && phase != seat.taken {
             work.put_down(&self.run, seat)?;
             return Ok(Look::Share(phase));
-        }
-        if self.over {
-            return Ok(Look::Over);
         }
         if seat.worker != 0 {
             return Ok(Look::Wait);
@@ -90,11 +95,7 @@ impl<N: RunName> Hall<N> {
         if let Some(e) = self.run.next_directive()? {
             return Ok(Look::Lead(e));
         }
-        if phase > 0 && self.resting < seat.workers {
-            return Ok(Look::Wait);
-        }
-        self.over = self.run.is_complete();
-        Ok(if self.over {
+        Ok(if self.run.is_complete() {
             Look::Over
         } else {
             Look::Lead(Event::Phase(phase.saturating_add(1)))
@@ -116,34 +117,13 @@ impl<N: RunName> Hall<N> {
         Ok(())
     }
 
-    /// Tries the event of a directive or of a phase. With a phase all workers have work again.
-    pub(crate) fn lead(
-        &mut self,
-        alloc: Global,
-        e: Event,
-        share: &mut Share<N>,
-    ) -> Result<bool, ApplyFault>
-        ensures { share.new.parts ≡ share.old.parts }
-    {
-        let told = self.event(alloc, e, share)?;
-        if told {
-            self.resting = 0;
-        }
-        Ok(told)
+    /// Memory was wanting for work: the run does not go on.
+    pub(crate) fn give_up(&mut self) {
+        self.wanting = true;
     }
 
-    /// A worker has done its work of the phase.
-    pub(crate) fn rest(&mut self)
-        ensures { self.new ≡ self.old }
-    {
-        self.resting = self.resting.saturating_add(1);
-    }
-
-    /// A single worker takes over: what the others left is done anew.
-    pub(crate) fn begin_anew(&mut self)
-        ensures { self.new ≡ self.old }
-    {
-        self.resting = 0;
-        self.over = false;
+    /// Whether it does not go on.
+    pub(crate) fn gave_up(&self) -> bool {
+        self.wanting
     }
 }

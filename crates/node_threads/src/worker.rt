@@ -4,6 +4,7 @@ ghost use Rattle.std.specs.Prelude.{◌≡◌, ◌<◌};
 use crate::hall::Hall;
 use crate::hand::Hand;
 use crate::looking::{Look, Seat, Work};
+use crate::signals::Signals;
 use dpc_edge::gate::Gate;
 use dpc_lists::steps::Steps;
 use dpc_model::messages::Event;
@@ -33,6 +34,7 @@ const AT_ONCE: usize = 64;
 pub struct Post<'a, N: RunName, G> {
     pub alloc: Global,
     pub hall: &'a Mutex<Hall<N>>,
+    pub signals: &'a Signals,
     pub gate: &'a G,
     pub worker: u64,
     pub workers: u64,
@@ -72,7 +74,7 @@ fn lead<N: RunName, R: Wait, G: Gate>(
     ensures { share.new.parts ≡ share.old.parts }
 {
     post.gate.at_event(first_actor(e));
-    let told = post.hall.lock(rt).lead(post.alloc, e, share);
+    let told = post.hall.lock(rt).event(post.alloc, e, share);
     match told {
         Ok(true) => Turn::Done,
         Ok(false) => Turn::Idle,
@@ -99,6 +101,12 @@ fn try_some<N: RunName, R: Wait, G: Gate>(
     }
 }
 
+/// Memory was wanting for work: nobody goes on.
+fn give_up<N: RunName, R: Wait, G>(rt: &R, post: &Post<'_, N, G>) -> Turn {
+    post.hall.lock(rt).give_up();
+    Turn::Over
+}
+
 /// Takes an order of a node, does it outside the lock, and tries to put it back.
 fn try_mill<N: RunName, R: Wait, G: Gate, S: Ledger>(
     rt: &R,
@@ -111,14 +119,14 @@ fn try_mill<N: RunName, R: Wait, G: Gate, S: Ledger>(
 {
     let order = post.hall.lock(rt).order(post.alloc, node);
     let Ok(order) = order else {
-        return Turn::Over;
+        return give_up(rt, post);
     };
     let Some(order) = order else {
         return Turn::Idle;
     };
     post.gate.at_mill(node);
     let Ok(milled) = mill(post.alloc, order, steps) else {
-        return Turn::Over;
+        return give_up(rt, post);
     };
     post.gate.at_event(node);
     let told = post.hall.lock(rt).commit(post.alloc, milled, share);
@@ -169,8 +177,32 @@ fn do_all<N: RunName, R: Wait, G: Gate, S: Ledger>(
             return Turn::Over;
         }
     }
-    post.hall.lock(rt).rest();
     Turn::Done
+}
+
+/// Does its work of a phase that was put down.
+fn share_in<N: RunName, R: Wait, G: Gate, S: Ledger>(
+    rt: &R,
+    post: &Post<'_, N, G>,
+    work: &Work,
+    share: &mut Share<N>,
+    steps: &mut Steps<S>,
+) -> Turn
+    ensures { share.new.parts ≡ share.old.parts }
+{
+    post.signals.begin();
+    let turn = do_all(rt, post, work, share, steps);
+    post.signals.rest();
+    turn
+}
+
+/// Whether there may be something to do: others have work to be taken, or the first worker has all rest.
+fn may_look<N: RunName, G>(post: &Post<'_, N, G>, seat: Seat) -> bool {
+    if seat.worker == 0 {
+        seat.all_rested(post.signals.rested())
+    } else {
+        post.signals.opened() != seat.taken
+    }
 }
 
 /// Looks under the lock for something to do, and does it.
@@ -184,21 +216,32 @@ fn work_once<N: RunName, R: Wait, G: Gate, S: Ledger>(
 ) -> Turn
     ensures { share.new.parts ≡ share.old.parts }
 {
+    if post.signals.has_ended() {
+        return Turn::Over;
+    }
+    if !may_look(post, *seat) {
+        return Turn::Idle;
+    }
     let look = post.hall.lock(rt).look(*seat, work);
     match look {
         Ok(Look::Lead(e)) => lead(rt, post, e, share),
         Ok(Look::Share(phase)) => {
             seat.taken = phase;
-            do_all(rt, post, work, share, steps)
+            if seat.worker == 0 {
+                seat.opened = seat.opened.saturating_add(1);
+                post.signals.open(phase);
+            }
+            share_in(rt, post, work, share, steps)
         }
         Ok(Look::Wait) => Turn::Idle,
-        Ok(Look::Over) | Err(_) => Turn::Over,
+        Ok(Look::Over) => Turn::Over,
+        Err(_) => give_up(rt, post),
     }
 }
 
 /// Lets others run, the longer the less there is to do.
 fn pause(idle: u64) {
-    for _ in 0..idle.min(MOST_YIELDS) {
+    for _ in 0..idle.clamp(1, MOST_YIELDS) {
         thread::yield_now();
     }
 }
@@ -220,18 +263,24 @@ fn work_counted<N: RunName, R: Wait, G: Gate, S: Ledger>(
         worker: post.worker,
         workers: post.workers,
         taken: 0,
+        opened: 0,
     };
     let mut work = Work::new(post.alloc);
     let mut idle: u64 = 0;
     for _ in rt.forever() {
         let turn = work_once(rt, post, &mut seat, &mut work, share, &mut steps);
-        if turn == Turn::Over || idle >= MOST_IDLE {
+        if turn == Turn::Over {
+            post.signals.end();
             return;
         }
-        if turn == Turn::Done {
+        if turn == Turn::Done || post.signals.is_busy() {
             idle = 0;
+        } else if idle >= MOST_IDLE {
+            return;
         } else {
             idle += 1;
+        }
+        if turn == Turn::Idle {
             pause(idle);
         }
     }
