@@ -46,7 +46,7 @@ none-open false all h = refl
 none-open true true h = refl
 none-open true false h = let clash : false ≡ true = h refl in cc
 
-good-run : (s : Script) (events : List Event) → CanRun s.plan → IsChecked s → replay_end s events ≡ Whole → IsGoodRun s events
+pub good-run : (s : Script) (events : List Event) → CanRun s.plan → IsChecked s → replay_end s events ≡ Whole → IsGoodRun s events
 good-run s events can checked is =
     let end = (whole-where s events).0 is in
     record {
@@ -80,7 +80,7 @@ same-run s =
     }
 
 -- what is read can be run
-read-can-run : (text : List ℕ) (s : Script) → read text ≡ Some s → CanRun s.plan
+pub read-can-run : (text : List ℕ) (s : Script) → read text ≡ Some s → CanRun s.plan
 read-can-run text s is = can_run s (reads_have_facts text s is)
 
 pub input-can-run : (input : List ℕ) (s : Script) (events : List Event) → input_of input ≡ Ok (s, events) → CanRun s.plan

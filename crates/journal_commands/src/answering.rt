@@ -94,8 +94,8 @@ fn run_answer(alloc: Global, script: Script, events: &[Event]) -> Result<Outcome
     }
 }
 
-/// The report of a world.
-fn report(alloc: Global, world: &World) -> Result<Vec<u8>, NoMemory>
+/// The report of a world. The only error is want of memory.
+pub fn report(alloc: Global, world: &World) -> Result<Vec<u8>, NoMemory>
     requires live { world.now.spent ≡ false }
     requires run { CanRun world.now.plan }
     ensures { IfOk result (λ text. text.items ≡ report_text (world_of world.now)) }

@@ -5,4 +5,4 @@ mod answering;
 pub mod laws;
 pub mod outcome;
 
-pub use answering::answer;
+pub use answering::{answer, report};

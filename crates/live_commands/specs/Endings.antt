@@ -1,0 +1,97 @@
+-- What a run by several threads comes to, what holds of it, and what is written of it.
+use Rattle.std.specs.Prelude.{◌≡◌, ℕ, ◌^◌, ◌<◌, Bool, true, false, not, ◌&&◌, List, [], ◌∷◌, ◌++◌, length, None, Some, Ok}
+use Rattle.dpc_model.specs.declared.messages.Event.{Event}
+use Rattle.dpc_model.specs.declared.plans.Plan.{Plan}
+use Rattle.dpc_model.specs.declared.scripts.Script.{Script}
+use Rattle.script_rules.specs.declared.reasons.PlanFault.{PlanFault}
+use Rattle.script_rules.specs.Reading.{read, refusal}
+use Rattle.status_lines.specs.Lines.{fault_line, too_long_line}
+use Rattle.world_model.specs.Worlds.{Sums, run, all_settled, excess, WouldReach}
+use Rattle.world_model.specs.Safe.{IsSafe}
+use Rattle.world_model.specs.Schedules.{may, is_live, is_live_so_far}
+use Rattle.report.specs.Text.{report_text}
+use Rattle.journal_text.specs.Journals.{journal_text}
+use Rattle.journal_inputs.specs.Inputs.{input_of}
+use Rattle.journal_commands.specs.Promises.{IsGoodRun}
+use Rattle.live_commands.specs.declared.outcome.Outcome.{Outcome}
+use Rattle.live_commands.specs.declared.outcome.Outcome.TheVariants as outcome
+
+-- the threads made this journal of a script to its end; or this event behind this journal would pass a limit, with these numbers; or the
+-- input is refused
+pub data Ending : Type 0 where
+  Whole : (s : Script) (events : List Event) → Ending
+  Stopped : (s : Script) (events : List Event) (e : Event) (reached : Sums) → Ending
+  Refused : (fault : PlanFault) → Ending
+
+-- ---- what is written
+
+-- the journal with its end, and then the report of its run
+abbrev pub journal_and_report : Plan → List Event → List ℕ
+journal_and_report plan events = journal_text plan events true ++ report_text (run plan events)
+
+-- the journal without its end, whose last entry is the event that would pass a limit
+abbrev pub journal_upto : Plan → List Event → Event → List ℕ
+journal_upto plan events e = journal_text plan (events ++ e ∷ []) false
+
+abbrev pub leaves_open : Script → List Event → Bool
+leaves_open s events = s.settle && not (all_settled (run s.plan events))
+
+-- what code answers
+abbrev pub IsEnding : Ending → Outcome → Type 0
+IsEnding (Whole s events) (outcome.Text text) = (leaves_open s events ≡ false) × (text.items ≡ journal_and_report s.plan events)
+IsEnding (Whole s events) (outcome.Open text) = (leaves_open s events ≡ true) × (text.items ≡ journal_and_report s.plan events)
+IsEnding (Stopped s events e reached) (outcome.TooLong entries line) =
+    (entries.items ≡ journal_upto s.plan events e) × (line.items ≡ too_long_line reached)
+IsEnding (Refused fault) (outcome.Refused line) = line.items ≡ fault_line fault
+IsEnding _ _ = ⊥
+
+-- ---- what holds of it
+
+-- such an event may follow the journal of a run that is live so far, passes no limit and is safe, and would pass a limit, with these numbers
+pub record IsStoppedRun (s : Script) (events : List Event) (e : Event) (reached : Sums) : Type 0 where
+  pub safe : IsSafe s.plan events
+  pub so_far : is_live_so_far s events ≡ true
+  pub within : excess s.plan events ≡ None
+  pub may_come : may s events e ≡ true
+  pub reaches : WouldReach (run s.plan events) e reached.envelopes reached.items
+
+-- the text of a script and behind it the journal as it is printed are an input that is read as both, where the script ends with a line feed:
+-- so a replay of it comes to the same
+abbrev pub IsReadBack : List ℕ → Script → List Event → Type 0
+IsReadBack text s events = (front : List ℕ) → text ≡ front ++ 10 ∷ [] → input_of (text ++ journal_text s.plan events true) ≡ Ok (s, events)
+
+-- which of them an input of a script comes to is up to the threads
+abbrev pub CanEnd : List ℕ → Ending → Type 0
+CanEnd text (Whole s events) = (read text ≡ Some s) × IsGoodRun s events × IsReadBack text s events
+CanEnd text (Stopped s events e reached) = (read text ≡ Some s) × IsStoppedRun s events e reached
+CanEnd text (Refused fault) = refusal text ≡ Some fault
+
+-- ---- the parts of an answer
+
+-- a run of a script came to its end
+pub record HasEnded (s : Script) (events : List Event) : Type 0 where
+  pub live : is_live s events ≡ true
+  pub within : excess s.plan events ≡ None
+  pub short : length events < 2 ^ 62
+
+-- or to an event that would pass a limit
+pub record HasStopped (s : Script) (events : List Event) (e : Event) (reached : Sums) : Type 0 where
+  pub so_far : is_live_so_far s events ≡ true
+  pub within : excess s.plan events ≡ None
+  pub may_come : may s events e ≡ true
+  pub reaches : WouldReach (run s.plan events) e reached.envelopes reached.items
+
+-- what code answers of a run of a script
+abbrev pub EndsSo : Script → Outcome → Type 0
+EndsSo s (outcome.Text text) = (events : List Event) × HasEnded s events × IsEnding (Whole s events) (outcome.Text text)
+EndsSo s (outcome.Open text) = (events : List Event) × HasEnded s events × IsEnding (Whole s events) (outcome.Open text)
+EndsSo s (outcome.TooLong entries line) =
+    (events : List Event) × (e : Event) × (reached : Sums) × HasStopped s events e reached × IsEnding (Stopped s events e reached) (outcome.TooLong entries line)
+EndsSo s (outcome.Refused line) = ⊥
+
+-- what it answers of a world
+abbrev pub IsToldOf : Bool → List ℕ → Outcome → Type 0
+IsToldOf is_open whole (outcome.Text text) = (is_open ≡ false) × (text.items ≡ whole)
+IsToldOf is_open whole (outcome.Open text) = (is_open ≡ true) × (text.items ≡ whole)
+IsToldOf is_open whole (outcome.TooLong entries line) = ⊥
+IsToldOf is_open whole (outcome.Refused line) = ⊥

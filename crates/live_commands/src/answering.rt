@@ -1,0 +1,124 @@
+//! What is to be written of a script that several threads run.
+ghost use Rattle.std.specs.Prelude.{◌≡◌, ◌≤◌, ◌<◌, ◌^◌, ◌&&◌, not, false, length, vec_len, IfOk, OnOk};
+ghost use Rattle.dpc_model.specs.Limits.{most_input};
+ghost use Rattle.dpc_model.specs.declared.scripts.Script as scripts;
+ghost use Rattle.law_fit.specs.Fits.{CanRun};
+ghost use Rattle.world_model.specs.Worlds.{all_settled};
+ghost use Rattle.world_core.specs.Runs.{world_of};
+ghost use Rattle.node_threads.specs.Lives.{IsStopped};
+ghost use Rattle.live_commands.specs.Endings.{Ending, CanEnd, IsEnding, EndsSo, IsToldOf, journal_and_report, journal_upto};
+
+use crate::outcome::Outcome;
+use diagram_reader::faults::ScriptFault;
+use diagram_reader::read_script;
+use dpc_edge::gate::Gate;
+use dpc_lists::faults::NoMemory;
+use dpc_model::messages::Event;
+use dpc_model::scripts::Script;
+use journal_commands::report;
+use journal_text::print_journal;
+use node_threads::faults::LiveFault;
+use node_threads::live::live;
+use node_threads::stop::Stop;
+use status_lines::{fault_line, too_long_line};
+use std::alloc::Global;
+use std::sync::Wait;
+use std::thread::Threads;
+use world_core::world::World;
+
+/// More events than any list of them has.
+const NO_SUCH_LENGTH: usize = 1 << 62;
+
+/// What a run by so many threads of the script in an input of at most 64 MiB comes to. The input is let go before
+/// the run. It may wait, so its promise holds if it returns.
+pub fn answer<R: Threads + Wait + Sync, G: Gate + Sync>(
+    rt: &R,
+    alloc: Global,
+    input: Vec<u8>,
+    workers: u64,
+    gate: &G,
+) -> Result<Outcome, NoMemory>
+    requires long { vec_len input ≤ most_input }
+    requires some { 1 ≤ workers }
+    requires few { workers ≤ 16 }
+    ensures { IfOk result (λ outcome. (ending : Ending) × CanEnd input.items ending × IsEnding ending outcome) }
+{
+    let script = read_script(alloc, input.as_slice());
+    drop(input);
+    match script {
+        Ok(script) => run_answer(rt, alloc, script, workers, gate),
+        Err(why) => match why {
+            ScriptFault::NoMemory => Err(NoMemory),
+            ScriptFault::Refused(fault) => Ok(Outcome::Refused(fault_line(alloc, fault)?)),
+        },
+    }
+}
+
+/// What a run of a script by so many threads comes to.
+fn run_answer<R: Threads + Wait + Sync, G: Gate + Sync>(
+    rt: &R,
+    alloc: Global,
+    script: Script,
+    workers: u64,
+    gate: &G,
+) -> Result<Outcome, NoMemory>
+    requires can { CanRun script.plan }
+    requires some { 1 ≤ workers }
+    requires few { workers ≤ 16 }
+    ensures { IfOk result (EndsSo script) }
+{
+    let settle = script.settle;
+    match live(rt, alloc, script, workers, gate) {
+        Ok(world) => world_answer(alloc, settle, &world),
+        Err(LiveFault::TooLong(world, stop)) => stopped_answer(alloc, &world, stop),
+        Err(LiveFault::NoMemory) => Err(NoMemory),
+    }
+}
+
+/// The journal of a world and its report, and whether a client is left open behind `settle`.
+fn world_answer(alloc: Global, settle: bool, world: &World) -> Result<Outcome, NoMemory>
+    requires live { world.now.spent ≡ false }
+    requires run { CanRun world.now.plan }
+    ensures short { OnOk result (length world.now.events < 2 ^ 62) }
+    ensures told { IfOk result (IsToldOf (settle && not (all_settled (world_of world.now)))
+        (journal_and_report world.now.plan world.now.events)) }
+{
+    if world.journal().len() >= NO_SUCH_LENGTH {
+        return Err(NoMemory);
+    }
+    let text = whole_text(alloc, world)?;
+    if settle && !world.settled() {
+        Ok(Outcome::Open(text))
+    } else {
+        Ok(Outcome::Text(text))
+    }
+}
+
+/// The journal of a world, and its report.
+fn whole_text(alloc: Global, world: &World) -> Result<Vec<u8>, NoMemory>
+    requires live { world.now.spent ≡ false }
+    requires run { CanRun world.now.plan }
+    ensures { IfOk result (λ text. text.items ≡ journal_and_report world.now.plan world.now.events) }
+{
+    let mut text = print_journal(alloc, world.plan(), world.journal(), true)?;
+    text.append(&mut report(alloc, world)?)?;
+    Ok(text)
+}
+
+/// The journal of a world up to an event that would pass a limit, and the line that says so.
+fn stopped_answer(alloc: Global, world: &World, stop: Stop) -> Result<Outcome, NoMemory>
+    ensures { IfOk result (λ outcome. (script : scripts.Script) → IsStopped script world.now stop → EndsSo script outcome) }
+{
+    let entries = entries_upto(alloc, world, stop.event)?;
+    let line = too_long_line(alloc, stop.envelopes, stop.items)?;
+    Ok(Outcome::TooLong { entries, line })
+}
+
+/// The journal of a world and an event behind it, without its end.
+fn entries_upto(alloc: Global, world: &World, last: Event) -> Result<Vec<u8>, NoMemory>
+    ensures { IfOk result (λ text. text.items ≡ journal_upto world.now.plan world.now.events last) }
+{
+    let mut events = world.journal().to_vec(alloc)?;
+    events.push(last)?;
+    print_journal(alloc, world.plan(), events.as_slice(), false)
+}
