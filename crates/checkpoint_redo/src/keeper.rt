@@ -190,7 +190,7 @@ impl<M: Engine + Drop> Keeper<M> {
     }
 
     /// Whether the state before the tentative buckets is this one. What an unspent engine is made of, and what it
-    /// took, determines its state. It wants memory exactly where the engine is lent: nothing can be compared then.
+    /// took, determines its state. It wants memory where the engine is lent: nothing can be compared then.
     pub fn same(&self, state: &M) -> Result<bool, NoMemory>
         ensures same { IfOk result (λ told. IsTrue told ↔ (at_cursor self.now.keeper ≡ state.now)) }
         ensures determined { IfOk result (λ told. (xs : List Tagged) (k : ℕ)
