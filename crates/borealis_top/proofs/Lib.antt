@@ -4,3 +4,5 @@ pub mod Ended
 pub mod Journaled
 pub mod Commands
 pub mod Ideals
+pub mod Lived
+pub mod Words

@@ -53,7 +53,18 @@ two_words w v =
     else (if bytes_eq w (codes "run") then option_map (λ form. Read (Run form)) (form_word v)
     else None)
 
--- the command that the words are
+-- how many workers run a script: 1 to 16
+abbrev pub workers_of : List ℕ → Option ℕ
+workers_of w = if is_numeral w && nat_le 1 (number w) && nat_le (number w) 16 then Some (number w) else None
+
+-- that number, where the words ask for a run by several threads
+abbrev pub live_of : List (List ℕ) → Option ℕ
+live_of [] = None
+live_of (w ∷ []) = None
+live_of (w ∷ v ∷ []) = if bytes_eq w (codes "live") then workers_of v else None
+live_of (w ∷ v ∷ u ∷ words) = None
+
+-- the command that the words are, of those that wait for nobody
 abbrev pub command_of : List (List ℕ) → Option Command
 command_of [] = None
 command_of (w ∷ []) = command_word w

@@ -177,10 +177,14 @@ IsAnswer reading s (answer.TooLong line) = (sums : Sums) × (excess_of reading s
 abbrev pub IsToldAlong : Edge → Edge → List ℕ → Status → Type 0
 IsToldAlong out out_new text result = IsTold out out_new text Done result ⊎ ((result ≡ NoMemory) × TookSome out out_new text)
 
--- a text and then the line on clients that are not settled were to be written: both were, or one of the sinks failed
+-- a text and then a line on what is wrong were to be written, with a status: both were, or one of the sinks failed
+abbrev pub IsToldBoth : Edge → Edge → Edge → Edge → List ℕ → List ℕ → Status → Status → Type 0
+IsToldBoth out out_new err err_new text line status result =
+    (Took out out_new text × IsTold err err_new line status result) ⊎ ((result ≡ WriteFault) × TookPart out out_new text × (err_new ≡ err))
+
+-- so were a text and the line on clients that are not settled
 abbrev pub IsToldOpen : Edge → Edge → Edge → Edge → List ℕ → Status → Type 0
-IsToldOpen out out_new err err_new text result =
-    (Took out out_new text × IsTold err err_new not_settled_line NotSettled result) ⊎ ((result ≡ WriteFault) × TookPart out out_new text × (err_new ≡ err))
+IsToldOpen out out_new err err_new text result = IsToldBoth out out_new err err_new text not_settled_line NotSettled result
 
 -- ---- a generated script
 

@@ -4,4 +4,5 @@ pub mod Texts
 pub mod Transfers
 pub mod Ends
 pub mod JournalEnds
+pub mod LiveEnds
 pub mod Programs

@@ -7,10 +7,11 @@ use Rattle.borealis_top.specs.declared.command.Command.TheVariants.{Read, Journa
 use Rattle.borealis_top.specs.declared.status.Status.{Status}
 use Rattle.borealis_top.specs.declared.status.Status.TheVariants.{Done, Words, NoMemory}
 use Rattle.borealis_top.specs.Codes.{code_of}
-use Rattle.borealis_top.specs.Commands.{command_of}
+use Rattle.borealis_top.specs.Commands.{command_of, live_of}
 use Rattle.borealis_top.specs.Texts.{help_text, version_text, unknown_words_line}
 use Rattle.borealis_top.specs.Ends.{IsTold, ReadEnds, ReadIsWhole, GenEnds}
 use Rattle.borealis_top.specs.JournalEnds.{JournalEnds, JournalIsWhole}
+use Rattle.borealis_top.specs.LiveEnds.{LiveEnds, LiveIsWhole}
 
 -- how a command ends, or words that are none
 abbrev pub CommandEnds : Option Command → Edge → Edge → Edge → Edge → Edge → Edge → Status → Type 0
@@ -29,6 +30,12 @@ CommandEnds (Some (Journal what)) input input_new out out_new err err_new result
 CommandEnds (Some (Gen seed)) input input_new out out_new err err_new result =
     GenEnds seed out out_new result × (err_new ≡ err) × (input_new ≡ input)
 
+-- how what the words say ends: a run by so many threads, or a command that waits for nobody
+abbrev pub WordsEnd : Option ℕ → Option Command → Edge → Edge → Edge → Edge → Edge → Edge → Status → Type 0
+WordsEnd (Some workers) command input input_new out out_new err err_new result =
+    LiveEnds input input_new out out_new err err_new result × LiveIsWhole input input_new out out_new err err_new result
+WordsEnd None command input input_new out out_new err err_new result = CommandEnds command input input_new out out_new err err_new result
+
 -- nothing was touched, for want of memory
 abbrev pub IsUntouched : Edge → Edge → Edge → Edge → Edge → Edge → Status → Type 0
 IsUntouched input input_new out out_new err err_new result = (result ≡ NoMemory) × (input_new ≡ input) × (out_new ≡ out) × (err_new ≡ err)
@@ -38,7 +45,8 @@ pub record ProgramEnds (input input_new out out_new err err_new : Edge) (exit : 
   pub words : List (List ℕ)
   pub status : Status
   pub code : exit ≡ code_of status
-  pub ends : CommandEnds (command_of words) input input_new out out_new err err_new status ⊎ IsUntouched input input_new out out_new err err_new status
+  pub ends : WordsEnd (live_of words) (command_of words) input input_new out out_new err err_new status
+      ⊎ IsUntouched input input_new out out_new err err_new status
 
 -- a standard stream: it tells no bytes, and so many of its calls failed
 abbrev pub stream : ℕ → Edge

@@ -17,6 +17,7 @@ help_text =
     ∷ codes "borealis ideal < SCRIPT      writes the failure-free stream of each client"
     ∷ codes "borealis replay < BOTH       runs the journal behind a script, and writes what each client received"
     ∷ codes "borealis upgrade < BOTH      writes a script, and the journal behind it if there is one, in the newest form"
+    ∷ codes "borealis live N < SCRIPT     runs a script by N threads, 1 to 16, and writes the journal and what each client received"
     ∷ codes "borealis gen N               writes the generated script of a number, 1 to 1000"
     ∷ codes "borealis reasons             writes the reasons to refuse a line, each with its number"
     ∷ codes "borealis --help              writes these lines"

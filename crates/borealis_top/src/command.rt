@@ -1,6 +1,6 @@
 //! What the words of the command line ask for.
 ghost use Rattle.std.specs.Prelude.{◌≡◌, map, string_bytes, bytes_eq};
-ghost use Rattle.borealis_top.specs.Commands.{reading_word, journal_word, input_word, form_word, seed_of, command_word, two_words, command_of};
+ghost use Rattle.borealis_top.specs.Commands.{reading_word, journal_word, input_word, form_word, seed_of, command_word, two_words, command_of, workers_of, live_of};
 
 use journal_commands::outcome::JournalCommand;
 use script_words::spelling::number;
@@ -48,6 +48,9 @@ pub enum Command {
 
 /// The greatest number of a generated script.
 const MOST_SEED: u64 = 1000;
+
+/// The most workers that run a script.
+const MOST_WORKERS: u64 = 16;
 
 /// Whether an argument is this word.
 fn is_word(argument: &String, word: &[u8]) -> bool
@@ -144,7 +147,30 @@ fn seed_in(word: &String) -> Option<u64>
     number(word.as_bytes()).filter(|n| 1 <= *n && *n <= MOST_SEED)
 }
 
-/// The command that the words are.
+/// How many workers run a script.
+fn workers_of(word: &String) -> Option<u64>
+    ensures { result ≡ workers_of (string_bytes word.now) }
+{
+    number(word.as_bytes()).filter(|n| 1 <= *n && *n <= MOST_WORKERS)
+}
+
+/// How many workers run a script, where the words ask for a run by several threads: 1 to 16.
+pub fn workers_in(words: &[String]) -> Option<u64>
+    ensures { result ≡ live_of (map string_bytes words.now) }
+{
+    match words {
+        [first, second] => {
+            if is_word(first, b"live") {
+                workers_of(second)
+            } else {
+                None
+            }
+        }
+        _ => None,
+    }
+}
+
+/// The command that the words are, of those that wait for nobody.
 pub fn command_in(words: &[String]) -> Option<Command>
     ensures { result ≡ command_of (map string_bytes words.now) }
 {

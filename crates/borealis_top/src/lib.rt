@@ -4,7 +4,9 @@
 mod answer;
 mod command;
 mod journal;
+mod live;
 pub mod plain;
 pub mod program;
 pub mod status;
 mod transfer;
+pub mod whole;

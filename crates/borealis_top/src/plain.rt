@@ -1,4 +1,4 @@
-//! The commands that wait for nobody.
+//! The commands that wait for nobody, which are all but `live`.
 ghost use Rattle.std.specs.Prelude.{◌≡◌, ◌⊎◌, ℕ, IfOk, Some, None, map, string_bytes};
 ghost use Rattle.dpc_edge.specs.Edges.{Stays};
 ghost use Rattle.dpc_model.specs.ScriptText.{script_text};
@@ -11,7 +11,7 @@ ghost use Rattle.status_lines.specs.Lines as lines;
 ghost use Rattle.borealis_top.specs.Commands.{command_of};
 ghost use Rattle.borealis_top.specs.JournalEnds.{JournalEnds, JournalIsWhole};
 ghost use Rattle.borealis_top.specs.Texts.{help_text, version_text, unknown_words_line};
-ghost use Rattle.borealis_top.specs.Ends.{IsTold, IsToldOpen, IsToldAlong, ReadEnds, ReadIsWhole, GenEnds};
+ghost use Rattle.borealis_top.specs.Ends.{IsTold, IsToldBoth, IsToldOpen, IsToldAlong, ReadEnds, ReadIsWhole, GenEnds};
 ghost use Rattle.borealis_top.specs.declared.command.Reading as reading;
 
 use crate::answer::{Answer, answer_script};
@@ -44,6 +44,7 @@ borealis print < SCRIPT      writes a script in canonical form
 borealis ideal < SCRIPT      writes the failure-free stream of each client
 borealis replay < BOTH       runs the journal behind a script, and writes what each client received
 borealis upgrade < BOTH      writes a script, and the journal behind it if there is one, in the newest form
+borealis live N < SCRIPT     runs a script by N threads, 1 to 16, and writes the journal and what each client received
 borealis gen N               writes the generated script of a number, 1 to 1000
 borealis reasons             writes the reasons to refuse a line, each with its number
 borealis --help              writes these lines
@@ -204,8 +205,21 @@ fn read<S: Source, O: Sink, E: Sink>(
 pub(crate) fn told_open<O: Sink, E: Sink>(out: &mut O, err: &mut E, text: &[u8]) -> Status
     ensures { IsToldOpen (O.edge out.old) (O.edge out.new) (E.edge err.old) (E.edge err.new) text.now result }
 {
+    told_both(out, err, text, NOT_SETTLED, Status::NotSettled)
+}
+
+/// Writes a text, and then a line on what is wrong: the status is this one, or that of a failed write.
+pub(crate) fn told_both<O: Sink, E: Sink>(
+    out: &mut O,
+    err: &mut E,
+    text: &[u8],
+    line: &[u8],
+    status: Status,
+) -> Status
+    ensures { IsToldBoth (O.edge out.old) (O.edge out.new) (E.edge err.old) (E.edge err.new) text.now line.now status result }
+{
     match write_whole(out, text) {
-        Ok(()) => told(err, NOT_SETTLED, Status::NotSettled),
+        Ok(()) => told(err, line, status),
         Err(_) => Status::WriteFault,
     }
 }

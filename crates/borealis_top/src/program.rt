@@ -2,9 +2,10 @@
 ghost use Rattle.std.specs.Process.{exit_status};
 ghost use Rattle.borealis_top.specs.Programs.{ProgramEnds, StreamsEnd};
 
-use crate::plain::plain;
 use crate::status::Status;
+use crate::whole::borealis;
 use dpc_edge::counted::Counted;
+use dpc_edge::gate::OpenGate;
 use dpc_edge::sink::Sink;
 use dpc_edge::source::Source;
 use dpc_lists::faults::NoMemory;
@@ -12,9 +13,11 @@ use std::alloc::AllocGlobal;
 use std::env::{self, Env};
 use std::io::{ErrorKind, Stderr, Stdin, Stdout};
 use std::process::ExitCode;
+use std::sync::Wait;
+use std::thread::Threads;
 
 /// The program over the standard streams.
-pub fn over_streams<R: Env + AllocGlobal>(
+pub fn over_streams<R: Env + AllocGlobal + Threads + Wait + Sync>(
     rt: &R,
     input: Stdin,
     out: Stdout,
@@ -29,7 +32,7 @@ pub fn over_streams<R: Env + AllocGlobal>(
 }
 
 /// Does what the words of the process say, and answers the exit status of how that ended.
-pub fn over<R: Env + AllocGlobal, S: Source, O: Sink, E: Sink>(
+pub fn over<R: Env + AllocGlobal + Threads + Wait + Sync, S: Source, O: Sink, E: Sink>(
     rt: &R,
     input: &mut S,
     out: &mut O,
@@ -39,7 +42,10 @@ pub fn over<R: Env + AllocGlobal, S: Source, O: Sink, E: Sink>(
         (E.edge err.new) (exit_status result) }
 {
     let status = match words(rt) {
-        Ok(words) => plain(rt.alloc(), words.as_slice(), input, out, err),
+        Ok(words) => {
+            let words = words.as_slice();
+            borealis(rt, rt.alloc(), words, input, out, err, &OpenGate)
+        }
         Err(NoMemory) => Status::NoMemory,
     };
     status.exit()

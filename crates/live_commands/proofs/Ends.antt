@@ -41,7 +41,7 @@ ended text s events is h =
 stopped : (text : List ℕ) (s : Script) (events : List Event) (e : Event) (reached : Sums) → read text ≡ Some s → HasStopped s events e reached → CanEnd text (Stopped s events e reached)
 stopped text s events e reached is h = (
   is,
-  record { safe = run-safe s.plan events (read-can-run text s is).checked; so_far = h.so_far; within = h.within; may_come = h.may_come; reaches = h.reaches },
+  record { safe = run-safe s.plan events (read-can-run text s is).checked; stopped = h },
 )
 
 pub can-end : (text : List ℕ) (s : Script) (o : Outcome) → reading text ≡ Ok s → EndsSo s o → (ending : Ending) × CanEnd text ending × IsEnding ending o

@@ -47,13 +47,17 @@ IsEnding _ _ = ⊥
 
 -- ---- what holds of it
 
--- such an event may follow the journal of a run that is live so far, passes no limit and is safe, and would pass a limit, with these numbers
-pub record IsStoppedRun (s : Script) (events : List Event) (e : Event) (reached : Sums) : Type 0 where
-  pub safe : IsSafe s.plan events
+-- such an event may follow the journal of a run that is live so far and passes no limit, and would pass a limit, with these numbers
+pub record HasStopped (s : Script) (events : List Event) (e : Event) (reached : Sums) : Type 0 where
   pub so_far : is_live_so_far s events ≡ true
   pub within : excess s.plan events ≡ None
   pub may_come : may s events e ≡ true
   pub reaches : WouldReach (run s.plan events) e reached.envelopes reached.items
+
+-- and that run is safe
+pub record IsStoppedRun (s : Script) (events : List Event) (e : Event) (reached : Sums) : Type 0 where
+  pub safe : IsSafe s.plan events
+  pub stopped : HasStopped s events e reached
 
 -- the text of a script and behind it the journal as it is printed are an input that is read as both, where the script ends with a line feed:
 -- so a replay of it comes to the same
@@ -73,13 +77,6 @@ pub record HasEnded (s : Script) (events : List Event) : Type 0 where
   pub live : is_live s events ≡ true
   pub within : excess s.plan events ≡ None
   pub short : length events < 2 ^ 62
-
--- or to an event that would pass a limit
-pub record HasStopped (s : Script) (events : List Event) (e : Event) (reached : Sums) : Type 0 where
-  pub so_far : is_live_so_far s events ≡ true
-  pub within : excess s.plan events ≡ None
-  pub may_come : may s events e ≡ true
-  pub reaches : WouldReach (run s.plan events) e reached.envelopes reached.items
 
 -- what code answers of a run of a script
 abbrev pub EndsSo : Script → Outcome → Type 0

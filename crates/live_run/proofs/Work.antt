@@ -17,7 +17,7 @@ left_by (fault.Stale had needed) w v live lost stale = stale had needed refl ∙
     with-spent : w.spent ≡ false → w ≡ record w { spent = false }
     with-spent e = let f : Bool → RunOf = λ b. record w { spent = b } in ap f e
 
-pub same_fault : (x y : CommitFault) → ◌≡◌ {A = Result Bool CommitFault} (Err x) (Err y) → x ≡ y
+pub same_fault : {X : Type 0} (x y : CommitFault) → ◌≡◌ {A = Result X CommitFault} (Err x) (Err y) → x ≡ y
 same_fault x y h = cc
 
 -- what contracts see of it

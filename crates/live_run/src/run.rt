@@ -19,6 +19,7 @@ use world_core::world::World;
 
 mod due;
 mod handing;
+mod lending;
 
 /// A run so far that keeps to its script: each of its events was one that might come next. Where it wants
 /// memory, or an event would pass a limit of runs, it is spent. Contracts see a `LiveRunOf`.

@@ -31,6 +31,8 @@ use std::sync::ledger::{Blank, Book};
 use world_core::faults::{ApplyFault, CommitFault};
 use world_core::world::World;
 
+mod lending;
+
 /// A live run of the script that N names, and the book in which its events are counted. Contracts see a `HallOf`.
 #[derive(Drop)]
 pub struct Hall<N: RunName> {

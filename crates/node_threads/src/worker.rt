@@ -1,5 +1,6 @@
 //! The work of one thread.
 ghost use Rattle.std.specs.Prelude.{◌≡◌, ◌<◌};
+ghost use Rattle.law_work.specs.TrueWork.{IsTrueWork};
 
 use crate::hall::Hall;
 use crate::hand::Hand;
@@ -10,8 +11,9 @@ use dpc_lists::steps::Steps;
 use dpc_model::messages::Event;
 use event_shares::names::RunName;
 use event_shares::share::Share;
+use fragment_mill::mill::FragMill;
 use live_parts::due::Due;
-use mill_work::milling::mill;
+use mill_work::lending::{Done, mill_in_place};
 use std::alloc::Global;
 use std::marker::Brand;
 use std::sync::ledger::{Blank, Ledger};
@@ -107,7 +109,34 @@ fn give_up<N: RunName, R: Wait, G>(rt: &R, post: &Post<'_, N, G>) -> Turn {
     Turn::Over
 }
 
-/// Takes an order of a node, does it outside the lock, and tries to put it back.
+/// Puts work back that was done on a node's own engine, as soon as its event may come.
+fn put_back<N: RunName, R: Wait, G>(
+    rt: &R,
+    post: &Post<'_, N, G>,
+    done: Done<FragMill>,
+    share: &mut Share<N>,
+) -> Turn
+    requires { IsTrueWork N.script.plan done.order }
+    ensures { share.new.parts ≡ share.old.parts }
+{
+    let mut done = done;
+    for _ in rt.forever() {
+        let told = post.hall.lock(rt).put_back(post.alloc, done, share);
+        match told {
+            Ok(None) => return Turn::Done,
+            Ok(Some(back)) => done = back,
+            Err(CommitFault::Stale { .. }) => return Turn::Idle,
+            Err(_) => return Turn::Over,
+        }
+        if post.signals.has_ended() {
+            return Turn::Over;
+        }
+        thread::yield_now();
+    }
+    unreachable!()
+}
+
+/// Takes work of a node with its engine, does it outside the lock, and puts it back.
 fn try_mill<N: RunName, R: Wait, G: Gate, S: Ledger>(
     rt: &R,
     post: &Post<'_, N, G>,
@@ -117,7 +146,7 @@ fn try_mill<N: RunName, R: Wait, G: Gate, S: Ledger>(
 ) -> Turn
     ensures { share.new.parts ≡ share.old.parts }
 {
-    let order = post.hall.lock(rt).order(post.alloc, node);
+    let order = post.hall.lock(rt).lend(post.alloc, node);
     let Ok(order) = order else {
         return give_up(rt, post);
     };
@@ -125,16 +154,11 @@ fn try_mill<N: RunName, R: Wait, G: Gate, S: Ledger>(
         return Turn::Idle;
     };
     post.gate.at_mill(node);
-    let Ok(milled) = mill(post.alloc, order, steps) else {
+    let Ok(done) = mill_in_place(post.alloc, order, steps) else {
         return give_up(rt, post);
     };
     post.gate.at_event(node);
-    let told = post.hall.lock(rt).commit(post.alloc, milled, share);
-    match told {
-        Ok(true) => Turn::Done,
-        Ok(false) | Err(CommitFault::Stale { .. }) => Turn::Idle,
-        Err(_) => Turn::Over,
-    }
+    put_back(rt, post, done, share)
 }
 
 /// Mills what is ready at some nodes.

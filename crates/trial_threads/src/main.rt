@@ -1,10 +1,12 @@
-//! What no clause says of a run by several threads: that two workers are at work at the same time. Writes a line on runs
-//! by two workers, and one on a run by a single one, which can't be so.
+//! What no clause says of a run by several threads: that two workers are at work at the same time, and what work is
+//! whose node crashed meanwhile. Writes a line on each.
 #![tactic(auto)]
 
 mod meeting;
+mod stale;
 
 use crate::meeting::{Meetings, meet_often};
+use crate::stale::crashed_meanwhile;
 use std::process::ExitCode;
 
 /// How often the two nodes have to meet.
@@ -22,9 +24,16 @@ fn met(told: Meetings) -> &'static str {
 fn main(rt: HostRuntime) -> ExitCode {
     let two = meet_often(&rt, rt.alloc(), 2, ROUNDS);
     let one = meet_often(&rt, rt.alloc(), 1, 1);
+    let stale = crashed_meanwhile(rt.alloc());
+    let stale = match stale {
+        Some(true) => "its node is up",
+        Some(false) => "stale, its node is down",
+        None => "no work, or not stale",
+    };
     let first = println!(rt; "two workers, two nodes: {}", met(two));
     let second = println!(rt; "one worker, two nodes: {}", met(one));
-    if first.is_ok() && second.is_ok() {
+    let third = println!(rt; "work whose node crashed: {stale}");
+    if first.is_ok() && second.is_ok() && third.is_ok() {
         ExitCode::SUCCESS
     } else {
         ExitCode::FAILURE

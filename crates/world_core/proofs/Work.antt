@@ -123,6 +123,14 @@ long-told why fault envelopes items is told = by-fault why (sym is ∙ same-faul
     by-fault (part_fault.TooLong a b) k = cc
     by-fault (part_fault.Stale a b) k = cc
 
+pub none-told : (why : PartFault) (fault : CommitFault) → fault ≡ fault_of_parts why → ◌≡◌ {A = Result (Unit {0}) CommitFault} (Err fault) (Err commit_fault.NoMemory) → why ≡ part_fault.NoMemory
+none-told why fault is told = by-fault why (sym is ∙ same-fault fault commit_fault.NoMemory told)
+  where
+    by-fault : (why : PartFault) → fault_of_parts why ≡ commit_fault.NoMemory → why ≡ part_fault.NoMemory
+    by-fault part_fault.NoMemory k = cc
+    by-fault (part_fault.TooLong a b) k = cc
+    by-fault (part_fault.Stale a b) k = cc
+
 pub stale-told : (why : PartFault) (fault : CommitFault) (had needed : Point) → fault ≡ fault_of_parts why → ◌≡◌ {A = Result (Unit {0}) CommitFault} (Err fault) (Err (commit_fault.Stale had needed)) → why ≡ part_fault.Stale had needed
 stale-told why fault had needed is told = by-fault why (sym is ∙ same-fault fault (commit_fault.Stale had needed) told)
   where

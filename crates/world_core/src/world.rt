@@ -20,6 +20,7 @@ use world_parts::faults::EventFault;
 use world_parts::parts::WorldParts;
 
 mod handing;
+mod lending;
 mod telling;
 
 /// A run: what stands is what its events make of the opening, one after another. An event that wants

@@ -86,6 +86,14 @@ slot-late o had needed home v x n new is h can =
     same-node : (q : Option PlainNode) (a b : PlainNode) → q ≡ Some a → q ≡ Some b → a ≡ b
     same-node q a b e f = cc
 
+up-unspent : (home : Home) (n : NodeValue) (o : Option PlainNode) → StandsForUp home (Some n) o → n.spent ≡ true → ⊥
+up-unspent home n None h e = h
+up-unspent home n (Some p) h e = let live : n.spent ≡ false = h.1 in cc
+
+-- a node that is up is not spent
+pub slot-unspent : (home : Home) (v : SlotValue) (x : Slot) (n : NodeValue) → v.node ≡ Some n → CanStep home v x → n.spent ≡ true → ⊥
+slot-unspent home v x n is can e = up-unspent home n x.node (subst (λ (o : Option NodeValue). StandsForUp home o x.node) is can.stands.node) e
+
 -- a node that is down stands elsewhere
 pub down-is-stale : (last_inc : ℕ) (needed : Point) → is_stale (down_point last_inc) needed ≡ true
 down-is-stale last_inc needed = or-true (not (last_inc == needed.inc) || not (0 == needed.cursor) || nat_lt 0 needed.ready)

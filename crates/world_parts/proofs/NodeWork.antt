@@ -148,6 +148,15 @@ stale-of-node r why had needed h e = by-fault why (handed-fault r (fault_of_node
     by-fault node_fault.Spent k = cc
     by-fault (node_fault.Stale a b) k = cc
 
+-- memory was wanting only where a node wanted it, or was spent
+pub enough-of-node : (r : Result (Unit {0}) CommitFault) (why : NodeFault) → IsErrAnd r (λ y. y ≡ fault_of_node why) → r ≡ Err commit_fault.NoMemory → (why ≡ node_fault.NoMemory → ⊥) → (why ≡ node_fault.Spent → ⊥) → ⊥
+enough-of-node r why h e never unspent = by-fault why (handed-fault r (fault_of_node why) commit_fault.NoMemory h e) never unspent
+  where
+    by-fault : (why : NodeFault) → fault_of_node why ≡ commit_fault.NoMemory → (why ≡ node_fault.NoMemory → ⊥) → (why ≡ node_fault.Spent → ⊥) → ⊥
+    by-fault node_fault.NoMemory k never unspent = never refl
+    by-fault node_fault.Spent k never unspent = unspent refl
+    by-fault (node_fault.Stale a b) k never unspent = cc
+
 -- a node tells no limit
 pub long-of-node : (r : Result (Unit {0}) CommitFault) (why : NodeFault) (envelopes items : ℕ) → IsErrAnd r (λ y. y ≡ fault_of_node why) → r ≡ Err (commit_fault.TooLong envelopes items) → ⊥
 long-of-node r why envelopes items h e = by-fault why (handed-fault r (fault_of_node why) (commit_fault.TooLong envelopes items) h e)

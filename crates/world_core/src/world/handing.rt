@@ -32,7 +32,7 @@ fn event_of(order: &Order<FragMill>) -> Result<Event, NoMemory>
 }
 
 /// Whether a fault leaves the run spent.
-fn is_loss(fault: CommitFault) -> bool
+pub(crate) fn is_loss(fault: CommitFault) -> bool
     ensures { result ≡ is_loss fault }
 {
     !matches!(fault, CommitFault::Stale { .. })

@@ -60,6 +60,7 @@ impl WorldParts {
         ensures stale { (had needed : Point) → result ≡ Err (fault.Stale had needed)
             → (x : World) (most : ℕ) → IsWorldOf roster.now self.now x most
             → IsLateIn roster.now x done.now.order had needed }
+        ensures enough { result ≡ Err fault.NoMemory → ⊥ }
     {
         let needed = needed_when_done(done);
         let actor = done.node();

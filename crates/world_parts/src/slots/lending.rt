@@ -58,6 +58,8 @@ impl Slot {
         ensures stale { (had needed : Point) → result ≡ Err (fault.Stale had needed)
             → (home : Home) (x : PlainSlot) → CanCompare done.now.order home self.now x
             → IsLateFor done.now.order had needed home x }
+        ensures enough { result ≡ Err fault.NoMemory → ⊥ }
+        ensures unspent { (home : Home) (x : PlainSlot) → CanStep home self.now x → result ≡ Err fault.Spent → ⊥ }
     {
         let Some(node) = self.node.as_ref() else {
             return Err(CommitFault::Stale {

@@ -1,0 +1,7 @@
+use Rattle.std.specs.Prelude.{◌≡◌}
+use Rattle.law_work.specs.TrueWork.{IsTrueWork}
+use Rattle.node_threads.proofs.worker.put_back.Given as goal
+
+abbrev pub invariant-loop : goal.invariant-loop
+invariant-loop g l =
+    (goal.iterator-loop g).can_next l.iterator' × (goal.iterator-loop g).is_finite l.iterator' × (l.share.parts ≡ l.fn.share.parts) × IsTrueWork g.N.RunName.script.plan l.done.order
