@@ -4,7 +4,7 @@
 A load is a chain of fragments, each of a filter and a map, behind two sources, with a client at the last one; in each
 ten phases a link of its first replica is cut and healed. A wide load is that of `run_engine`, with fewer entries. A line
 for each load: entries of the logs, actors, entries of the journal of `live 1`, seconds by the clock of `run short` and of
-`live N`, and the most memory of `run short` and `live 4` in MiB. The best of two.
+`live N`, and the most memory of `run short` and `live 4` in MiB. The best of three.
 """
 import os
 import subprocess

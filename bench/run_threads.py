@@ -12,6 +12,7 @@ import tempfile
 import time
 
 from run_engine import BUILT, chain, deep, wide
+from run_journals import mesh
 
 ROUNDS = 3
 WORKERS = (1, 2, 4)
@@ -41,7 +42,7 @@ def entries(program, script):
 def main():
     """Prints the table."""
     program = sys.argv[1] if len(sys.argv) > 1 else str(BUILT)
-    scripts = {"`gen 7`": None, "a chain of 5 fragments": chain, "joins and windows in 5 fragments, crashes": deep, "wide": wide}
+    scripts = {"`gen 7`": None, "a chain of 5 fragments": chain, "joins and windows in 5 fragments, crashes": deep, "wide": wide, "a full mesh": lambda: mesh(350).splitlines()}
     print("| script | entries | command | clock | processor | MiB | status | of `run` | of `live 1` |")
     print("|---|---|---|---|---|---|---|---|---|")
     with tempfile.TemporaryDirectory() as room:
