@@ -3,6 +3,5 @@ pub mod Runs
 pub mod Ended
 pub mod Journaled
 pub mod Commands
-pub mod Ideals
 pub mod Lived
 pub mod Words

@@ -11,6 +11,7 @@ use Rattle.script_rules.specs.declared.reasons.Reason.TheVariants.{PastLimit}
 use Rattle.script_rules.specs.declared.reasons.PlanFault.{PlanFault}
 use Rattle.script_rules.specs.Reading.{reading, read, refusal}
 use Rattle.status_lines.specs.Lines.{fault_line, not_settled_line, too_long_line}
+use Rattle.input_parts.specs.declared.notation.Notation.{Notation}
 use Rattle.live_commands.specs.Endings.{Ending, Whole, Stopped, CanEnd, journal_and_report, journal_upto}
 use Rattle.live_commands.specs.Endings as live
 use Rattle.borealis_top.specs.declared.status.Status.{Status}
@@ -20,37 +21,37 @@ use Rattle.borealis_top.proofs.Ended.{consumed-all, long-refusal, Stays-same, to
 
 -- ---- by status
 
-pub told-LiveEnds : (input input_new out out_new err err_new : Edge) (result : Status) (ending : Ending) → LiveComesTo input input_new ending →
-    IsLiveTold ending out out_new err err_new result → LiveEnds input input_new out out_new err err_new result
-told-LiveEnds input input_new out out_new err err_new result (Whole s events) c (inl (closed, inl h, same)) = rw (h.0, same) (s, events, c, closed, h.1, Stays-same err)
-told-LiveEnds input input_new out out_new err err_new result (Whole s events) c (inl (closed, inr h, same)) = rw (h.0, same) (inl (s, events, c, h.1, Stays-same err))
-told-LiveEnds input input_new out out_new err err_new result (Whole s events) c (inr (still, inl (took, inl h))) =
+pub told-LiveEnds : (notation : Notation) (input input_new out out_new err err_new : Edge) (result : Status) (ending : Ending) → LiveComesTo input input_new ending →
+    IsLiveTold notation ending out out_new err err_new result → LiveEnds notation input input_new out out_new err err_new result
+told-LiveEnds notation input input_new out out_new err err_new result (Whole s events) c (inl (closed, inl h, same)) = rw (h.0, same) (s, events, c, closed, h.1, Stays-same err)
+told-LiveEnds notation input input_new out out_new err err_new result (Whole s events) c (inl (closed, inr h, same)) = rw (h.0, same) (inl (s, events, c, h.1, Stays-same err))
+told-LiveEnds notation input input_new out out_new err err_new result (Whole s events) c (inr (still, inl (took, inl h))) =
     rw h.0 (s, events, record { comes = c; still = still }, took, h.1)
-told-LiveEnds input input_new out out_new err err_new result (Whole s events) c (inr (still, inl (took, inr h))) =
+told-LiveEnds notation input input_new out out_new err err_new result (Whole s events) c (inr (still, inl (took, inr h))) =
     rw h.0 (inr (inl (s, events, record { comes = c; still = still }, took, h.1)))
-told-LiveEnds input input_new out out_new err err_new result (Whole s events) c (inr (still, inr h)) = rw (h.0, h.2) (inl (s, events, c, h.1, Stays-same err))
-told-LiveEnds input input_new out out_new err err_new result (Stopped s events e sums) c (inl (took, inl h)) = rw h.0 (s, events, e, sums, c, took, h.1)
-told-LiveEnds input input_new out out_new err err_new result (Stopped s events e sums) c (inl (took, inr h)) =
+told-LiveEnds notation input input_new out out_new err err_new result (Whole s events) c (inr (still, inr h)) = rw (h.0, h.2) (inl (s, events, c, h.1, Stays-same err))
+told-LiveEnds notation input input_new out out_new err err_new result (Stopped s events e sums) c (inl (took, inl h)) = rw h.0 (s, events, e, sums, c, took, h.1)
+told-LiveEnds notation input input_new out out_new err err_new result (Stopped s events e sums) c (inl (took, inr h)) =
     rw h.0 (inr (inr (inr (inl (s, events, e, sums, c, took, h.1)))))
-told-LiveEnds input input_new out out_new err err_new result (Stopped s events e sums) c (inr h) =
+told-LiveEnds notation input input_new out out_new err err_new result (Stopped s events e sums) c (inr h) =
     rw (h.0, h.2) (inr (inr (inl (s, events, e, sums, c, h.1, Stays-same err))))
-told-LiveEnds input input_new out out_new err err_new result (live.Refused fault) c (inl h, same) = rw (h.0, same) (fault, c, Stays-same out, h.1)
-told-LiveEnds input input_new out out_new err err_new result (live.Refused fault) c (inr h, same) =
+told-LiveEnds notation input input_new out out_new err err_new result (live.Refused fault) c (inl h, same) = rw (h.0, same) (fault, c, Stays-same out, h.1)
+told-LiveEnds notation input input_new out out_new err err_new result (live.Refused fault) c (inr h, same) =
     rw (h.0, same) (inr (inr (inr (inr (fault, c, Stays-same out, h.1)))))
 
 -- ---- where nothing failed that is written to
 
-told-whole : (out out_new err err_new : Edge) (result : Status) (ending : Ending) → IsLiveTold ending out out_new err err_new result →
-    IsLiveWhole ending out out_new err err_new result
-told-whole out out_new err err_new result (Whole s events) (inl (closed, h, same)) = λ quiet quiet_err.
-    let told = told-Took out out_new (journal_and_report s.plan events) Done result h quiet in (told.1, inl (closed, told.0))
-told-whole out out_new err err_new result (Whole s events) (inr (still, inl (took, h))) = λ quiet quiet_err.
+told-whole : (notation : Notation) (out out_new err err_new : Edge) (result : Status) (ending : Ending) → IsLiveTold notation ending out out_new err err_new result →
+    IsLiveWhole notation ending out out_new err err_new result
+told-whole notation out out_new err err_new result (Whole s events) (inl (closed, h, same)) = λ quiet quiet_err.
+    let told = told-Took out out_new (journal_and_report notation s.plan events) Done result h quiet in (told.1, inl (closed, told.0))
+told-whole notation out out_new err err_new result (Whole s events) (inr (still, inl (took, h))) = λ quiet quiet_err.
     let told = told-Took err err_new not_settled_line NotSettled result h quiet_err in (took, inr (still, told.0, told.1))
-told-whole out out_new err err_new result (Whole s events) (inr (still, inr h)) = λ quiet quiet_err. absurd (quiet h.1.faults)
-told-whole out out_new err err_new result (Stopped s events e sums) (inl (took, h)) = λ quiet quiet_err.
+told-whole notation out out_new err err_new result (Whole s events) (inr (still, inr h)) = λ quiet quiet_err. absurd (quiet h.1.faults)
+told-whole notation out out_new err err_new result (Stopped s events e sums) (inl (took, h)) = λ quiet quiet_err.
     let told = told-Took err err_new (too_long_line sums) TooLong result h quiet_err in (told.0, took, told.1)
-told-whole out out_new err err_new result (Stopped s events e sums) (inr h) = λ quiet quiet_err. absurd (quiet h.1.faults)
-told-whole out out_new err err_new result (live.Refused fault) h = λ quiet. told-Took err err_new (fault_line fault) Refused result h.0 quiet
+told-whole notation out out_new err err_new result (Stopped s events e sums) (inr h) = λ quiet quiet_err. absurd (quiet h.1.faults)
+told-whole notation out out_new err err_new result (live.Refused fault) h = λ quiet. told-Took err err_new (fault_line fault) Refused result h.0 quiet
 
 -- ---- an input that tells its bytes
 
@@ -86,18 +87,18 @@ known-ending input input_new ending known c left = by-whole input_new.bytes c.te
         let all : length known ≡ length text + length rest = ap length gave ∙ length-append text rest in
         long-same text known ending (omega (arith, many)) (omega (arith, all, many)) can
 
-pub told-LiveIsWhole : (input input_new out out_new err err_new : Edge) (result : Status) (ending : Ending) → LiveComesTo input input_new ending →
-    IsLiveTold ending out out_new err err_new result → LiveIsWhole input input_new out out_new err err_new result
-told-LiveIsWhole input input_new out out_new err err_new result ending c h = λ known left quiet.
-    inl (ending, known-ending input input_new ending known c left, told-whole out out_new err err_new result ending h)
+pub told-LiveIsWhole : (notation : Notation) (input input_new out out_new err err_new : Edge) (result : Status) (ending : Ending) → LiveComesTo input input_new ending →
+    IsLiveTold notation ending out out_new err err_new result → LiveIsWhole notation input input_new out out_new err err_new result
+told-LiveIsWhole notation input input_new out out_new err err_new result ending c h = λ known left quiet.
+    inl (ending, known-ending input input_new ending known c left, told-whole notation out out_new err err_new result ending h)
 
-pub no_memory-LiveIsWhole : (input input_new out out_new err err_new : Edge) (result : Status) → result ≡ NoMemory →
-    LiveIsWhole input input_new out out_new err err_new result
-no_memory-LiveIsWhole input input_new out out_new err err_new result e = λ known left quiet. inr e
+pub no_memory-LiveIsWhole : (notation : Notation) (input input_new out out_new err err_new : Edge) (result : Status) → result ≡ NoMemory →
+    LiveIsWhole notation input input_new out out_new err err_new result
+no_memory-LiveIsWhole notation input input_new out out_new err err_new result e = λ known left quiet. inr e
 
-pub failed-LiveIsWhole : (input input_new out out_new err err_new : Edge) (result : Status) → Rises input.faults input_new.faults →
-    LiveIsWhole input input_new out out_new err err_new result
-failed-LiveIsWhole input input_new out out_new err err_new result failed = λ known left quiet. absurd (quiet failed)
+pub failed-LiveIsWhole : (notation : Notation) (input input_new out out_new err err_new : Edge) (result : Status) → Rises input.faults input_new.faults →
+    LiveIsWhole notation input input_new out out_new err err_new result
+failed-LiveIsWhole notation input input_new out out_new err err_new result failed = λ known left quiet. absurd (quiet failed)
 
 -- one byte past the longest is refused
 pub long-LiveComesTo : (input input_new : Edge) (text : List ℕ) → Gave input input_new text → length text ≡ most_input + 1 → LiveComesTo input input_new (live.Refused past_limit)

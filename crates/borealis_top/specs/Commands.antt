@@ -2,13 +2,16 @@
 use Rattle.std.specs.Prelude.{ℕ, ◌&&◌, nat_le, if◌then◌else◌, List, [], ◌∷◌, Option, Some, None, option_map, codes, bytes_eq}
 use Rattle.script_rules.specs.Spelling.{is_numeral, number}
 use Rattle.borealis_top.specs.declared.command.Form.{Form}
-use Rattle.borealis_top.specs.declared.command.Form.TheVariants.{Text, Short, Json}
+use Rattle.borealis_top.specs.declared.command.Form.TheVariants.{Text, Short, Json, Frames}
 use Rattle.borealis_top.specs.declared.command.Reading.{Reading}
 use Rattle.borealis_top.specs.declared.command.Reading.TheVariants.{Run, Check, Print, Ideal}
 use Rattle.borealis_top.specs.declared.command.Command.{Command}
 use Rattle.borealis_top.specs.declared.command.Command.TheVariants.{Read, Journal, Gen, Help, Reasons, Version}
+use Rattle.borealis_top.specs.declared.command.LiveCommand.{LiveCommand}
+use Rattle.input_parts.specs.declared.notation.Notation.{Notation}
+use Rattle.input_parts.specs.declared.notation.Notation.TheVariants as notation
 use Rattle.journal_commands.specs.declared.outcome.JournalCommand.{JournalCommand}
-use Rattle.journal_commands.specs.declared.outcome.JournalCommand.TheVariants.{Replay, Upgrade}
+use Rattle.journal_commands.specs.declared.outcome.JournalCommand.TheVariants.{Replay, Upgrade, Audit}
 
 -- what is done with a script that is read
 abbrev pub reading_word : List ℕ → Option Reading
@@ -19,12 +22,16 @@ reading_word w =
     else (if bytes_eq w (codes "ideal") then Some Ideal
     else None)))
 
--- what is done with a script and the journal behind it
-abbrev pub journal_word : List ℕ → Option JournalCommand
-journal_word w =
-    if bytes_eq w (codes "replay") then Some Replay
-    else (if bytes_eq w (codes "upgrade") then Some Upgrade
+-- what is done with a script and a journal or stream behind it that is told in this way
+abbrev pub told_word : Notation → List ℕ → Option JournalCommand
+told_word told w =
+    if bytes_eq w (codes "replay") then Some (Replay told)
+    else (if bytes_eq w (codes "audit") then Some (Audit told)
     else None)
+
+-- what is done with a script and what stands behind it
+abbrev pub journal_word : List ℕ → Option JournalCommand
+journal_word w = if bytes_eq w (codes "upgrade") then Some Upgrade else told_word notation.Lines w
 
 -- what is done with an input
 abbrev pub input_word : List ℕ → Option Command
@@ -44,25 +51,36 @@ seed_of w = if is_numeral w && nat_le 1 (number w) && nat_le (number w) 1000 the
 
 -- the form of a report other than the text
 abbrev pub form_word : List ℕ → Option Form
-form_word w = if bytes_eq w (codes "short") then Some Short else (if bytes_eq w (codes "json") then Some Json else None)
+form_word w =
+    if bytes_eq w (codes "short") then Some Short
+    else (if bytes_eq w (codes "json") then Some Json
+    else (if bytes_eq w (codes "frames") then Some Frames
+    else None))
 
 -- the command that two words are
 abbrev pub two_words : List ℕ → List ℕ → Option Command
 two_words w v =
     if bytes_eq w (codes "gen") then option_map Gen (seed_of v)
     else (if bytes_eq w (codes "run") then option_map (λ form. Read (Run form)) (form_word v)
-    else None)
+    else (if bytes_eq v (codes "frames") then option_map Journal (told_word notation.Frames w)
+    else None))
 
 -- how many workers run a script: 1 to 16
 abbrev pub workers_of : List ℕ → Option ℕ
 workers_of w = if is_numeral w && nat_le 1 (number w) && nat_le (number w) 16 then Some (number w) else None
 
--- that number, where the words ask for a run by several threads
-abbrev pub live_of : List (List ℕ) → Option ℕ
+-- the run by several threads that two words ask for, and how it is told
+abbrev pub live_by : Notation → List ℕ → List ℕ → Option LiveCommand
+live_by told w v =
+    if bytes_eq w (codes "live") then option_map (λ n. record { workers = n; notation = told }) (workers_of v) else None
+
+-- the run by several threads that the words ask for
+abbrev pub live_of : List (List ℕ) → Option LiveCommand
 live_of [] = None
 live_of (w ∷ []) = None
-live_of (w ∷ v ∷ []) = if bytes_eq w (codes "live") then workers_of v else None
-live_of (w ∷ v ∷ u ∷ words) = None
+live_of (w ∷ v ∷ []) = live_by notation.Lines w v
+live_of (w ∷ v ∷ u ∷ []) = if bytes_eq u (codes "frames") then live_by notation.Frames w v else None
+live_of (w ∷ v ∷ u ∷ t ∷ words) = None
 
 -- the command that the words are, of those that wait for nobody
 abbrev pub command_of : List (List ℕ) → Option Command

@@ -18,11 +18,12 @@ use Rattle.law_healing.specs.Healing.{heals}
 use Rattle.law_lockstep.specs.Calm.{IsCalm}
 use Rattle.law_calm.specs.Crashes.{has_no_crash}
 use Rattle.report.specs.Text.{report_text, report_short, ideal_text}
+use Rattle.client_frames.specs.Framed.{report_frames}
 use Rattle.client_reports.specs.Json.{report_json}
 use Rattle.borealis_top.specs.declared.answer.Answer.{Answer}
 use Rattle.borealis_top.specs.declared.answer.Answer.TheVariants as answer
 use Rattle.borealis_top.specs.declared.command.Form.{Form}
-use Rattle.borealis_top.specs.declared.command.Form.TheVariants.{Text, Short, Json}
+use Rattle.borealis_top.specs.declared.command.Form.TheVariants.{Text, Short, Json, Frames}
 use Rattle.borealis_top.specs.declared.command.Reading.{Reading}
 use Rattle.borealis_top.specs.declared.command.Reading.TheVariants.{Run, Check, Print, Ideal}
 use Rattle.borealis_top.specs.declared.status.Status.{Status}
@@ -45,6 +46,7 @@ abbrev pub report_as : Form → World → List ℕ
 report_as Text w = report_text w
 report_as Short w = report_short w
 report_as Json w = report_json w
+report_as Frames w = report_frames w
 
 -- what is written of a script
 abbrev pub answer_to : Reading → Script → List ℕ

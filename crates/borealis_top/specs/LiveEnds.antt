@@ -9,6 +9,7 @@ use Rattle.dpc_model.specs.declared.scripts.Script.{Script}
 use Rattle.script_rules.specs.declared.reasons.PlanFault.{PlanFault}
 use Rattle.status_lines.specs.Lines.{fault_line, not_settled_line, too_long_line}
 use Rattle.world_model.specs.Worlds.{Sums}
+use Rattle.input_parts.specs.declared.notation.Notation.{Notation}
 use Rattle.live_commands.specs.Endings.{Ending, Whole, Stopped, CanEnd, IsEnding, journal_and_report, journal_upto, leaves_open}
 use Rattle.live_commands.specs.Endings as live
 use Rattle.live_commands.specs.declared.outcome.Outcome.{Outcome}
@@ -31,59 +32,59 @@ pub record LeftOpen (input input_new : Edge) (s : Script) (events : List Event) 
   pub still : leaves_open s events ≡ true
 
 -- how it ends, by its status
-abbrev pub LiveEnds : Edge → Edge → Edge → Edge → Edge → Edge → Status → Type 0
-LiveEnds input input_new out out_new err err_new Done =
+abbrev pub LiveEnds : Notation → Edge → Edge → Edge → Edge → Edge → Edge → Status → Type 0
+LiveEnds notation input input_new out out_new err err_new Done =
     (s : Script) × (events : List Event) × LiveComesTo input input_new (Whole s events) × (leaves_open s events ≡ false)
-    × Took out out_new (journal_and_report s.plan events) × Stays err err_new
-LiveEnds input input_new out out_new err err_new NotSettled =
-    (s : Script) × (events : List Event) × LeftOpen input input_new s events × Took out out_new (journal_and_report s.plan events)
+    × Took out out_new (journal_and_report notation s.plan events) × Stays err err_new
+LiveEnds notation input input_new out out_new err err_new NotSettled =
+    (s : Script) × (events : List Event) × LeftOpen input input_new s events × Took out out_new (journal_and_report notation s.plan events)
     × Took err err_new not_settled_line
-LiveEnds input input_new out out_new err err_new TooLong =
+LiveEnds notation input input_new out out_new err err_new TooLong =
     (s : Script) × (events : List Event) × (e : Event) × (sums : Sums) × LiveComesTo input input_new (Stopped s events e sums)
-    × Took out out_new (journal_upto s.plan events e) × Took err err_new (too_long_line sums)
-LiveEnds input input_new out out_new err err_new Refused =
+    × Took out out_new (journal_upto notation s.plan events e) × Took err err_new (too_long_line sums)
+LiveEnds notation input input_new out out_new err err_new Refused =
     (fault : PlanFault) × LiveComesTo input input_new (live.Refused fault) × Stays out out_new × Took err err_new (fault_line fault)
-LiveEnds input input_new out out_new err err_new NoMemory =
+LiveEnds notation input input_new out out_new err err_new NoMemory =
     Stays out out_new × Stays err err_new × IsReadInPart input input_new × (input_new.faults ≡ input.faults)
-LiveEnds input input_new out out_new err err_new ReadFault =
+LiveEnds notation input input_new out out_new err err_new ReadFault =
     Stays out out_new × Stays err err_new × IsReadInPart input input_new × Rises input.faults input_new.faults
-LiveEnds input input_new out out_new err err_new WriteFault =
-    ((s : Script) × (events : List Event) × LiveComesTo input input_new (Whole s events) × TookPart out out_new (journal_and_report s.plan events)
+LiveEnds notation input input_new out out_new err err_new WriteFault =
+    ((s : Script) × (events : List Event) × LiveComesTo input input_new (Whole s events) × TookPart out out_new (journal_and_report notation s.plan events)
     × Stays err err_new)
-    ⊎ ((s : Script) × (events : List Event) × LeftOpen input input_new s events × Took out out_new (journal_and_report s.plan events)
+    ⊎ ((s : Script) × (events : List Event) × LeftOpen input input_new s events × Took out out_new (journal_and_report notation s.plan events)
     × TookPart err err_new not_settled_line)
     ⊎ ((s : Script) × (events : List Event) × (e : Event) × (sums : Sums) × LiveComesTo input input_new (Stopped s events e sums)
-    × TookPart out out_new (journal_upto s.plan events e) × Stays err err_new)
+    × TookPart out out_new (journal_upto notation s.plan events e) × Stays err err_new)
     ⊎ ((s : Script) × (events : List Event) × (e : Event) × (sums : Sums) × LiveComesTo input input_new (Stopped s events e sums)
-    × Took out out_new (journal_upto s.plan events e) × TookPart err err_new (too_long_line sums))
+    × Took out out_new (journal_upto notation s.plan events e) × TookPart err err_new (too_long_line sums))
     ⊎ ((fault : PlanFault) × LiveComesTo input input_new (live.Refused fault) × Stays out out_new × TookPart err err_new (fault_line fault))
-LiveEnds input input_new out out_new err err_new Words = ⊥
+LiveEnds notation input input_new out out_new err err_new Words = ⊥
 
 -- ---- an answer for each input
 
 -- where what is written to does not fail, all of it is written
-abbrev pub IsLiveWhole : Ending → Edge → Edge → Edge → Edge → Status → Type 0
-IsLiveWhole (Whole s events) out out_new err err_new result =
+abbrev pub IsLiveWhole : Notation → Ending → Edge → Edge → Edge → Edge → Status → Type 0
+IsLiveWhole notation (Whole s events) out out_new err err_new result =
     (Rises out.faults out_new.faults → ⊥) → (Rises err.faults err_new.faults → ⊥) →
-    Took out out_new (journal_and_report s.plan events)
+    Took out out_new (journal_and_report notation s.plan events)
     × (((leaves_open s events ≡ false) × (result ≡ Done)) ⊎ ((leaves_open s events ≡ true) × (result ≡ NotSettled) × Took err err_new not_settled_line))
-IsLiveWhole (Stopped s events e sums) out out_new err err_new result =
+IsLiveWhole notation (Stopped s events e sums) out out_new err err_new result =
     (Rises out.faults out_new.faults → ⊥) → (Rises err.faults err_new.faults → ⊥) →
-    (result ≡ TooLong) × Took out out_new (journal_upto s.plan events e) × Took err err_new (too_long_line sums)
-IsLiveWhole (live.Refused fault) out out_new err err_new result =
+    (result ≡ TooLong) × Took out out_new (journal_upto notation s.plan events e) × Took err err_new (too_long_line sums)
+IsLiveWhole notation (live.Refused fault) out out_new err err_new result =
     (Rises err.faults err_new.faults → ⊥) → (result ≡ Refused) × Took err err_new (fault_line fault)
 
 -- so it is of every input that does not fail, unless memory runs out
-abbrev pub LiveIsWhole : Edge → Edge → Edge → Edge → Edge → Edge → Status → Type 0
-LiveIsWhole input input_new out out_new err err_new result =
+abbrev pub LiveIsWhole : Notation → Edge → Edge → Edge → Edge → Edge → Edge → Status → Type 0
+LiveIsWhole notation input input_new out out_new err err_new result =
     (bytes : List ℕ) → input.bytes ≡ Some bytes → (Rises input.faults input_new.faults → ⊥) →
-    ((ending : Ending) × CanEnd bytes ending × IsLiveWhole ending out out_new err err_new result) ⊎ (result ≡ NoMemory)
+    ((ending : Ending) × CanEnd bytes ending × IsLiveWhole notation ending out out_new err err_new result) ⊎ (result ≡ NoMemory)
 
 -- ---- the parts of such a command
 
 -- what was read comes to this
-abbrev pub IsLiveOutcome : Edge → Edge → Outcome → Type 0
-IsLiveOutcome input input_new outcome = (ending : Ending) × LiveComesTo input input_new ending × IsEnding ending outcome
+abbrev pub IsLiveOutcome : Notation → Edge → Edge → Outcome → Type 0
+IsLiveOutcome notation input input_new outcome = (ending : Ending) × LiveComesTo input input_new ending × IsEnding notation ending outcome
 
 -- why an input was not read whole
 abbrev pub LiveFailsSo : Edge → Edge → InputFault → Type 0
@@ -92,10 +93,10 @@ LiveFailsSo input input_new input_fault.Failed = IsReadInPart input input_new ×
 LiveFailsSo input input_new input_fault.TooLong = ⊥
 
 -- what an input comes to was written, or a sink failed
-abbrev pub IsLiveTold : Ending → Edge → Edge → Edge → Edge → Status → Type 0
-IsLiveTold (Whole s events) out out_new err err_new result =
-    ((leaves_open s events ≡ false) × IsTold out out_new (journal_and_report s.plan events) Done result × (err_new ≡ err))
-    ⊎ ((leaves_open s events ≡ true) × IsToldBoth out out_new err err_new (journal_and_report s.plan events) not_settled_line NotSettled result)
-IsLiveTold (Stopped s events e sums) out out_new err err_new result =
-    IsToldBoth out out_new err err_new (journal_upto s.plan events e) (too_long_line sums) TooLong result
-IsLiveTold (live.Refused fault) out out_new err err_new result = IsTold err err_new (fault_line fault) Refused result × (out_new ≡ out)
+abbrev pub IsLiveTold : Notation → Ending → Edge → Edge → Edge → Edge → Status → Type 0
+IsLiveTold notation (Whole s events) out out_new err err_new result =
+    ((leaves_open s events ≡ false) × IsTold out out_new (journal_and_report notation s.plan events) Done result × (err_new ≡ err))
+    ⊎ ((leaves_open s events ≡ true) × IsToldBoth out out_new err err_new (journal_and_report notation s.plan events) not_settled_line NotSettled result)
+IsLiveTold notation (Stopped s events e sums) out out_new err err_new result =
+    IsToldBoth out out_new err err_new (journal_upto notation s.plan events e) (too_long_line sums) TooLong result
+IsLiveTold notation (live.Refused fault) out out_new err err_new result = IsTold err err_new (fault_line fault) Refused result × (out_new ≡ out)

@@ -4,6 +4,7 @@ use Rattle.dpc_edge.specs.Edges.{Edge}
 use Rattle.script_rules.specs.ReasonTable.{reasons_text}
 use Rattle.borealis_top.specs.declared.command.Command.{Command}
 use Rattle.borealis_top.specs.declared.command.Command.TheVariants.{Read, Journal, Gen, Help, Reasons, Version}
+use Rattle.borealis_top.specs.declared.command.LiveCommand.{LiveCommand}
 use Rattle.borealis_top.specs.declared.status.Status.{Status}
 use Rattle.borealis_top.specs.declared.status.Status.TheVariants.{Done, Words, NoMemory}
 use Rattle.borealis_top.specs.Codes.{code_of}
@@ -31,9 +32,9 @@ CommandEnds (Some (Gen seed)) input input_new out out_new err err_new result =
     GenEnds seed out out_new result × (err_new ≡ err) × (input_new ≡ input)
 
 -- how what the words say ends: a run by so many threads, or a command that waits for nobody
-abbrev pub WordsEnd : Option ℕ → Option Command → Edge → Edge → Edge → Edge → Edge → Edge → Status → Type 0
-WordsEnd (Some workers) command input input_new out out_new err err_new result =
-    LiveEnds input input_new out out_new err err_new result × LiveIsWhole input input_new out out_new err err_new result
+abbrev pub WordsEnd : Option LiveCommand → Option Command → Edge → Edge → Edge → Edge → Edge → Edge → Status → Type 0
+WordsEnd (Some live) command input input_new out out_new err err_new result =
+    LiveEnds live.notation input input_new out out_new err err_new result × LiveIsWhole live.notation input input_new out out_new err err_new result
 WordsEnd None command input input_new out out_new err err_new result = CommandEnds command input input_new out out_new err err_new result
 
 -- nothing was touched, for want of memory

@@ -14,6 +14,7 @@ use diagram_printer::print_script;
 use dpc_lists::faults::NoMemory;
 use dpc_model::plans::Plan;
 use dpc_model::scripts::Script;
+use journal_commands::framed_report;
 use lockstep::faults::RunFault;
 use lockstep::lock::run;
 use status_lines::too_long_line;
@@ -88,5 +89,6 @@ fn report(alloc: Global, form: Form, world: &World) -> Result<Vec<u8>, NoMemory>
         Form::Text => report_text(alloc, world.plan(), world.clients()),
         Form::Short => report_short(alloc, world.plan(), world.clients()),
         Form::Json => report_json(alloc, world.plan(), world.clients()),
+        Form::Frames => framed_report(alloc, world),
     }
 }

@@ -1,7 +1,8 @@
 //! What the words of the command line ask for.
 ghost use Rattle.std.specs.Prelude.{◌≡◌, map, string_bytes, bytes_eq};
-ghost use Rattle.borealis_top.specs.Commands.{reading_word, journal_word, input_word, form_word, seed_of, command_word, two_words, command_of, workers_of, live_of};
+ghost use Rattle.borealis_top.specs.Commands.{reading_word, told_word, journal_word, input_word, form_word, seed_of, command_word, two_words, command_of, workers_of, live_by, live_of};
 
+use input_parts::notation::Notation;
 use journal_commands::outcome::JournalCommand;
 use script_words::spelling::number;
 
@@ -14,6 +15,8 @@ pub enum Form {
     Short,
     /// Both as JSON.
     Json,
+    /// Both as frames.
+    Frames,
 }
 
 /// What is to be done with a script that is read.
@@ -29,12 +32,21 @@ pub enum Reading {
     Ideal,
 }
 
+/// A run by several threads.
+#[derive(Clone, Copy, PartialEq, Eq, Debug)]
+pub struct LiveCommand {
+    /// How many workers it has: 1 to 16.
+    pub workers: u64,
+    /// How its journal and its report are told.
+    pub notation: Notation,
+}
+
 /// What the program is to do.
 #[derive(Clone, Copy, PartialEq, Eq, Debug)]
 pub enum Command {
     /// Reads a script, and answers.
     Read(Reading),
-    /// Reads a script and the journal behind it, and answers.
+    /// Reads a script and what stands behind it, and answers.
     Journal(JournalCommand),
     /// Writes the generated script of a number.
     Gen(u64),
@@ -76,16 +88,27 @@ fn reading_in(word: &String) -> Option<Reading>
     }
 }
 
-/// What is done with a script and the journal behind it, where a word asks for that.
+/// What is done with a script and a journal or stream behind it that is told in this way, where a word asks for that.
+fn told_command_in(word: &String, notation: Notation) -> Option<JournalCommand>
+    ensures { result ≡ told_word notation (string_bytes word.now) }
+{
+    if is_word(word, b"replay") {
+        Some(JournalCommand::Replay(notation))
+    } else if is_word(word, b"audit") {
+        Some(JournalCommand::Audit(notation))
+    } else {
+        None
+    }
+}
+
+/// What is done with a script and what stands behind it, where a word asks for that.
 fn journal_command_in(word: &String) -> Option<JournalCommand>
     ensures { result ≡ journal_word (string_bytes word.now) }
 {
-    if is_word(word, b"replay") {
-        Some(JournalCommand::Replay)
-    } else if is_word(word, b"upgrade") {
+    if is_word(word, b"upgrade") {
         Some(JournalCommand::Upgrade)
     } else {
-        None
+        told_command_in(word, Notation::Lines)
     }
 }
 
@@ -122,6 +145,8 @@ fn form_in(word: &String) -> Option<Form>
         Some(Form::Short)
     } else if is_word(word, b"json") {
         Some(Form::Json)
+    } else if is_word(word, b"frames") {
+        Some(Form::Frames)
     } else {
         None
     }
@@ -135,6 +160,8 @@ fn command_of_two(first: &String, second: &String) -> Option<Command>
         Some(Command::Gen(seed_in(second)?))
     } else if is_word(first, b"run") {
         Some(Command::Read(Reading::Run(form_in(second)?)))
+    } else if is_word(second, b"frames") {
+        Some(Command::Journal(told_command_in(first, Notation::Frames)?))
     } else {
         None
     }
@@ -154,14 +181,27 @@ fn workers_of(word: &String) -> Option<u64>
     number(word.as_bytes()).filter(|n| 1 <= *n && *n <= MOST_WORKERS)
 }
 
-/// How many workers run a script, where the words ask for a run by several threads: 1 to 16.
-pub fn workers_in(words: &[String]) -> Option<u64>
+/// The run by several threads that two words ask for, and how it is told.
+fn live_by(first: &String, second: &String, notation: Notation) -> Option<LiveCommand>
+    ensures { result ≡ live_by notation (string_bytes first.now) (string_bytes second.now) }
+{
+    if is_word(first, b"live") {
+        let workers = workers_of(second)?;
+        Some(LiveCommand { workers, notation })
+    } else {
+        None
+    }
+}
+
+/// The run by several threads that the words ask for.
+pub fn live_in(words: &[String]) -> Option<LiveCommand>
     ensures { result ≡ live_of (map string_bytes words.now) }
 {
     match words {
-        [first, second] => {
-            if is_word(first, b"live") {
-                workers_of(second)
+        [first, second] => live_by(first, second, Notation::Lines),
+        [first, second, third] => {
+            if is_word(third, b"frames") {
+                live_by(first, second, Notation::Frames)
             } else {
                 None
             }

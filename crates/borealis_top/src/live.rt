@@ -1,8 +1,10 @@
 //! The command that runs a script by several threads.
 ghost use Rattle.std.specs.Prelude.{◌≤◌, IfOk, IfErr};
+ghost use Rattle.input_parts.specs.declared.notation.Notation.{Notation};
 ghost use Rattle.live_commands.specs.Endings.{Ending, IsEnding};
 ghost use Rattle.borealis_top.specs.LiveEnds.{IsLiveOutcome, LiveFailsSo, IsLiveTold, LiveEnds, LiveIsWhole};
 
+use crate::command::LiveCommand;
 use crate::plain::{TOO_LONG, told, told_both, told_open};
 use crate::status::Status;
 use crate::transfer::{InputFault, MOST_INPUT, read_whole};
@@ -20,17 +22,17 @@ use std::thread::Threads;
 fn outcome_of<R: Threads + Wait + Sync, S: Source, G: Gate + Sync>(
     rt: &R,
     alloc: Global,
-    workers: u64,
+    command: LiveCommand,
     input: &mut S,
     gate: &G,
 ) -> Result<Outcome, InputFault>
-    requires some { 1 ≤ workers }
-    requires few { workers ≤ 16 }
-    ensures ok { IfOk result (IsLiveOutcome (S.edge input.old) (S.edge input.new)) }
+    requires some { 1 ≤ command.workers }
+    requires few { command.workers ≤ 16 }
+    ensures ok { IfOk result (IsLiveOutcome command.notation (S.edge input.old) (S.edge input.new)) }
     ensures err { IfErr result (LiveFailsSo (S.edge input.old) (S.edge input.new)) }
 {
     match read_whole(alloc, input, MOST_INPUT) {
-        Ok(text) => match answer(rt, alloc, text, workers, gate) {
+        Ok(text) => match answer(rt, alloc, command.notation, text, command.workers, gate) {
             Ok(outcome) => Ok(outcome),
             Err(_) => Err(InputFault::NoMemory),
         },
@@ -45,8 +47,8 @@ fn outcome_of<R: Threads + Wait + Sync, S: Source, G: Gate + Sync>(
 
 /// Writes what a run comes to.
 fn tell<O: Sink, E: Sink>(out: &mut O, err: &mut E, outcome: Outcome) -> Status
-    ensures { (ending : Ending) → IsEnding ending outcome
-        → IsLiveTold ending (O.edge out.old) (O.edge out.new) (E.edge err.old) (E.edge err.new) result }
+    ensures { (notation : Notation) (ending : Ending) → IsEnding notation ending outcome
+        → IsLiveTold notation ending (O.edge out.old) (O.edge out.new) (E.edge err.old) (E.edge err.new) result }
 {
     match outcome {
         Outcome::Text(text) => told(out, text.as_slice(), Status::Done),
@@ -66,20 +68,20 @@ fn tell<O: Sink, E: Sink>(out: &mut O, err: &mut E, outcome: Outcome) -> Status
 pub(crate) fn run_live<R: Threads + Wait + Sync, S: Source, O: Sink, E: Sink, G: Gate + Sync>(
     rt: &R,
     alloc: Global,
-    workers: u64,
+    command: LiveCommand,
     input: &mut S,
     out: &mut O,
     err: &mut E,
     gate: &G,
 ) -> Status
-    requires some { 1 ≤ workers }
-    requires few { workers ≤ 16 }
-    ensures ends { LiveEnds (S.edge input.old) (S.edge input.new) (O.edge out.old) (O.edge out.new)
+    requires some { 1 ≤ command.workers }
+    requires few { command.workers ≤ 16 }
+    ensures ends { LiveEnds command.notation (S.edge input.old) (S.edge input.new) (O.edge out.old) (O.edge out.new)
         (E.edge err.old) (E.edge err.new) result }
-    ensures complete { LiveIsWhole (S.edge input.old) (S.edge input.new) (O.edge out.old) (O.edge out.new)
+    ensures complete { LiveIsWhole command.notation (S.edge input.old) (S.edge input.new) (O.edge out.old) (O.edge out.new)
         (E.edge err.old) (E.edge err.new) result }
 {
-    match outcome_of(rt, alloc, workers, input, gate) {
+    match outcome_of(rt, alloc, command, input, gate) {
         Ok(outcome) => tell(out, err, outcome),
         Err(InputFault::Failed) => Status::ReadFault,
         Err(_) => Status::NoMemory,

@@ -3,7 +3,7 @@ ghost use Rattle.std.specs.Prelude.{map, string_bytes};
 ghost use Rattle.borealis_top.specs.Commands.{command_of, live_of};
 ghost use Rattle.borealis_top.specs.Programs.{WordsEnd};
 
-use crate::command::workers_in;
+use crate::command::live_in;
 use crate::live::run_live;
 use crate::plain::plain;
 use crate::status::Status;
@@ -28,8 +28,8 @@ pub fn borealis<R: Threads + Wait + Sync, S: Source, O: Sink, E: Sink, G: Gate +
     ensures { WordsEnd (live_of (map string_bytes words.now)) (command_of (map string_bytes words.now))
         (S.edge input.old) (S.edge input.new) (O.edge out.old) (O.edge out.new) (E.edge err.old) (E.edge err.new) result }
 {
-    match workers_in(words) {
-        Some(workers) => run_live(rt, alloc, workers, input, out, err, gate),
+    match live_in(words) {
+        Some(command) => run_live(rt, alloc, command, input, out, err, gate),
         None => plain(alloc, words, input, out, err),
     }
 }

@@ -72,7 +72,7 @@ taken-more old xs i items e =
 
 -- ---- what stands for what
 
-same-summary : (plan : Plan) (c : ℕ) (v : ClientValue) (x : ClientState) → StandsForClient plan c v x → summary_by v ≡ summary_of plan.end (reader_of x)
+pub same-summary : (plan : Plan) (c : ℕ) (v : ClientValue) (x : ClientState) → StandsForClient plan c v x → summary_by v ≡ summary_of plan.end (reader_of x)
 same-summary plan c v x h =
     let kept = h.inlet.1 in
     let tells : ℕ → ℕ → InletState → Summary = λ n end i. record { stable = n; bound = i.held.bound; tentative = length i.held.tentative; settled = is_settled end i.held } in

@@ -15,7 +15,7 @@ use report::text::{Summary, put_items, put_name, put_summary};
 use std::alloc::Global;
 
 /// What a client's last line tells.
-pub(crate) fn summary(client: &Client) -> Summary
+pub fn summary(client: &Client) -> Summary
     ensures { result ≡ summary_by client.now }
 {
     Summary {

@@ -82,8 +82,9 @@ fn give_milled<K, R: RowSink<K>>(
     Ok(())
 }
 
-/// Gives the rows of a failure-free stream, bucket by bucket.
-pub(crate) fn give_stream<K, R: RowSink<K>>(
+/// Gives the rows of a failure-free stream, bucket by bucket as they are milled. It stops where the sink wants no more, or memory
+/// is wanting.
+pub fn give_stream<K, R: RowSink<K>>(
     alloc: Global,
     plan: &Plan,
     stream: StreamRef,

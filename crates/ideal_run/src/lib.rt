@@ -19,6 +19,7 @@ use crate::numbering::{Lines, write_held};
 use crate::writing::write_stream;
 use dpc_edge::sink::Sink;
 use dpc_model::plans::Plan;
+pub use giving::give_stream;
 use std::alloc::Global;
 
 /// Writes the failure-free stream of each client in order, as it is milled: a line of its name, one line for

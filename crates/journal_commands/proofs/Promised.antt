@@ -1,6 +1,6 @@
--- What is promised of a journal that is replayed, and of a script that is upgraded, holds.
+-- What is promised of a journal that is replayed, of a script that is upgraded, and of a recorded stream holds.
 use Rattle.std.proofs.Common.{◌≡◌, ◌⊎◌, inl, inr, ℕ, ◌+◌, List, length, Ok, Some, Bool, true, false, refl, ap, ◌∙◌}
-use Rattle.std.specs.Prelude.{not, ◌&&◌, IsTrue}
+use Rattle.std.specs.Prelude.{not, ◌&&◌, IsTrue, codes}
 use Rattle.std.proofs.lemmas.Bool.{and_parts}
 use Rattle.dpc_model.specs.declared.messages.Event.{Event}
 use Rattle.dpc_model.specs.ScriptText.{upgraded}
@@ -27,12 +27,16 @@ use Rattle.world_model.specs.Replays as replay
 use Rattle.law_schedules.specs.Journals.{phases_in}
 use Rattle.law_schedules.proofs.Timely.{live-ends}
 use Rattle.report.specs.Text.{report_text}
+use Rattle.input_parts.specs.Parts.{part_before}
 use Rattle.journal_inputs.specs.Parts.{script_part}
-use Rattle.journal_inputs.specs.Inputs.{input_of}
+use Rattle.input_parts.specs.declared.notation.Notation.{Notation}
+use Rattle.input_parts.specs.declared.notation.Notation.TheVariants.{Lines, Frames}
 use Rattle.journal_inputs.proofs.ByParts.{is_both}
+use Rattle.journal_inputs.proofs.FramedParts.{is_framed_both}
+use Rattle.stream_audits.proofs.Judged.{is_judged}
 use Rattle.journal_commands.specs.declared.outcome.JournalCommand.{JournalCommand}
-use Rattle.journal_commands.specs.declared.outcome.JournalCommand.TheVariants.{Replay, Upgrade}
-use Rattle.journal_commands.specs.Endings.{told_or_open, replay_ending}
+use Rattle.journal_commands.specs.declared.outcome.JournalCommand.TheVariants.{Replay, Upgrade, Audit}
+use Rattle.journal_commands.specs.Endings.{input_in, told_or_open, replay_ending}
 use Rattle.journal_commands.specs.Promises.{IsGoodRun, IsSameRun, Holds}
 
 -- a client is left open behind settle only where all quiet phases went by
@@ -83,11 +87,21 @@ same-run s =
 pub read-can-run : (text : List ℕ) (s : Script) → read text ≡ Some s → CanRun s.plan
 read-can-run text s is = can_run s (reads_have_facts text s is)
 
-pub input-can-run : (input : List ℕ) (s : Script) (events : List Event) → input_of input ≡ Ok (s, events) → CanRun s.plan
-input-can-run input s events is = read-can-run (script_part input) s (is_both input s events is).script
+-- the script of an input was read
+record WasRead (s : Script) : Type 0 where
+  text : List ℕ
+  is : read text ≡ Some s
+
+was-read : (notation : Notation) (input : List ℕ) (s : Script) (events : List Event) → input_in notation input ≡ Ok (s, events) → WasRead s
+was-read Lines input s events is = record { text = script_part input; is = (is_both input s events is).script }
+was-read Frames input s events is = record { text = part_before (codes "frames") input; is = (is_framed_both input s events is).script }
+
+pub input-can-run : (notation : Notation) (input : List ℕ) (s : Script) (events : List Event) → input_in notation input ≡ Ok (s, events) → CanRun s.plan
+input-can-run notation input s events is = let read = was-read notation input s events is in read-can-run read.text s read.is
 
 pub input-holds : (what : JournalCommand) (input : List ℕ) → Holds what input
-input-holds Replay input = λ s events is whole.
-    let script = (is_both input s events is).script in
-    good-run s events (read-can-run (script_part input) s script) (reads_checked (script_part input) s script) whole
+input-holds (Replay notation) input = λ s events is whole.
+    let script = was-read notation input s events is in
+    good-run s events (read-can-run script.text s script.is) (reads_checked script.text s script.is) whole
 input-holds Upgrade input = λ s is. same-run s
+input-holds (Audit notation) input = λ v is. is_judged notation input v is

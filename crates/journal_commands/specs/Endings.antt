@@ -1,18 +1,22 @@
--- What the commands on a script and the journal behind it come to.
+-- What the commands on a script and what stands behind it come to.
 use Rattle.std.specs.Prelude.{◌≡◌, ℕ, ◌^◌, nat_lt, Bool, not, ◌&&◌, if◌then◌else◌, List, length, Result, Ok, Err}
 use Rattle.dpc_model.specs.declared.messages.Event.{Event}
 use Rattle.dpc_model.specs.declared.scripts.Script.{Script}
 use Rattle.script_rules.specs.declared.reasons.Reason.TheVariants.{PastLimit}
-use Rattle.status_lines.specs.Lines.{fault_line, entry_line}
+use Rattle.status_lines.specs.Lines.{fault_line, entry_line, item_line}
 use Rattle.world_model.specs.Worlds.{Sums, run, all_settled}
 use Rattle.world_model.specs.Replays.{ReplayEnd, replay_end}
 use Rattle.world_model.specs.Replays as replay
 use Rattle.report.specs.Text.{report_text}
 use Rattle.journal_inputs.specs.declared.faults.Refusal.{Refusal}
 use Rattle.journal_inputs.specs.declared.faults.Refusal.TheVariants as refusal
+use Rattle.input_parts.specs.declared.notation.Notation.{Notation}
+use Rattle.input_parts.specs.declared.notation.Notation.TheVariants.{Lines, Frames}
 use Rattle.journal_inputs.specs.Inputs.{input_of, upgraded_text}
+use Rattle.journal_inputs.specs.Framed.{framed_input_of}
+use Rattle.stream_audits.specs.Judging.{audited_text}
 use Rattle.journal_commands.specs.declared.outcome.JournalCommand.{JournalCommand}
-use Rattle.journal_commands.specs.declared.outcome.JournalCommand.TheVariants.{Replay, Upgrade}
+use Rattle.journal_commands.specs.declared.outcome.JournalCommand.TheVariants.{Replay, Upgrade, Audit}
 use Rattle.journal_commands.specs.declared.outcome.Outcome.{Outcome}
 use Rattle.journal_commands.specs.declared.outcome.Outcome.TheVariants as outcome
 use Rattle.status_lines.specs.Lines.{too_long_line}
@@ -40,16 +44,22 @@ replay_ending s events replay.Whole =
 abbrev pub line_of : Refusal → List ℕ
 line_of (refusal.Script fault) = fault_line fault
 line_of (refusal.Journal entry reason) = entry_line entry reason
+line_of (refusal.Stream item) = item_line item
+
+-- a script, and the journal behind it in lines or frames
+abbrev pub input_in : Notation → List ℕ → Result (Script × List Event) Refusal
+input_in Lines input = input_of input
+input_in Frames input = framed_input_of input
 
 abbrev pub replayed : Result (Script × List Event) Refusal → Ending
 replayed (Ok both) = replay_ending both.0 both.1 (replay_end both.0 both.1)
 replayed (Err why) = RefusedBy (line_of why)
 
--- ---- upgrade
+-- ---- upgrade and audit
 
-abbrev pub upgraded_to : Result (List ℕ) Refusal → Ending
-upgraded_to (Ok text) = Told text
-upgraded_to (Err why) = RefusedBy (line_of why)
+abbrev pub text_ending : Result (List ℕ) Refusal → Ending
+text_ending (Ok text) = Told text
+text_ending (Err why) = RefusedBy (line_of why)
 
 -- ---- an input of at most 512 MiB
 
@@ -57,8 +67,9 @@ abbrev pub most_journal_input : ℕ
 most_journal_input = 2 ^ 29
 
 abbrev pub ending_in : JournalCommand → List ℕ → Ending
-ending_in Replay input = replayed (input_of input)
-ending_in Upgrade input = upgraded_to (upgraded_text input)
+ending_in (Replay notation) input = replayed (input_in notation input)
+ending_in Upgrade input = text_ending (upgraded_text input)
+ending_in (Audit notation) input = text_ending (audited_text notation input)
 
 abbrev pub ending_of : JournalCommand → List ℕ → Ending
 ending_of command input =

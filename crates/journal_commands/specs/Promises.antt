@@ -1,4 +1,4 @@
--- What is promised of a journal that is replayed, and of a script that is upgraded.
+-- What is promised of a journal that is replayed, of a script that is upgraded, and of a recorded stream that is judged.
 use Rattle.std.specs.Prelude.{◌≡◌, ℕ, ◌+◌, true, false, not, ◌&&◌, List, length, None, Some, Ok}
 use Rattle.dpc_model.specs.ScriptText.{upgraded}
 use Rattle.dpc_model.specs.declared.messages.Event.{Event}
@@ -13,10 +13,11 @@ use Rattle.law_schedules.specs.Journals.{phases_in}
 use Rattle.law_healing.specs.Healing.{heals}
 use Rattle.report.specs.Text.{report_text}
 use Rattle.journal_inputs.specs.Parts.{script_part}
-use Rattle.journal_inputs.specs.Inputs.{input_of}
-use Rattle.journal_commands.specs.Endings.{replay_ending}
+use Rattle.audit_core.specs.declared.verdict.Verdict.{Verdict}
+use Rattle.stream_audits.specs.Judging.{IsJudged, judged_input}
+use Rattle.journal_commands.specs.Endings.{input_in, replay_ending}
 use Rattle.journal_commands.specs.declared.outcome.JournalCommand.{JournalCommand}
-use Rattle.journal_commands.specs.declared.outcome.JournalCommand.TheVariants.{Replay, Upgrade}
+use Rattle.journal_commands.specs.declared.outcome.JournalCommand.TheVariants.{Replay, Upgrade, Audit}
 
 -- the run is safe in all its parts, and passes no limit; its journal is live to its end; behind settle a client that is not settled had
 -- all quiet phases, and there is none where the run is steady and its quiet phases open well, as they do where the script heals
@@ -38,5 +39,6 @@ pub record IsSameRun (s : Script) : Type 0 where
 
 -- what holds of an input that was answered
 abbrev pub Holds : JournalCommand → List ℕ → Type 0
-Holds Replay input = (s : Script) (events : List Event) → input_of input ≡ Ok (s, events) → replay_end s events ≡ Whole → IsGoodRun s events
+Holds (Replay notation) input = (s : Script) (events : List Event) → input_in notation input ≡ Ok (s, events) → replay_end s events ≡ Whole → IsGoodRun s events
 Holds Upgrade input = (s : Script) → read (script_part input) ≡ Some s → IsSameRun s
+Holds (Audit notation) input = (v : Verdict) → judged_input notation input ≡ Ok v → IsJudged notation input v

@@ -1,8 +1,8 @@
-//! What the commands on a script and the journal behind it come to.
+//! What the commands on a script and what stands behind it come to.
 #![tactic(auto)]
 
 mod answering;
 pub mod laws;
 pub mod outcome;
 
-pub use answering::{answer, report};
+pub use answering::{answer, framed_report, report};

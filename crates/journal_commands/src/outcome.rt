@@ -1,12 +1,15 @@
-//! What a command on a script and a journal comes to.
+//! What a command on a script and what stands behind it comes to.
+use input_parts::notation::Notation;
 
-/// What is done with a script and the journal behind it.
+/// What is done with a script and what stands behind it.
 #[derive(Clone, Copy, PartialEq, Eq, Debug)]
 pub enum JournalCommand {
     /// Writes the report of the journal's run.
-    Replay,
+    Replay(Notation),
     /// Writes both in their newest form.
     Upgrade,
+    /// Writes the verdict on the recorded stream.
+    Audit(Notation),
 }
 
 /// What is to be written.

@@ -19,7 +19,7 @@ use Rattle.journal_inputs.specs.Upgrades.{IsOldScript, IsUpgradeOf, IsUpgrade}
 
 -- ---- one step behind another
 
-ok_is : {X : Type 0} (x y : X) → ◌≡◌ {A = Result X Refusal} (Ok x) (Ok y) → x ≡ y
+pub ok_is : {X : Type 0} (x y : X) → ◌≡◌ {A = Result X Refusal} (Ok x) (Ok y) → x ≡ y
 ok_is x y h = cc
 
 refusal_is : {X : Type 0} (v w : Refusal) → ◌≡◌ {A = Result X Refusal} (Err v) (Err w) → v ≡ w
@@ -28,7 +28,7 @@ refusal_is v w h = cc
 fault_is : (v w : PlanFault) → InScript v ≡ InScript w → v ≡ w
 fault_is v w h = cc
 
-taken : {X Y : Type 0} (r : Result X Refusal) (f : X → Result Y Refusal) (y : Y) → and_then r f ≡ Ok y → (x : X) × (r ≡ Ok x) × (f x ≡ Ok y)
+pub taken : {X Y : Type 0} (r : Result X Refusal) (f : X → Result Y Refusal) (y : Y) → and_then r f ≡ Ok y → (x : X) × (r ≡ Ok x) × (f x ≡ Ok y)
 taken (Ok x) f y h = (x, refl, h)
 taken (Err why) f y h = absurd cc
 
@@ -38,7 +38,7 @@ not_taken (Err w) f why h = inl (ap (λ v. Err v) (refusal_is w why h))
 
 -- ---- a part or its refusal
 
-script_is : (r : Result Script PlanFault) (s : Script) → script_or_refusal r ≡ Ok s → whole.script_in r ≡ Some s
+pub script_is : (r : Result Script PlanFault) (s : Script) → script_or_refusal r ≡ Ok s → whole.script_in r ≡ Some s
 script_is (Ok q) s h = ap Some (ok_is q s h)
 script_is (Err fault) s h = absurd cc
 
@@ -50,7 +50,7 @@ script_never : (r : Result Script PlanFault) (entry reason : ℕ) → script_or_
 script_never (Ok s) entry reason h = absurd cc
 script_never (Err own) entry reason h = absurd cc
 
-journal_is : (r : Result (List Event) (ℕ × ℕ)) (events : List Event) → journal_or_refusal r ≡ Ok events → r ≡ Ok events
+pub journal_is : (r : Result (List Event) (ℕ × ℕ)) (events : List Event) → journal_or_refusal r ≡ Ok events → r ≡ Ok events
 journal_is (Ok own) events h = ap (λ l. Ok l) (ok_is own events h)
 journal_is (Err why) events h = absurd cc
 

@@ -1,5 +1,5 @@
-pub mod Places
 pub mod Refused
 pub mod ByParts
-pub mod Beside
 pub mod ReadBack
+pub mod FramedParts
+pub mod FramedBack

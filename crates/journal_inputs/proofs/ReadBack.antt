@@ -29,7 +29,8 @@ use Rattle.journal_text.proofs.Reprinted.{is_printed}
 use Rattle.journal_inputs.specs.Parts.{begins_journal, script_part, journal_part}
 use Rattle.journal_inputs.specs.Inputs.{script_or_refusal, journal_or_refusal, script_in, journal_in, with_journal, and_then, input_of, upgraded_text, upgraded_with}
 use Rattle.journal_inputs.specs.Upgrades.{IsUpgradeOf}
-use Rattle.journal_inputs.proofs.Beside.{script_has_no_journal, are_parts}
+use Rattle.input_parts.proofs.Beside.{script_has_none, are_parts}
+use Rattle.input_parts.proofs.Keys.{journal_apart}
 use Rattle.journal_inputs.proofs.ByParts.{is_upgrade}
 
 -- ---- a text that is a journal begins one
@@ -83,7 +84,7 @@ journal_begins plan text events h = by_first (lines_of text) refl (sym (by_lines
 
 -- ---- both, one behind the other
 
-script_at_hand : (r : Result Script PlanFault) (s : Script) → whole.script_in r ≡ Some s → script_or_refusal r ≡ Ok s
+pub script_at_hand : (r : Result Script PlanFault) (s : Script) → whole.script_in r ≡ Some s → script_or_refusal r ≡ Ok s
 script_at_hand (Ok q) s h = let same : q ≡ s = cc in ap (λ x. Ok x) same
 script_at_hand (Err fault) s h = absurd cc
 
@@ -91,7 +92,7 @@ pub both_read : (front script journal : List ℕ) (s : Script) (events : List Ev
 unfolding input_of
 both_read front script journal s events e is journal_is =
     let begins = journal_begins s.plan journal events journal_is in
-    let parts = are_parts front script journal begins.line begins.rest e (script_has_no_journal script s is) begins.are begins.is in
+    let parts = are_parts (codes "journal") front script journal begins.line begins.rest e (script_has_none (codes "journal") journal_apart script s is) begins.are begins.is in
     let first : script_in (script_part (script ++ journal)) ≡ Ok s = ap script_in parts.script_is ∙ script_at_hand (reading script) s is in
     ap (λ r. and_then r (λ s. with_journal s (journal_in s.plan (unwrap_or (journal_part (script ++ journal)) [])))) first
     ∙ ap (λ o. with_journal s (journal_in s.plan (unwrap_or o []))) parts.journal_is

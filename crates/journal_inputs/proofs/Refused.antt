@@ -11,18 +11,18 @@ use Rattle.journal_inputs.specs.declared.faults.InputFault.TheVariants.{NoMemory
 use Rattle.journal_inputs.specs.Parts.{script_part, journal_part}
 use Rattle.journal_inputs.specs.Inputs.{and_then, Answers, IsScript, IsJournal, IsInput, IsText, script_in, journal_in, with_journal, input_of, newest_fault, older, upgraded_with, upgraded_behind, upgraded_parts, upgraded_text}
 
-handed_on : {X Y U V : Type 0} (view : Y → X) (seen : V → U) (is : Result X Refusal) (f : X → Result U Refusal) (fault : InputFault) →
+pub handed_on : {X Y U V : Type 0} (view : Y → X) (seen : V → U) (is : Result X Refusal) (f : X → Result U Refusal) (fault : InputFault) →
     Answers view is (Err fault) → Answers seen (and_then is f) (Err fault)
 handed_on view seen is f NoMemory h = h
 handed_on view seen is f (Refused why) h = ap (λ r. and_then r f) h
 
-abbrev script_view : Script → Script
+abbrev pub script_view : Script → Script
 script_view s = s
 
-abbrev journal_view : Vec Event Global → List Event
+abbrev pub journal_view : Vec Event Global → List Event
 journal_view v = v.items
 
-abbrev input_view : Script × Vec Event Global → Script × List Event
+abbrev pub input_view : Script × Vec Event Global → Script × List Event
 input_view x = (x.0, x.1.items)
 
 abbrev text_view : Vec ℕ Global → List ℕ

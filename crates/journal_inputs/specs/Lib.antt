@@ -1,3 +1,4 @@
 pub mod Parts
 pub mod Inputs
 pub mod Upgrades
+pub mod Framed

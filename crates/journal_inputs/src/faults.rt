@@ -9,6 +9,8 @@ pub enum Refusal {
     Script(PlanFault),
     /// The number of entries in front of the journal's refused line, and the reason.
     Journal(u64, u64),
+    /// The number of items in front of the first place of a recorded stream where none may stand, or has a reading.
+    Stream(u64),
 }
 
 /// Why an input was not taken.

@@ -1,5 +1,5 @@
 //! What inputs and upgraded texts are, by their parts.
-ghost use Rattle.std.specs.Prelude.{◌≡◌, ◌⊎◌, ◌∷◌, [], ◌++◌, ◌≤◌, ◌<◌, ◌^◌, ℕ, true, List, None, Some, length, Ok, Err, unwrap_or};
+ghost use Rattle.std.specs.Prelude.{◌≡◌, ◌⊎◌, ◌∷◌, [], ◌++◌, ◌≤◌, ◌<◌, ◌^◌, ℕ, true, List, None, Some, length, Ok, Err, codes, unwrap_or};
 ghost use Rattle.dpc_lists.specs.Lists.{list_all};
 ghost use Rattle.dpc_model.specs.ScriptText.{script_text, upgraded};
 ghost use Rattle.dpc_model.specs.declared.messages.Event.{Event};
@@ -9,6 +9,10 @@ ghost use Rattle.script_rules.specs.Reading.{read, refusal};
 ghost use Rattle.script_rules.specs.declared.reasons.PlanFault.{PlanFault};
 ghost use Rattle.journal_text.specs.Entries.{is_named, has_small_numbers};
 ghost use Rattle.journal_text.specs.Journals.{journal_text, journal_of};
+ghost use Rattle.input_parts.specs.Parts.{part_before, part_from};
+ghost use Rattle.stream_codec.specs.Frames.{is_in_range};
+ghost use Rattle.stream_codec.specs.declared.frames.Frame.TheVariants as frame;
+ghost use Rattle.journal_inputs.specs.Framed.{framed_journal, framed_input_of, framed_text};
 ghost use Rattle.journal_inputs.specs.Parts.{script_part, journal_part};
 ghost use Rattle.journal_inputs.specs.Inputs.{input_of, upgraded_text, newest_fault};
 ghost use Rattle.journal_inputs.specs.Upgrades.{IsOldScript, IsUpgrade};
@@ -35,6 +39,22 @@ pub fn a_refused_input_has_a_refused_part()
 pub fn a_script_and_its_journal_are_an_input()
     ensures { (front script journal : List ℕ) (s : Script) (events : List Event) → script ≡ front ++ 10 ∷ []
         → read script ≡ Some s → journal_of s.plan journal ≡ Ok events → input_of (script ++ journal) ≡ Ok (s, events) }
+{}
+
+/// So it is of an input whose journal is in frames.
+pub fn an_input_in_frames_is_a_script_and_its_journal()
+    ensures script { (bytes : List ℕ) (s : Script) (events : List Event) → framed_input_of bytes ≡ Ok (s, events)
+        → read (part_before (codes "frames") bytes) ≡ Some s }
+    ensures journal { (bytes : List ℕ) (s : Script) (events : List Event) → framed_input_of bytes ≡ Ok (s, events)
+        → framed_journal (part_from (codes "frames") bytes) ≡ Ok events }
+{}
+
+/// And a text that is read as a script and ends with a line feed, the line `frames`, and the frames of entries in range are such an
+/// input together.
+pub fn a_script_and_frames_are_an_input()
+    ensures { (front script : List ℕ) (s : Script) (events : List Event) → script ≡ front ++ 10 ∷ [] → read script ≡ Some s
+        → list_all (λ e. is_in_range (frame.Entry e)) events ≡ true
+        → framed_input_of (script ++ framed_text events) ≡ Ok (s, events) }
 {}
 
 /// So what is printed of a checked script and of a journal with its end is read back as both.

@@ -2,11 +2,11 @@
 #![tactic(auto)]
 
 pub mod faults;
+mod framed;
 pub mod laws;
 mod reading;
-mod splitting;
 mod upgrading;
 
-pub use reading::read_both;
-pub use splitting::split_input;
+pub use framed::read_framed;
+pub use reading::{read_both, script_in};
 pub use upgrading::upgrade_text;

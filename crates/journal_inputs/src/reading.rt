@@ -3,12 +3,12 @@ ghost use Rattle.std.specs.Prelude.{◌≡◌};
 ghost use Rattle.journal_inputs.specs.Inputs as spec;
 
 use crate::faults::{InputFault, Refusal};
-use crate::splitting::split_input;
 use diagram_reader::faults::ScriptFault;
 use diagram_reader::read_script;
 use dpc_model::messages::Event;
 use dpc_model::plans::Plan;
 use dpc_model::scripts::Script;
+use input_parts::split_input;
 use journal_text::faults::JournalFault;
 use journal_text::read_journal;
 use std::alloc::Global;
@@ -59,7 +59,7 @@ fn with_journal(
 pub fn read_both(alloc: Global, text: &[u8]) -> Result<(Script, Vec<Event>), InputFault>
     ensures { spec.IsInput (spec.input_of text.now) result }
 {
-    let (script, journal) = split_input(text);
+    let (script, journal) = split_input(text, b"journal");
     match script_in(alloc, script) {
         Ok(script) => match journal {
             Some(journal) => with_journal(alloc, script, journal),

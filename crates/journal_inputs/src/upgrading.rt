@@ -4,11 +4,11 @@ ghost use Rattle.journal_inputs.specs.Inputs as spec;
 
 use crate::faults::{InputFault, Refusal};
 use crate::reading::{journal_in, script_in};
-use crate::splitting::split_input;
 use diagram_printer::{print_script, upgrade};
 use dpc_lists::faults::NoMemory;
 use dpc_model::messages::Event;
 use dpc_model::scripts::Script;
+use input_parts::split_input;
 use journal_text::print_journal;
 use script_rules::reasons::{PlanFault, Reason};
 use std::alloc::Global;
@@ -71,7 +71,7 @@ fn upgraded_alone(alloc: Global, script: Script) -> Result<Vec<u8>, InputFault>
 pub fn upgrade_text(alloc: Global, text: &[u8]) -> Result<Vec<u8>, InputFault>
     ensures { spec.IsText (spec.upgraded_text text.now) result }
 {
-    let (script, journal) = split_input(text);
+    let (script, journal) = split_input(text, b"journal");
     let script = match older_script_in(alloc, script) {
         Ok(script) => script,
         Err(fault) => return Err(fault),

@@ -1,2 +1,4 @@
 pub mod Printable
 pub mod PrintedInputs
+pub mod Ranged
+pub mod FramedInputs

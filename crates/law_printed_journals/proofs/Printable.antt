@@ -22,7 +22,7 @@ use Rattle.journal_text.specs.Entries.{is_named, has_small_numbers}
 use Rattle.journal_text.specs.declared.sorts.Sort.TheVariants.{Source, Node, Any}
 
 -- what holds of each element behind those before it holds of all
-each-of : {X : Type 0} (test : X → Bool) (xs : List X) →
+pub each-of : {X : Type 0} (test : X → Bool) (xs : List X) →
     ((before : List X) (x : X) (rest : List X) → xs ≡ before ++ x ∷ rest → test x ≡ true) → list_all test xs ≡ true
 each-of test [] h = refl
 each-of {X = X} test (x ∷ xs) h =
@@ -98,7 +98,7 @@ entries-named script events checked live = each-of (is_named script.plan) events
 -- ---- numbers of 64 bits
 
 -- entries before others pass no limit where all pass none
-within-before : (w : World) (es fs : List Event) → excess_from w (es ++ fs) ≡ None → excess_from w es ≡ None
+pub within-before : (w : World) (es fs : List Event) → excess_from w (es ++ fs) ≡ None → excess_from w es ≡ None
 within-before w [] fs h = refl
 within-before w (e ∷ es) fs h =
     (elim (passes_limit w e) as (λ b. cond b (Some (sums_after w e)) (excess_from (happens w e) (es ++ fs)) ≡ None →

@@ -28,7 +28,8 @@ use Rattle.journal_inputs.specs.Parts.{begins_journal}
 use Rattle.journal_inputs.specs.Inputs.{script_or_refusal, journal_or_refusal, with_journal, input_of}
 use Rattle.journal_inputs.specs.declared.faults.Refusal.TheVariants as refused
 use Rattle.journal_inputs.specs.declared.faults.InputFault.TheVariants.{Refused}
-use Rattle.journal_inputs.proofs.Beside.{script_has_no_journal, lines_behind, are_parts}
+use Rattle.input_parts.proofs.Beside.{script_has_none, lines_behind, are_parts}
+use Rattle.input_parts.proofs.Keys.{journal_apart}
 use Rattle.journal_inputs.proofs.Refused.{input_with_journal}
 use Rattle.journal_inputs.proofs.ReadBack.{both_read}
 use Rattle.law_printed_journals.proofs.Printable.{entries-named, entries-small}
@@ -101,7 +102,7 @@ module _ (front text : List ℕ) (script : Script) (events : List Event) (ends :
       let line = spaced (first_words script.plan (length events)) in
       let first = first-line script.plan events false low in
       let begins = begins-so script.plan (length events) low in
-      let parts = are_parts front text journal line first.0 ends (script_has_no_journal text script is) first.1 begins in
+      let parts = are_parts (codes "journal") front text journal line first.0 ends (script_has_none (codes "journal") journal_apart text script is) first.1 begins in
       input_with_journal (text ++ journal) text journal script (Err (Refused (refused.Journal (length events) 3))) (sym parts.script_is)
       (script-at-hand (reading text) script is) parts.journal_is (ap (λ r. with_journal script (journal_or_refusal r)) fault)
 

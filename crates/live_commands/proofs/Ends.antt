@@ -9,11 +9,13 @@ use Rattle.diagram_reader.specs.declared.faults.ScriptFault.{ScriptFault}
 use Rattle.diagram_reader.specs.declared.faults.ScriptFault.TheVariants.{Refused as RefusedBy}
 use Rattle.status_lines.specs.Lines.{too_long_line}
 use Rattle.law_fit.specs.Fits.{CanRun}
+use Rattle.law_printed_journals.proofs.FramedInputs.{framed-input}
 use Rattle.law_printed_journals.proofs.PrintedInputs.{printed-input, replay-whole}
 use Rattle.law_schedules.proofs.Journals.{live-far}
 use Rattle.law_safety.proofs.Law.{run-safe}
 use Rattle.law_scripts.proofs.ReadChecked.{reads_checked}
 use Rattle.world_model.specs.Worlds.{Sums}
+use Rattle.input_parts.specs.declared.notation.Notation.{Notation}
 use Rattle.journal_commands.proofs.Promised.{good-run, read-can-run}
 use Rattle.node_threads.specs.declared.stop.Stop.{Stop}
 use Rattle.node_threads.specs.Lives.{IsLiveRun, IsStopped}
@@ -34,7 +36,10 @@ ended text s events is h =
     let can = read-can-run text s is in (
       is,
       good-run s events can (reads_checked text s is) (replay-whole s events h.live h.within),
-      λ front same. printed-input front text s events same is (live-far s events h.live) h.within h.short,
+      λ front same. (
+        printed-input front text s events same is (live-far s events h.live) h.within h.short,
+        framed-input front text s events same is (live-far s events h.live) h.within h.short,
+      ),
     )
 
 -- so does one that would pass a limit
@@ -44,26 +49,26 @@ stopped text s events e reached is h = (
   record { safe = run-safe s.plan events (read-can-run text s is).checked; stopped = h },
 )
 
-pub can-end : (text : List ℕ) (s : Script) (o : Outcome) → reading text ≡ Ok s → EndsSo s o → (ending : Ending) × CanEnd text ending × IsEnding ending o
-can-end text s (outcome.Text t) is (events, h, e) = (Whole s events, ended text s events (ap script_in is) h, e)
-can-end text s (outcome.Open t) is (events, h, e) = (Whole s events, ended text s events (ap script_in is) h, e)
-can-end text s (outcome.TooLong entries line) is (events, e, reached, h, told) =
+pub can-end : (notation : Notation) (text : List ℕ) (s : Script) (o : Outcome) → reading text ≡ Ok s → EndsSo notation s o → (ending : Ending) × CanEnd text ending × IsEnding notation ending o
+can-end notation text s (outcome.Text t) is (events, h, e) = (Whole s events, ended text s events (ap script_in is) h, e)
+can-end notation text s (outcome.Open t) is (events, h, e) = (Whole s events, ended text s events (ap script_in is) h, e)
+can-end notation text s (outcome.TooLong entries line) is (events, e, reached, h, told) =
     (Stopped s events e reached, stopped text s events e reached (ap script_in is) h, told)
-can-end text s (outcome.Refused line) is h = absurd h
+can-end notation text s (outcome.Refused line) is h = absurd h
 
 -- ---- a world
 
 -- what is told of the world of a whole run is told of that run
-pub whole-ends : (s : Script) (w : RunOf) (o : Outcome) → IsLiveRun s w → length w.events < 2 ^ 62 →
-    IsToldOf (s.settle && not (all_settled (world_of w))) (journal_and_report w.plan w.events) o → EndsSo s o
-whole-ends s w (outcome.Text t) run short told =
+pub whole-ends : (notation : Notation) (s : Script) (w : RunOf) (o : Outcome) → IsLiveRun s w → length w.events < 2 ^ 62 →
+    IsToldOf (s.settle && not (all_settled (world_of w))) (journal_and_report notation w.plan w.events) o → EndsSo notation s o
+whole-ends notation s w (outcome.Text t) run short told =
     let same = run.plan in
     (w.events, record { live = run.live; within = run.within; short = short }, rw same at told)
-whole-ends s w (outcome.Open t) run short told =
+whole-ends notation s w (outcome.Open t) run short told =
     let same = run.plan in
     (w.events, record { live = run.live; within = run.within; short = short }, rw same at told)
-whole-ends s w (outcome.TooLong entries line) run short told = absurd told
-whole-ends s w (outcome.Refused line) run short told = absurd told
+whole-ends notation s w (outcome.TooLong entries line) run short told = absurd told
+whole-ends notation s w (outcome.Refused line) run short told = absurd told
 
 -- and so of one that is stopped
 pub stopped-is : (s : Script) (w : RunOf) (stop : Stop) → IsStopped s w stop →
@@ -71,11 +76,11 @@ pub stopped-is : (s : Script) (w : RunOf) (stop : Stop) → IsStopped s w stop �
 stopped-is s w stop h =
     record { so_far = h.so_far; within = h.within; may_come = h.may_come; reaches = rw h.plan at h.reaches }
 
-pub stopped-ends : (s : Script) (w : RunOf) (stop : Stop) (entries line : List ℕ) → IsStopped s w stop → entries ≡ journal_upto w.plan w.events stop.event →
+pub stopped-ends : (notation : Notation) (s : Script) (w : RunOf) (stop : Stop) (entries line : List ℕ) → IsStopped s w stop → entries ≡ journal_upto notation w.plan w.events stop.event →
     line ≡ too_long_line (record { envelopes = stop.envelopes; items = stop.items }) →
-    (events : List Event) × (e : Event) × (reached : Sums) × HasStopped s events e reached × ((entries ≡ journal_upto s.plan events e) × (line ≡ too_long_line reached))
-stopped-ends s w stop entries line h text told =
-    let here : entries ≡ journal_upto s.plan w.events stop.event = rw h.plan at text in
+    (events : List Event) × (e : Event) × (reached : Sums) × HasStopped s events e reached × ((entries ≡ journal_upto notation s.plan events e) × (line ≡ too_long_line reached))
+stopped-ends notation s w stop entries line h text told =
+    let here : entries ≡ journal_upto notation s.plan w.events stop.event = rw h.plan at text in
     (w.events, stop.event, record { envelopes = stop.envelopes; items = stop.items }, stopped-is s w stop h, (here, told))
 
 -- ---- a text that is no script

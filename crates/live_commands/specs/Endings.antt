@@ -11,6 +11,11 @@ use Rattle.world_model.specs.Safe.{IsSafe}
 use Rattle.world_model.specs.Schedules.{may, is_live, is_live_so_far}
 use Rattle.report.specs.Text.{report_text}
 use Rattle.journal_text.specs.Journals.{journal_text}
+use Rattle.client_frames.specs.Framed.{report_frames}
+use Rattle.frame_lists.specs.Lists.{entry_frames}
+use Rattle.input_parts.specs.declared.notation.Notation.{Notation}
+use Rattle.input_parts.specs.declared.notation.Notation.TheVariants.{Lines, Frames}
+use Rattle.journal_inputs.specs.Framed.{framed_input_of, framed_text}
 use Rattle.journal_inputs.specs.Inputs.{input_of}
 use Rattle.journal_commands.specs.Promises.{IsGoodRun}
 use Rattle.live_commands.specs.declared.outcome.Outcome.{Outcome}
@@ -25,25 +30,27 @@ pub data Ending : Type 0 where
 
 -- ---- what is written
 
--- the journal with its end, and then the report of its run
-abbrev pub journal_and_report : Plan → List Event → List ℕ
-journal_and_report plan events = journal_text plan events true ++ report_text (run plan events)
+-- the journal with its end, and then the report of its run, both in lines or in frames
+abbrev pub journal_and_report : Notation → Plan → List Event → List ℕ
+journal_and_report Lines plan events = journal_text plan events true ++ report_text (run plan events)
+journal_and_report Frames plan events = entry_frames events ++ report_frames (run plan events)
 
 -- the journal without its end, whose last entry is the event that would pass a limit
-abbrev pub journal_upto : Plan → List Event → Event → List ℕ
-journal_upto plan events e = journal_text plan (events ++ e ∷ []) false
+abbrev pub journal_upto : Notation → Plan → List Event → Event → List ℕ
+journal_upto Lines plan events e = journal_text plan (events ++ e ∷ []) false
+journal_upto Frames plan events e = entry_frames (events ++ e ∷ [])
 
 abbrev pub leaves_open : Script → List Event → Bool
 leaves_open s events = s.settle && not (all_settled (run s.plan events))
 
 -- what code answers
-abbrev pub IsEnding : Ending → Outcome → Type 0
-IsEnding (Whole s events) (outcome.Text text) = (leaves_open s events ≡ false) × (text.items ≡ journal_and_report s.plan events)
-IsEnding (Whole s events) (outcome.Open text) = (leaves_open s events ≡ true) × (text.items ≡ journal_and_report s.plan events)
-IsEnding (Stopped s events e reached) (outcome.TooLong entries line) =
-    (entries.items ≡ journal_upto s.plan events e) × (line.items ≡ too_long_line reached)
-IsEnding (Refused fault) (outcome.Refused line) = line.items ≡ fault_line fault
-IsEnding _ _ = ⊥
+abbrev pub IsEnding : Notation → Ending → Outcome → Type 0
+IsEnding notation (Whole s events) (outcome.Text text) = (leaves_open s events ≡ false) × (text.items ≡ journal_and_report notation s.plan events)
+IsEnding notation (Whole s events) (outcome.Open text) = (leaves_open s events ≡ true) × (text.items ≡ journal_and_report notation s.plan events)
+IsEnding notation (Stopped s events e reached) (outcome.TooLong entries line) =
+    (entries.items ≡ journal_upto notation s.plan events e) × (line.items ≡ too_long_line reached)
+IsEnding notation (Refused fault) (outcome.Refused line) = line.items ≡ fault_line fault
+IsEnding notation _ _ = ⊥
 
 -- ---- what holds of it
 
@@ -59,10 +66,12 @@ pub record IsStoppedRun (s : Script) (events : List Event) (e : Event) (reached 
   pub safe : IsSafe s.plan events
   pub stopped : HasStopped s events e reached
 
--- the text of a script and behind it the journal as it is printed are an input that is read as both, where the script ends with a line feed:
--- so a replay of it comes to the same
+-- the text of a script and behind it the journal as it is printed, or the line `frames` and the journal in frames, are an input that is read
+-- as both, where the script ends with a line feed: so a replay of it comes to the same
 abbrev pub IsReadBack : List ℕ → Script → List Event → Type 0
-IsReadBack text s events = (front : List ℕ) → text ≡ front ++ 10 ∷ [] → input_of (text ++ journal_text s.plan events true) ≡ Ok (s, events)
+IsReadBack text s events =
+    (front : List ℕ) → text ≡ front ++ 10 ∷ [] →
+    (input_of (text ++ journal_text s.plan events true) ≡ Ok (s, events)) × (framed_input_of (text ++ framed_text events) ≡ Ok (s, events))
 
 -- which of them an input of a script comes to is up to the threads
 abbrev pub CanEnd : List ℕ → Ending → Type 0
@@ -79,12 +88,12 @@ pub record HasEnded (s : Script) (events : List Event) : Type 0 where
   pub short : length events < 2 ^ 62
 
 -- what code answers of a run of a script
-abbrev pub EndsSo : Script → Outcome → Type 0
-EndsSo s (outcome.Text text) = (events : List Event) × HasEnded s events × IsEnding (Whole s events) (outcome.Text text)
-EndsSo s (outcome.Open text) = (events : List Event) × HasEnded s events × IsEnding (Whole s events) (outcome.Open text)
-EndsSo s (outcome.TooLong entries line) =
-    (events : List Event) × (e : Event) × (reached : Sums) × HasStopped s events e reached × IsEnding (Stopped s events e reached) (outcome.TooLong entries line)
-EndsSo s (outcome.Refused line) = ⊥
+abbrev pub EndsSo : Notation → Script → Outcome → Type 0
+EndsSo notation s (outcome.Text text) = (events : List Event) × HasEnded s events × IsEnding notation (Whole s events) (outcome.Text text)
+EndsSo notation s (outcome.Open text) = (events : List Event) × HasEnded s events × IsEnding notation (Whole s events) (outcome.Open text)
+EndsSo notation s (outcome.TooLong entries line) =
+    (events : List Event) × (e : Event) × (reached : Sums) × HasStopped s events e reached × IsEnding notation (Stopped s events e reached) (outcome.TooLong entries line)
+EndsSo notation s (outcome.Refused line) = ⊥
 
 -- what it answers of a world
 abbrev pub IsToldOf : Bool → List ℕ → Outcome → Type 0

@@ -15,7 +15,9 @@ use dpc_edge::gate::Gate;
 use dpc_lists::faults::NoMemory;
 use dpc_model::messages::Event;
 use dpc_model::scripts::Script;
-use journal_commands::report;
+use frame_lists::writing::journal_frames;
+use input_parts::notation::Notation;
+use journal_commands::{framed_report, report};
 use journal_text::print_journal;
 use node_threads::faults::LiveFault;
 use node_threads::live::live;
@@ -29,11 +31,12 @@ use world_core::world::World;
 /// More events than any list of them has.
 const NO_SUCH_LENGTH: usize = 1 << 62;
 
-/// What a run by so many threads of the script in an input of at most 64 MiB comes to. The input is let go before
-/// the run. It may wait, so its promise holds if it returns.
+/// What a run by so many threads of the script in an input of at most 64 MiB comes to, told in lines or in frames.
+/// The input is let go before the run. It may wait, so its promise holds if it returns.
 pub fn answer<R: Threads + Wait + Sync, G: Gate + Sync>(
     rt: &R,
     alloc: Global,
+    notation: Notation,
     input: Vec<u8>,
     workers: u64,
     gate: &G,
@@ -41,12 +44,12 @@ pub fn answer<R: Threads + Wait + Sync, G: Gate + Sync>(
     requires long { vec_len input ≤ most_input }
     requires some { 1 ≤ workers }
     requires few { workers ≤ 16 }
-    ensures { IfOk result (λ outcome. (ending : Ending) × CanEnd input.items ending × IsEnding ending outcome) }
+    ensures { IfOk result (λ outcome. (ending : Ending) × CanEnd input.items ending × IsEnding notation ending outcome) }
 {
     let script = read_script(alloc, input.as_slice());
     drop(input);
     match script {
-        Ok(script) => run_answer(rt, alloc, script, workers, gate),
+        Ok(script) => run_answer(rt, alloc, notation, script, workers, gate),
         Err(why) => match why {
             ScriptFault::NoMemory => Err(NoMemory),
             ScriptFault::Refused(fault) => Ok(Outcome::Refused(fault_line(alloc, fault)?)),
@@ -58,6 +61,7 @@ pub fn answer<R: Threads + Wait + Sync, G: Gate + Sync>(
 fn run_answer<R: Threads + Wait + Sync, G: Gate + Sync>(
     rt: &R,
     alloc: Global,
+    notation: Notation,
     script: Script,
     workers: u64,
     gate: &G,
@@ -65,28 +69,33 @@ fn run_answer<R: Threads + Wait + Sync, G: Gate + Sync>(
     requires can { CanRun script.plan }
     requires some { 1 ≤ workers }
     requires few { workers ≤ 16 }
-    ensures { IfOk result (EndsSo script) }
+    ensures { IfOk result (EndsSo notation script) }
 {
     let settle = script.settle;
     match live(rt, alloc, script, workers, gate) {
-        Ok(world) => world_answer(alloc, settle, &world),
-        Err(LiveFault::TooLong(world, stop)) => stopped_answer(alloc, &world, stop),
+        Ok(world) => world_answer(alloc, notation, settle, &world),
+        Err(LiveFault::TooLong(world, stop)) => stopped_answer(alloc, notation, &world, stop),
         Err(LiveFault::NoMemory) => Err(NoMemory),
     }
 }
 
 /// The journal of a world and its report, and whether a client is left open behind `settle`.
-fn world_answer(alloc: Global, settle: bool, world: &World) -> Result<Outcome, NoMemory>
+fn world_answer(
+    alloc: Global,
+    notation: Notation,
+    settle: bool,
+    world: &World,
+) -> Result<Outcome, NoMemory>
     requires live { world.now.spent ≡ false }
     requires run { CanRun world.now.plan }
     ensures short { OnOk result (length world.now.events < 2 ^ 62) }
     ensures told { IfOk result (IsToldOf (settle && not (all_settled (world_of world.now)))
-        (journal_and_report world.now.plan world.now.events)) }
+        (journal_and_report notation world.now.plan world.now.events)) }
 {
     if world.journal().len() >= NO_SUCH_LENGTH {
         return Err(NoMemory);
     }
-    let text = whole_text(alloc, world)?;
+    let text = whole_text(alloc, notation, world)?;
     if settle && !world.settled() {
         Ok(Outcome::Open(text))
     } else {
@@ -95,30 +104,52 @@ fn world_answer(alloc: Global, settle: bool, world: &World) -> Result<Outcome, N
 }
 
 /// The journal of a world, and its report.
-fn whole_text(alloc: Global, world: &World) -> Result<Vec<u8>, NoMemory>
+fn whole_text(alloc: Global, notation: Notation, world: &World) -> Result<Vec<u8>, NoMemory>
     requires live { world.now.spent ≡ false }
     requires run { CanRun world.now.plan }
-    ensures { IfOk result (λ text. text.items ≡ journal_and_report world.now.plan world.now.events) }
+    ensures { IfOk result (λ text. text.items ≡ journal_and_report notation world.now.plan world.now.events) }
 {
-    let mut text = print_journal(alloc, world.plan(), world.journal(), true)?;
-    text.append(&mut report(alloc, world)?)?;
-    Ok(text)
+    match notation {
+        Notation::Lines => {
+            let mut text = print_journal(alloc, world.plan(), world.journal(), true)?;
+            text.append(&mut report(alloc, world)?)?;
+            Ok(text)
+        }
+        Notation::Frames => {
+            let mut bytes = journal_frames(alloc, world.journal())?;
+            bytes.append(&mut framed_report(alloc, world)?)?;
+            Ok(bytes)
+        }
+    }
 }
 
 /// The journal of a world up to an event that would pass a limit, and the line that says so.
-fn stopped_answer(alloc: Global, world: &World, stop: Stop) -> Result<Outcome, NoMemory>
-    ensures { IfOk result (λ outcome. (script : scripts.Script) → IsStopped script world.now stop → EndsSo script outcome) }
+fn stopped_answer(
+    alloc: Global,
+    notation: Notation,
+    world: &World,
+    stop: Stop,
+) -> Result<Outcome, NoMemory>
+    ensures { IfOk result (λ outcome. (script : scripts.Script) → IsStopped script world.now stop → EndsSo notation script outcome) }
 {
-    let entries = entries_upto(alloc, world, stop.event)?;
+    let entries = entries_upto(alloc, notation, world, stop.event)?;
     let line = too_long_line(alloc, stop.envelopes, stop.items)?;
     Ok(Outcome::TooLong { entries, line })
 }
 
 /// The journal of a world and an event behind it, without its end.
-fn entries_upto(alloc: Global, world: &World, last: Event) -> Result<Vec<u8>, NoMemory>
-    ensures { IfOk result (λ text. text.items ≡ journal_upto world.now.plan world.now.events last) }
+fn entries_upto(
+    alloc: Global,
+    notation: Notation,
+    world: &World,
+    last: Event,
+) -> Result<Vec<u8>, NoMemory>
+    ensures { IfOk result (λ text. text.items ≡ journal_upto notation world.now.plan world.now.events last) }
 {
     let mut events = world.journal().to_vec(alloc)?;
     events.push(last)?;
-    print_journal(alloc, world.plan(), events.as_slice(), false)
+    match notation {
+        Notation::Lines => print_journal(alloc, world.plan(), events.as_slice(), false),
+        Notation::Frames => journal_frames(alloc, events.as_slice()),
+    }
 }

@@ -1,6 +1,6 @@
 -- What stands behind the lock may cross threads.
 use denote.RattleType.{RattleType}
-use denote.Param.Send.{IsSend, AllSend, sendable, struct_send}
+use denote.Param.Send.{IsSend, IsSync, AllSend, sendable, struct_send}
 use denote.Struct.Declared.{shape}
 use denote.Struct.Struct.{Struct}
 use denote.Enum.Declared.{shape as cases}
@@ -10,6 +10,9 @@ use Rattle.std.proofs.MapsCrossing as maps
 use Rattle.dpc_model.proofs.Crossing.{expression-sends, operator-sends, plan-sends}
 use Rattle.dpc_model.specs.contracts.plans.Plan as Plan
 use Rattle.ops_join.specs.contracts.join.Join as Join
+use Rattle.ops_window.specs.contracts.totals.Totals as Totals
+use Rattle.ops_window.specs.contracts.pane.Pane as Pane
+use Rattle.ops_window.specs.contracts.cell_map.Cells as Cells
 use Rattle.ops_window.specs.contracts.aggregate.Aggregate as Aggregate
 use Rattle.ops_stateless.specs.contracts.filter.Filter as Filter
 use Rattle.ops_stateless.specs.contracts.map.MapOp as MapOp
@@ -35,8 +38,21 @@ use Rattle.std.proofs.sync.ledger.Book.TheSendSync as book
 use Rattle.event_shares.specs.declared.names.RunName as names
 use Rattle.node_threads.specs.contracts.hall.Hall as Hall
 
+totals-send : IsSend Totals.the_row
+totals-send = search (sendable, crosses) depth 60 fits 20000
+
+totals-sync : IsSync Totals.the_row
+totals-sync = search (sendable, crosses) depth 60 fits 20000
+
+-- panes are shared, so that their totals must bear to be read by several threads
+pane-sends : IsSend Pane.the_row
+pane-sends = search (totals-send, totals-sync, sendable, crosses, maps.crosses) depth 60 fits 20000
+
+cells-send : IsSend Cells.the_row
+cells-send = search (pane-sends, sendable, crosses, maps.crosses) depth 60 fits 20000
+
 aggregate-sends : IsSend Aggregate.the_row
-aggregate-sends = search (sendable, crosses, maps.crosses) depth 60 fits 20000
+aggregate-sends = search (cells-send, sendable, crosses, maps.crosses) depth 60 fits 20000
 
 join-sends : IsSend Join.the_row
 join-sends = search (sendable, crosses) depth 60 fits 20000

@@ -11,5 +11,6 @@ pub mod Reach
 pub mod Panes
 pub mod Step
 pub mod Standing
+mod Flat
 mod Kept
 pub mod Walk

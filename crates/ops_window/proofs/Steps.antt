@@ -2,19 +2,12 @@
 use Rattle.std.proofs.Common.{◌≡◌, ◌↔◌, ℕ, zero, suc, ◌+◌, ◌-◌, ◌*◌, ◌<◌, ◌≤◌, min, true, false, List, [], ◌∷◌, ◌++◌, length, take, drop, get_or, set, refl, sym, ◌∙◌, ap, arith, ℤ, ◌==◌, ◌&&◌, int_eq, add-one}
 use Rattle.std.proofs.lemmas.List.{take-append-drop, append_assoc}
 use Rattle.std.proofs.lemmas.Cmp.{nat_cmp_total, int_cmp_total, on_total, then_total}
-use Rattle.std.proofs.lemmas.Map.Keys.{sorted_head, sorted_tail}
 use Rattle.std.proofs.lemmas.Bool.{and_parts, eqb-true}
 use Rattle.std.proofs.lemmas.Bool.Decides.{Decides-int_eq}
 use Rattle.std.proofs.lemmas.Slice.Eq.{slice_eq-Decides}
 use Rattle.std.specs.Cmp.Lexicographic.{pointwise}
 use Rattle.std.specs.Cmp.{IsTotalOrder}
-use Rattle.std.specs.List.{fold, range_with_len, AllByRecursion}
-use Rattle.std.specs.List.Sorted.{IsStrictlySortedBy}
-use Rattle.std.specs.declared.cmp.Ordering.{Ordering}
-use Rattle.std.specs.declared.cmp.Ordering.TheVariants.{Less, Greater}
-use Rattle.std.specs.Ordering.{ordering_reverse}
-use Rattle.std.specs.Map.{keys_of}
-use Rattle.std.specs.BTreeMap.{insert_entry}
+use Rattle.std.specs.List.{fold, range_with_len}
 use Rattle.dpc_model.specs.declared.tuples.Tuple.{Tuple}
 use Rattle.dpc_model.specs.declared.operators.Agg.{Agg}
 use Rattle.ops_window.specs.Windows.{Cell}
@@ -105,24 +98,6 @@ fold-range_more f b a n h =
     let last : a + (n - a) ≡ n = omega arith in
     rw (count, range-more a (n - a), last) (fold-push f b (range_with_len a (n - a)) n)
 
--- ---- maps, one entry after the other
-
-pub greater : {K : Type 0} {R : K → K → Ordering} (o : IsTotalOrder R) (x y : K) → R x y ≡ Less → R y x ≡ Greater
-greater o x y e = o.antisymm y x ∙ ap ordering_reverse e
-
-module _ {K X : Type 0} {R : K → K → Ordering} (o : IsTotalOrder R) where
-  head_less : (k : K) (xs : List (K × X)) (e : K × X) (rest : List (K × X)) → AllByRecursion (λ y. R k y ≡ Less) (keys_of (xs ++ e ∷ rest)) → R k e.0 ≡ Less
-  head_less k [] e rest h = h.0
-  head_less k (x ∷ xs) e rest h = head_less k xs e rest h.1
-
-  -- an entry whose key is greater than all is put last
-  pub insert_entry-last : (xs : List (K × X)) (k : K) (v : X) (rest : List (K × X)) → IsStrictlySortedBy R (keys_of (xs ++ (k, v) ∷ rest)) →
-      insert_entry R xs k v ≡ xs ++ (k, v) ∷ []
-  insert_entry-last [] k v rest s = refl
-  insert_entry-last (x ∷ xs) k v rest s =
-      let after = greater o x.0 k (head_less x.0 xs (k, v) rest (sorted_head R x.0 (keys_of (xs ++ (k, v) ∷ rest)) s)) in
-      rw after (ap (λ es. x ∷ es) (insert_entry-last xs k v rest (sorted_tail R x.0 (keys_of (xs ++ (k, v) ∷ rest)) s)))
-
 -- ---- two lists of cells, one cell after the other
 
 same_keys : (j k : ℕ × ℤ) → true ≡ ((j.0 == k.0) && int_eq j.1 k.1) → j ≡ k
@@ -178,12 +153,3 @@ row-more front vals vals' i aggs zs a z v h k pushed value before =
     ∙ rw (before, value) (append_assoc front (finished_totals (take i aggs) (take i zs)) (finished (get_or aggs i a) (get_or zs i z) ∷ []))
     ∙ ap (λ (ys : List ℤ). front ++ ys) (sym (finished_totals-more i aggs zs a z h k))
     ∙ rw add-one refl
-
--- one cell more in a copy
-pub copied-more : (cells copies copies' rest rest' : List Cell) (key : ℕ × ℤ) (totals totals' : List ℤ) →
-    copies ++ rest ≡ cells → rest ≡ (key, totals) ∷ rest' → copies' ≡ insert_entry cell_cmp copies key totals' → totals' ≡ totals →
-    IsStrictlySortedBy cell_cmp (keys_of cells) → copies' ++ rest' ≡ cells
-copied-more cells copies copies' rest rest' key totals totals' whole first inserted same sorted =
-    let parts : copies ++ (key, totals) ∷ rest' ≡ cells = rw (← first) whole in
-    let order : IsStrictlySortedBy cell_cmp (keys_of (copies ++ (key, totals) ∷ rest')) = rw parts sorted in
-    rw (inserted, same, insert_entry-last cell_cmp_total copies key totals rest' order) (append_assoc copies ((key, totals) ∷ []) rest' ∙ parts)

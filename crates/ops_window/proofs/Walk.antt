@@ -1,7 +1,6 @@
 -- The walk over windows that are made of panes, from one that holds a cell to the next.
 use Rattle.std.proofs.Common.{◌≡◌, ℕ, zero, suc, ◌+◌, ◌-◌, ◌*◌, ◌/◌, ◌%◌, ◌<◌, ◌≤◌, max, Bool, true, false, cond, List, [], ◌∷◌, ◌++◌, map, refl, sym, ◌∙◌, ap, subst, arith, ℤ, Option, Some, None, nat_lt, nat_le}
 use Rattle.std.proofs.lemmas.Grind.{common_steps}
-use Rattle.std.proofs.lemmas.List.{append_cancel_right}
 use Rattle.std.proofs.lemmas.Bool.{ltb-true, ltb-false, lt-ltb, le-ltb}
 use Rattle.std.proofs.Math.Nat.{le-div_iff_mul-le}
 use Rattle.std.specs.List.{fold, flat_map}
@@ -11,7 +10,7 @@ use Rattle.dpc_model.proofs.WindowCausality.{window_before}
 use Rattle.dpc_model.specs.declared.tuples.Tuple.{Tuple}
 use Rattle.dpc_model.specs.declared.operators.Agg.{Agg}
 use Rattle.ops_window.specs.Windows.{Cell}
-use Rattle.ops_window.specs.Feeding.{cell_row, join_cell, ended_cells, cells_before, cells_behind, first_cells, later_cells, first_key, next_window, joined_rows, pane_rows}
+use Rattle.ops_window.specs.Feeding.{cell_row, join_cell, ended_cells, cells_before, cells_behind, first_key, next_window, joined_rows, pane_rows}
 use Rattle.ops_window.proofs.Ends.{flat_map-none}
 use Rattle.ops_window.proofs.Reach.{times-le, whole-steps, some-steps}
 
@@ -38,12 +37,6 @@ behind-more time later (c ∷ cells) h =
 
 -- ---- one cell after the other
 
-pub behind-on : (time : ℕ) (c : Cell) (cells cells' : List Cell) → cells ≡ c ∷ cells' → c.0.0 < time → cells_behind time cells ≡ cells_behind time cells'
-behind-on time c cells cells' e h = let early : nat_lt c.0.0 time ≡ true = lt-ltb c.0.0 time h in rw (e, early) refl
-
-pub behind-here : (time : ℕ) (c : Cell) (cells cells' : List Cell) → cells ≡ c ∷ cells' → time ≤ c.0.0 → first_key (cells_behind time cells) ≡ Some c.0
-behind-here time c cells cells' e h = let late : nat_lt c.0.0 time ≡ false = le-ltb c.0.0 time h in rw (e, late) refl
-
 module _ (aggs : List Agg) (begin end : ℕ) (w : List Cell) where
   pub joins-on : (w' : List Cell) (c : Cell) (cells cells' : List Cell) → cells ≡ c ∷ cells' → c.0.0 < end → w' ≡ join_cell aggs begin w c →
       fold (join_cell aggs begin) w' (cells_before end cells') ≡ fold (join_cell aggs begin) w (cells_before end cells)
@@ -54,24 +47,6 @@ module _ (aggs : List Agg) (begin end : ℕ) (w : List Cell) where
 
   pub joins-end : (cells : List Cell) → cells ≡ [] → w ≡ fold (join_cell aggs begin) w (cells_before end cells)
   joins-end cells e = rw e refl
-
-no-key : (cells : List Cell) → first_key cells ≡ None → cells ≡ []
-no-key [] e = refl
-no-key (c ∷ cells) e = absurd (cc)
-
--- the first cells and those behind them are all
-pub first-later : (test : ℕ → Bool) (cells : List Cell) → first_cells test cells ++ later_cells test cells ≡ cells
-first-later test [] = refl
-first-later test (c ∷ cells) = elim (test c.0.0) as (λ b. cond b (c ∷ first_cells test cells) [] ++ cond b (later_cells test cells) (c ∷ cells) ≡ c ∷ cells) [
-  | true ↦ ap (λ (cs : List Cell). c ∷ cs) (first-later test cells)
-  | false ↦ refl
-]
-
--- so what stands before those is the first ones
-pub rest-taken : (test : ℕ → Bool) (cells taken rest : List Cell) → cells ≡ taken ++ rest → rest ≡ later_cells test cells → taken ≡ first_cells test cells
-rest-taken test cells taken rest whole is-rest =
-    append_cancel_right taken (first_cells test cells) rest
-    (sym whole ∙ sym (first-later test cells) ∙ ap (λ (cs : List Cell). first_cells test cells ++ cs) (sym is-rest))
 
 -- ---- windows
 

@@ -70,6 +70,14 @@ grown aggs t (Some totals) = next_totals t aggs totals
 abbrev pub take_cell : List Agg → Tuple → List Cell → ℕ × ℤ → List Cell
 take_cell aggs t cells key = insert_entry cell_cmp cells key (grown aggs t (totals_at key cells))
 
+-- the totals of a group of one pane, where it stands
+abbrev pub group_totals : ℤ → List (ℤ × List ℤ) → Option (List ℤ)
+group_totals group groups = lookup (is_at (int_cmp group)) groups
+
+-- the groups of one pane with a tuple taken into one of them
+abbrev pub take_group : List Agg → Tuple → List (ℤ × List ℤ) → ℤ → List (ℤ × List ℤ)
+take_group aggs t groups group = insert_entry int_cmp groups group (grown aggs t (group_totals group groups))
+
 -- the numbers of the windows of a size in which a time lies
 abbrev pub window_numbers : ℕ → ℕ → ℕ → List ℕ
 window_numbers size step time = range_with_len (window_count size step time) (time / step + 1 - window_count size step time)
@@ -147,6 +155,10 @@ joined aggs ys (Some zs) = joined_totals aggs zs ys
 -- the cells of the window that begins at a time, with a pane's cell joined in
 abbrev pub join_cell : List Agg → ℕ → List Cell → Cell → List Cell
 join_cell aggs begin window c = insert_entry cell_cmp window (begin, c.0.1) (joined aggs c.1 (totals_at (begin, c.0.1) window))
+
+-- the groups of one pane with totals joined into one of them
+abbrev pub join_group : List Agg → List ℤ → List (ℤ × List ℤ) → ℤ → List (ℤ × List ℤ)
+join_group aggs ys groups group = insert_entry int_cmp groups group (joined aggs ys (group_totals group groups))
 
 -- the cells of the window that begins at a time: those of its first pane, with those of the others joined in
 abbrev pub joined_cells : ℕ → ℕ → List Agg → ℕ → List Cell → List Cell

@@ -1,5 +1,5 @@
 -- An aggregate over windows as an engine over buckets, and the cells that it keeps.
-use Rattle.std.specs.Prelude.{◌≡◌, ℕ, ◌+◌, ◌-◌, ◌*◌, ◌/◌, ◌%◌, ◌==◌, ℤ, pos, Bool, false, List, [], map, length, filter, flat_map, Option, Some, None, All, if◌then◌else◌}
+use Rattle.std.specs.Prelude.{◌≡◌, ℕ, ◌+◌, ◌-◌, ◌*◌, ◌/◌, ◌%◌, ◌==◌, ℤ, pos, Bool, false, List, [], ◌++◌, map, length, filter, flat_map, Option, Some, None, All, if◌then◌else◌}
 use Rattle.std.specs.Ordering.{int_eq}
 use Rattle.dpc_lists.specs.Lists.{range_with_len}
 use Rattle.dpc_model.specs.Values.{column}
@@ -22,6 +22,19 @@ reach size step = if size % step == 0 then step else size
 -- a cell: the begin of its pane or window and its group, and a total for each aggregate
 abbrev pub Cell : Type 0
 Cell = (ℕ × ℤ) × List ℤ
+
+-- the cells of the pane or window that begins at a time, by its groups and their totals
+abbrev pub pane_cells : ℕ → List (ℤ × List ℤ) → List Cell
+pane_cells begin groups = map (λ g. ((begin, g.0), g.1)) groups
+
+-- the cells of panes or windows, by the begin and the groups of each, one after the other
+abbrev pub cells_of_panes : List (ℕ × List (ℤ × List ℤ)) → List Cell
+cells_of_panes panes = flat_map (λ p. pane_cells p.0 p.1) panes
+
+-- the cells that a walk has left: those of the groups left of the pane in which it stands, if any, and those of the later panes
+abbrev pub cells_left : ℕ → Option (List (ℤ × List ℤ)) → List (ℕ × List (ℤ × List ℤ)) → List Cell
+cells_left begin None panes = cells_of_panes panes
+cells_left begin (Some groups) panes = pane_cells begin groups ++ cells_of_panes panes
 
 -- a tuple's group, 0 where there is no group column
 abbrev pub group_of : Option ℕ → Tuple → ℤ

@@ -4,7 +4,8 @@ ghost use Rattle.dpc_model.specs.Engines.{lone_operator};
 ghost use Rattle.dpc_model.specs.declared.operators.OpKind.TheVariants as kind;
 ghost use Rattle.ops_window.specs.Windows.{new_aggregate, AggregateAfter};
 
-use crate::cells::{Cells, Shape, are_same, copied};
+use crate::cell_map::{Cells, are_same};
+use crate::cells::Shape;
 use dpc_lists::exact::Exact;
 use dpc_lists::faults::NoMemory;
 use dpc_lists::lists::Listed;
@@ -13,7 +14,6 @@ use dpc_model::faults::StepFault;
 use dpc_model::operators::Agg;
 use dpc_model::tuples::{Tagged, Tuples};
 use std::alloc::Global;
-use std::collections::BTreeMap;
 use std::marker::Model;
 
 /// Gives, for each window that ends and each group in it, a row of totals over the tuples of port 0.
@@ -40,7 +40,7 @@ impl Model for Aggregate {
       group = a.shape.group;
       aggs = a.shape.aggs;
       width = a.width;
-      cells = a.cells.entries;
+      cells = a.cells;
       next = a.next;
       spent = a.spent;
     } };
@@ -70,7 +70,7 @@ impl Aggregate {
         Aggregate {
             shape,
             width,
-            cells: BTreeMap::new(alloc),
+            cells: Cells::new(alloc),
             next: 0,
             spent: false,
         }
@@ -78,7 +78,7 @@ impl Aggregate {
 
     /// The cells that open windows need, in order of begin and group. It takes no memory.
     pub fn cells(&self) -> &Cells
-        ensures { result.now.entries ≡ self.now.cells }
+        ensures { result.now ≡ self.now.cells }
     {
         &self.cells
     }
@@ -121,7 +121,7 @@ impl Engine for Aggregate {
             return Err(StepFault::Spent);
         }
         let shape = self.shape.copy(alloc)?;
-        let cells = copied(alloc, &self.cells)?;
+        let cells = self.cells.share()?;
         Ok(Aggregate {
             shape,
             width: self.width,

@@ -1,25 +1,18 @@
-//! The cells that open windows need: the totals of each group and each pane, or window, in which a tuple was seen.
+//! Tuples are taken into the cells of panes or windows, and cells of windows that end become rows.
 ghost use Rattle.std.specs.Prelude.{◌≡◌, ◌↔◌, ◌+◌, ◌^◌, ◌<◌, ◌≤◌, ◌++◌, IfOk, OnOk, IsTrue, map, All};
-ghost use Rattle.std.specs.List.Sorted.{IsStrictlySortedBy};
-ghost use Rattle.std.specs.Map.{keys_of};
 ghost use Rattle.dpc_model.specs.Operators.{window_count};
 ghost use Rattle.dpc_model.specs.declared.tuples.Tagged.{Tagged};
 ghost use Rattle.ops_window.specs.Windows.{reach};
-ghost use Rattle.ops_window.specs.Feeding.{take_cell, take_tuple, fed_cells, row_of, ended_cells, kept_cells, first_key, cells_before, cells_behind, cells_from, cell_cmp, ended_rows_of, left_cells};
+ghost use Rattle.ops_window.specs.Feeding.{take_tuple, fed_cells, row_of, ended_cells, kept_cells, ended_rows_of, left_cells};
 
-use crate::totals::{finished, first_totals, group_of, grow};
+use crate::cell_map::Cells;
+use crate::totals::{finished, group_of};
 use dpc_lists::exact::Exact;
 use dpc_lists::faults::NoMemory;
 use dpc_lists::lists::Listed;
 use dpc_model::operators::Agg;
 use dpc_model::tuples::{Tagged, Tuple, Tuples, Vals};
 use std::alloc::{AllocError, Global};
-use std::collections::BTreeMap;
-use std::collections::btree_map::Entry;
-use std::mem;
-
-/// For each begin, of a pane or a window, and each group seen in it, a total for each aggregate.
-pub type Cells = BTreeMap<(u64, i64), Listed<i128>>;
 
 /// The windows, and what is counted in each.
 #[derive(Drop)]
@@ -49,95 +42,6 @@ impl Exact for Shape {
             && self.group.same(&other.group)
             && self.aggs.same(&other.aggs)
     }
-}
-
-/// The same cells again.
-pub(crate) fn copied(alloc: Global, cells: &Cells) -> Result<Cells, AllocError>
-    ensures { IfOk result (λ other. other.entries ≡ cells.now.entries) }
-{
-    let mut copies = BTreeMap::new(alloc);
-    for (key, totals) in cells.iter() {
-        let copy = Listed::from_vec(Vec::from_slice(alloc, totals.as_slice())?);
-        copies.insert(*key, copy)?;
-    }
-    Ok(copies)
-}
-
-/// Whether the two have the same cells.
-pub(crate) fn are_same(cells: &Cells, others: &Cells) -> bool
-    ensures { IsTrue result ↔ (cells.now.entries ≡ others.now.entries) }
-{
-    let mut rest = others.iter();
-    for (key, totals) in cells.iter() {
-        match rest.next() {
-            Some((other, wanted)) if key == other && totals.as_slice() == wanted.as_slice() => {}
-            _ => return false,
-        }
-    }
-    rest.next().is_none()
-}
-
-/// Takes a tuple into one cell.
-fn take_in(
-    alloc: Global,
-    cells: &mut Cells,
-    aggs: &[Agg],
-    tuple: &Tuple,
-    key: (u64, i64),
-) -> Result<(), NoMemory>
-    ensures { OnOk result (cells.new.entries ≡ take_cell aggs.now tuple.now cells.old.entries key) }
-{
-    match cells.entry(key)? {
-        Entry::Vacant(cell) => {
-            cell.insert(first_totals(alloc, aggs, tuple)?);
-            Ok(())
-        }
-        Entry::Occupied(cell) => grow(alloc, aggs, tuple, cell.into_mut()),
-    }
-}
-
-/// The first cell that begins at or behind a time.
-fn first_behind(cells: &Cells, time: u64) -> Option<(u64, i64)>
-    ensures first { result ≡ first_key (cells_behind time cells.now.entries) }
-    ensures sorted { IsStrictlySortedBy cell_cmp (keys_of cells.now.entries) }
-{
-    for (key, _) in cells.iter() {
-        if time <= key.0 {
-            return Some(*key);
-        }
-    }
-    None
-}
-
-/// Takes the cells from this one on out, and none where there is none.
-fn take_from(
-    alloc: Global,
-    cells: &mut Cells,
-    first: Option<(u64, i64)>,
-) -> Result<Cells, AllocError>
-    ensures from { IfOk result (λ rest. rest.entries ≡ cells_from first cells.old.entries) }
-    ensures parts { IfOk result (λ rest. cells.old.entries ≡ cells.new.entries ++ rest.entries) }
-{
-    match first {
-        Some(key) => cells.split_off(&key),
-        None => Ok(BTreeMap::new(alloc)),
-    }
-}
-
-/// Takes the first cells out, as far as they begin below a time.
-pub(crate) fn take_before(alloc: Global, cells: &mut Cells, time: u64) -> Result<Cells, AllocError>
-    ensures taken { IfOk result (λ taken. taken.entries ≡ cells_before time cells.old.entries) }
-    ensures left { OnOk result (cells.new.entries ≡ cells_behind time cells.old.entries) }
-{
-    let Some((key, _)) = cells.iter().next() else {
-        return Ok(BTreeMap::new(alloc));
-    };
-    if time <= key.0 {
-        return Ok(BTreeMap::new(alloc));
-    }
-    let first = first_behind(cells, time);
-    let rest = take_from(alloc, cells, first)?;
-    Ok(mem::replace(cells, rest))
 }
 
 /// How many windows of a size, one every step, end at or below a time.
@@ -177,15 +81,15 @@ impl Shape {
         requires reach { 0 < reach }
         requires step { 0 < self.now.step }
         requires time { tuple.now.stime + 1 < 2 ^ 64 }
-        ensures { OnOk result (cells.new.entries
-            ≡ take_tuple reach self.now.step self.now.group self.now.aggs cells.old.entries tuple.now) }
+        ensures { OnOk result (cells.new
+            ≡ take_tuple reach self.now.step self.now.group self.now.aggs cells.old tuple.now) }
     {
         let group = group_of(self.group, tuple);
         let first = ended_count(reach, self.step, tuple.stime);
         let behind = tuple.stime / self.step + 1;
         for number in first..behind {
             let key = (number * self.step, group);
-            take_in(alloc, cells, self.aggs.as_slice(), tuple, key)?;
+            cells.take_in(alloc, self.aggs.as_slice(), tuple, key)?;
         }
         Ok(())
     }
@@ -200,7 +104,7 @@ impl Shape {
         requires size { 0 < self.now.size }
         requires step { 0 < self.now.step }
         requires times { All (λ (x : Tagged). x.tuple.stime + 1 < 2 ^ 64) inputs.now }
-        ensures { OnOk result (cells.new.entries ≡ fed_cells self.now cells.old.entries inputs.now) }
+        ensures { OnOk result (cells.new ≡ fed_cells self.now cells.old inputs.now) }
     {
         let reach = self.reach();
         for x in inputs {
@@ -248,13 +152,13 @@ impl Shape {
         rows: &mut Vec<Tuple>,
     ) -> Result<(), NoMemory>
         requires { 0 < self.now.size }
-        ensures { OnOk result (rows.new.items ≡ rows.old.items ++ map (row_of self.now) (ended_cells self.now.size end cells.now.entries)) }
+        ensures { OnOk result (rows.new.items ≡ rows.old.items ++ map (row_of self.now) (ended_cells self.now.size end cells.now)) }
     {
         for (key, totals) in cells.iter() {
             if !self.has_ended(key.0, end) {
                 return Ok(());
             }
-            rows.push(self.row(alloc, *key, totals.as_slice())?)?;
+            rows.push(self.row(alloc, key, totals.as_slice())?)?;
         }
         Ok(())
     }
@@ -269,10 +173,10 @@ impl Shape {
     ) -> Result<(), NoMemory>
         requires { 0 < self.now.size }
         ensures rows { OnOk result (rows.new.items
-            ≡ rows.old.items ++ map (row_of self.now) (ended_cells self.now.size end cells.old.entries)) }
-        ensures cells { OnOk result (cells.new.entries ≡ kept_cells self.now.size end cells.old.entries) }
+            ≡ rows.old.items ++ map (row_of self.now) (ended_cells self.now.size end cells.old)) }
+        ensures cells { OnOk result (cells.new ≡ kept_cells self.now.size end cells.old) }
     {
-        let ended = take_before(alloc, cells, end.saturating_sub(self.size - 1))?;
+        let ended = cells.take_before(alloc, end.saturating_sub(self.size - 1))?;
         self.ended_rows(alloc, &ended, end, rows)?;
         Ok(())
     }
@@ -289,8 +193,8 @@ impl Shape {
         requires size { 0 < self.now.size }
         requires step { 0 < self.now.step }
         requires order { begin ≤ end }
-        ensures rows { IfOk result (λ rows. rows ≡ ended_rows_of self.now begin end cells.old.entries) }
-        ensures cells { OnOk result (cells.new.entries ≡ left_cells self.now.size self.now.step end cells.old.entries) }
+        ensures rows { IfOk result (λ rows. rows ≡ ended_rows_of self.now begin end cells.old) }
+        ensures cells { OnOk result (cells.new ≡ left_cells self.now.size self.now.step end cells.old) }
     {
         let mut rows = Vec::new(alloc);
         if self.reach() == self.size {
@@ -315,9 +219,9 @@ impl Shape {
         requires step { 0 < self.now.step }
         requires order { begin ≤ end }
         requires times { All (λ (x : Tagged). x.tuple.stime + 1 < 2 ^ 64) inputs.now }
-        ensures rows { IfOk result (λ rows. rows ≡ ended_rows_of self.now begin end (fed_cells self.now cells.old.entries inputs.now)) }
-        ensures cells { OnOk result (cells.new.entries
-            ≡ left_cells self.now.size self.now.step end (fed_cells self.now cells.old.entries inputs.now)) }
+        ensures rows { IfOk result (λ rows. rows ≡ ended_rows_of self.now begin end (fed_cells self.now cells.old inputs.now)) }
+        ensures cells { OnOk result (cells.new
+            ≡ left_cells self.now.size self.now.step end (fed_cells self.now cells.old inputs.now)) }
     {
         self.take_inputs(alloc, cells, inputs)?;
         self.take_rows(alloc, cells, begin, end)

@@ -4,33 +4,12 @@ ghost use Rattle.std.specs.List.{fold};
 ghost use Rattle.dpc_model.specs.Operators.{window_count};
 ghost use Rattle.ops_window.specs.Feeding.{join_cell, cells_before, cells_behind, next_window, pane_rows_of};
 
-use crate::cells::{Cells, Shape, ended_count, take_before};
-use crate::totals::join;
+use crate::cell_map::Cells;
+use crate::cells::{Shape, ended_count};
 use dpc_lists::faults::NoMemory;
-use dpc_lists::lists::Listed;
 use dpc_model::operators::Agg;
 use dpc_model::tuples::Tuple;
 use std::alloc::Global;
-use std::collections::btree_map::Entry;
-
-/// Joins totals into those of one cell of a window.
-fn join_in(
-    alloc: Global,
-    window: &mut Cells,
-    aggs: &[Agg],
-    key: (u64, i64),
-    totals: &[i128],
-) -> Result<(), NoMemory>
-    ensures { OnOk result (window.new.entries ≡ join_cell aggs.now key.0 window.old.entries (key, totals.now)) }
-{
-    match window.entry(key)? {
-        Entry::Vacant(cell) => {
-            cell.insert(Listed::from_vec(Vec::from_slice(alloc, totals)?));
-            Ok(())
-        }
-        Entry::Occupied(cell) => join(alloc, aggs, totals, cell.into_mut()),
-    }
-}
 
 /// Joins the first cells, as far as they begin below a time, into those of the window that begins at
 /// another.
@@ -42,13 +21,13 @@ fn join_before(
     begin: u64,
     end: u64,
 ) -> Result<(), NoMemory>
-    ensures { OnOk result (window.new.entries ≡ fold (join_cell aggs.now begin) window.old.entries (cells_before end cells.now.entries)) }
+    ensures { OnOk result (window.new ≡ fold (join_cell aggs.now begin) window.old (cells_before end cells.now)) }
 {
     for (key, totals) in cells.iter() {
         if end <= key.0 {
             return Ok(());
         }
-        join_in(alloc, window, aggs, (begin, key.1), totals.as_slice())?;
+        window.join_in(alloc, aggs, (begin, key.1), totals.as_slice())?;
     }
     Ok(())
 }
@@ -58,7 +37,7 @@ impl Shape {
     fn next_window(&self, cells: &Cells, number: u64, behind: u64) -> Option<u64>
         requires step { 0 < self.now.step }
         requires size { self.now.step ≤ self.now.size }
-        ensures { result ≡ next_window self.now.size self.now.step number behind cells.now.entries }
+        ensures { result ≡ next_window self.now.size self.now.step number behind cells.now }
     {
         let (key, _) = cells.iter().next()?;
         let others = self.size / self.step - 1;
@@ -81,22 +60,22 @@ impl Shape {
         requires step { 0 < self.now.step }
         requires whole { self.now.size % self.now.step ≡ 0 }
         requires first { first ≤ window_count self.now.size self.now.step end }
-        ensures rows { OnOk result (rows.new.items ≡ rows.old.items ++ pane_rows_of self.now first end cells.old.entries) }
-        ensures cells { OnOk result (cells.new.entries
-            ≡ cells_behind (window_count self.now.size self.now.step end * self.now.step) cells.old.entries) }
+        ensures rows { OnOk result (rows.new.items ≡ rows.old.items ++ pane_rows_of self.now first end cells.old) }
+        ensures cells { OnOk result (cells.new
+            ≡ cells_behind (window_count self.now.size self.now.step end * self.now.step) cells.old) }
     {
         let behind = ended_count(self.size, self.step, end);
         let mut number = first;
-        take_before(alloc, cells, first * self.step)?;
+        cells.take_before(alloc, first * self.step)?;
         'windows: while let Some(next) = self.next_window(cells, number, behind) {
             let begin = next * self.step;
-            let mut window = take_before(alloc, cells, begin + self.step)?;
+            let mut window = cells.take_before(alloc, begin + self.step)?;
             let aggs = self.aggs.as_slice();
             join_before(alloc, &mut window, aggs, cells, begin, begin + self.size)?;
             self.ended_rows(alloc, &window, end, rows)?;
             number = next + 1;
         }
-        take_before(alloc, cells, behind * self.step)?;
+        cells.take_before(alloc, behind * self.step)?;
         Ok(())
     }
 }

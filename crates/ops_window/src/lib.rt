@@ -2,6 +2,8 @@
 #![tactic(auto)]
 
 pub mod aggregate;
-pub mod cells;
+pub mod cell_map;
+mod cells;
 mod joining;
+mod pane;
 mod totals;

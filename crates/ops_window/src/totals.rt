@@ -4,11 +4,66 @@ ghost use Rattle.ops_window.specs.Windows.{group_of as group_value};
 ghost use Rattle.ops_window.specs.Feeding as feeding;
 
 use dpc_lists::faults::NoMemory;
-use dpc_lists::lists::Listed;
 use dpc_model::operators::Agg;
 use dpc_model::tuples::Tuple;
 use std::alloc::{AllocError, Global};
-use std::mem;
+use std::marker::Model;
+
+/// A total for each aggregate.
+#[derive(Drop)]
+pub(crate) struct Totals {
+    numbers: Vec<i128>,
+}
+
+impl Model for Totals {
+    ghost use Rattle.std.specs.Prelude.{ℤ, List};
+
+    ghost Value = { List ℤ };
+
+    ghost view = { λ t. t.numbers.items };
+}
+
+impl Clone for Totals {
+    ghost is_clone = { λ totals copy. copy ≡ totals };
+
+    fn clone(&self) -> Result<Totals, AllocError> {
+        Ok(Totals {
+            numbers: self.numbers.clone()?,
+        })
+    }
+}
+
+impl Totals {
+    /// These totals.
+    pub(crate) fn from_slice(alloc: Global, numbers: &[i128]) -> Result<Totals, AllocError>
+        ensures { IfOk result (λ totals. totals ≡ numbers.now) }
+    {
+        Ok(Totals {
+            numbers: Vec::from_slice(alloc, numbers)?,
+        })
+    }
+
+    /// The totals as a slice.
+    pub(crate) fn as_slice(&self) -> &[i128]
+        ensures { result.now ≡ self.now }
+    {
+        self.numbers.as_slice()
+    }
+
+    /// Makes each total one over a tuple more. After an error they are of no use.
+    pub(crate) fn grow(&mut self, aggs: &[Agg], tuple: &Tuple) -> Result<(), NoMemory>
+        ensures { OnOk result (self.new ≡ feeding.next_totals tuple.now aggs.now self.old) }
+    {
+        count_in(aggs, tuple, self.numbers.as_mut_slice())
+    }
+
+    /// Makes each total one over the tuples of the others too. After an error they are of no use.
+    pub(crate) fn join(&mut self, aggs: &[Agg], others: &[i128]) -> Result<(), NoMemory>
+        ensures { OnOk result (self.new ≡ feeding.joined_totals aggs.now self.old others.now) }
+    {
+        join_in(aggs, others, self.numbers.as_mut_slice())
+    }
+}
 
 /// The tuple's group, 0 where there is no group column.
 pub(crate) fn group_of(group: Option<u64>, tuple: &Tuple) -> i64
@@ -45,18 +100,14 @@ fn next_total(tuple: &Tuple, agg: Agg, total: i128) -> Result<i128, NoMemory>
 }
 
 /// The totals over one tuple.
-pub(crate) fn first_totals(
-    alloc: Global,
-    aggs: &[Agg],
-    tuple: &Tuple,
-) -> Result<Listed<i128>, AllocError>
+pub(crate) fn first_totals(alloc: Global, aggs: &[Agg], tuple: &Tuple) -> Result<Totals, AllocError>
     ensures { IfOk result (λ totals. totals ≡ map (feeding.first_total tuple.now) aggs.now) }
 {
-    let mut totals = Vec::with_capacity(alloc, aggs.len())?;
+    let mut numbers = Vec::with_capacity(alloc, aggs.len())?;
     for agg in aggs {
-        totals.push(first_total(tuple, *agg))?;
+        numbers.push(first_total(tuple, *agg))?;
     }
-    Ok(Listed::from_vec(totals))
+    Ok(Totals { numbers })
 }
 
 /// Counts one more tuple in, in place.
@@ -66,21 +117,6 @@ fn count_in(aggs: &[Agg], tuple: &Tuple, totals: &mut [i128]) -> Result<(), NoMe
     for i in 0..aggs.len().min(totals.len()) {
         totals[i] = next_total(tuple, aggs[i], totals[i])?;
     }
-    Ok(())
-}
-
-/// Makes each total one over a tuple more. After an error they are of no use.
-pub(crate) fn grow(
-    alloc: Global,
-    aggs: &[Agg],
-    tuple: &Tuple,
-    totals: &mut Listed<i128>,
-) -> Result<(), NoMemory>
-    ensures { OnOk result (totals.new ≡ feeding.next_totals tuple.now aggs.now totals.old) }
-{
-    let mut numbers = mem::replace(totals, Listed::from_vec(Vec::new(alloc))).into_vec();
-    count_in(aggs, tuple, numbers.as_mut_slice())?;
-    *totals = Listed::from_vec(numbers);
     Ok(())
 }
 
@@ -102,21 +138,6 @@ fn join_in(aggs: &[Agg], others: &[i128], totals: &mut [i128]) -> Result<(), NoM
     for i in 0..aggs.len().min(totals.len()).min(others.len()) {
         totals[i] = joined_total(aggs[i], totals[i], others[i])?;
     }
-    Ok(())
-}
-
-/// Makes each total one over the tuples of the others too. After an error they are of no use.
-pub(crate) fn join(
-    alloc: Global,
-    aggs: &[Agg],
-    others: &[i128],
-    totals: &mut Listed<i128>,
-) -> Result<(), NoMemory>
-    ensures { OnOk result (totals.new ≡ feeding.joined_totals aggs.now totals.old others.now) }
-{
-    let mut numbers = mem::replace(totals, Listed::from_vec(Vec::new(alloc))).into_vec();
-    join_in(aggs, others, numbers.as_mut_slice())?;
-    *totals = Listed::from_vec(numbers);
     Ok(())
 }
 

@@ -15,6 +15,10 @@ fault_line fault = refusal_line fault.line (number_of fault.reason)
 abbrev pub entry_line : ℕ → ℕ → List ℕ
 entry_line entry number = codes "entry " ++ decimal entry ++ codes ": reason " ++ decimal number ++ 10 ∷ []
 
+-- the refusal of a recorded stream: how many items stand in front of the first that may not stand there, or has no reading
+abbrev pub item_line : ℕ → List ℕ
+item_line item = codes "item " ++ decimal item ++ codes ": no reading" ++ 10 ∷ []
+
 -- the line on clients that are not settled after all quiet phases
 abbrev pub not_settled_line : List ℕ
 not_settled_line = codes "not settled" ++ 10 ∷ []

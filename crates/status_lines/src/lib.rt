@@ -41,6 +41,17 @@ pub fn entry_line(alloc: Global, entry: u64, reason: u64) -> Result<Vec<u8>, All
     Ok(line)
 }
 
+/// The refusal of a recorded stream behind so many items.
+pub fn item_line(alloc: Global, item: u64) -> Result<Vec<u8>, AllocError>
+    ensures { IfOk result (λ line. line.items ≡ lines.item_line item) }
+{
+    let mut buffer = Buffer::new();
+    let mut line = Vec::from_slice(alloc, b"item ")?;
+    line.extend_from_slice(buffer.format(item).as_bytes())?;
+    line.extend_from_slice(b": no reading\n")?;
+    Ok(line)
+}
+
 /// The line on a run that would pass a limit, and have so many envelopes and items.
 pub fn too_long_line(alloc: Global, envelopes: u64, items: u64) -> Result<Vec<u8>, AllocError>
     ensures { IfOk result (λ line. line.items ≡ lines.too_long_line (record { envelopes = envelopes; items = items })) }

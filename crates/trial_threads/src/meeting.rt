@@ -3,6 +3,7 @@ ghost use Rattle.std.specs.Prelude.{◌≤◌};
 
 use dpc_edge::gate::Gate;
 use dpc_lists::faults::NoMemory;
+use input_parts::notation::Notation;
 use live_commands::answer;
 use live_commands::outcome::Outcome;
 use std::alloc::Global;
@@ -88,7 +89,7 @@ fn meet<R: Threads + Wait + Sync>(rt: &R, alloc: Global, workers: u64) -> Result
     if script.len() > MOST_BYTES {
         return Ok(Meetings::Broken);
     }
-    let Outcome::Text(text) = answer(rt, alloc, script, workers, &gate)? else {
+    let Outcome::Text(text) = answer(rt, alloc, Notation::Lines, script, workers, &gate)? else {
         return Ok(Meetings::Broken);
     };
     if !text.ends_with(REPORT.as_bytes()) {

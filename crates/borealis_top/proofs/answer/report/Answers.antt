@@ -21,3 +21,6 @@ returns-in-Json c =
     let world = c.args.world.now in
     rw c.in-Json.is (then-IfOk c.report_json.result c.report_json.ensures _
     (λ text told. told (world_of world) (run-plan world.plan world.events c.requires.run ∙ sym c.plan-in-Json.ensures) (rw c.plan-in-Json.ensures c.clients-in-Json.ensures)))
+
+pub returns-in-Frames : goal.returns-in-Frames
+returns-in-Frames c = rw c.in-Frames.is c.framed_report.ensures

@@ -2,7 +2,7 @@
 use Rattle.std.proofs.Common.{subst, inr, Err, true, false, ap, arith}
 use Rattle.script_rules.specs.Reading.{script_in}
 use Rattle.ideal_run.specs.IdealPlans.{IsIdealPlan}
-use Rattle.borealis_top.proofs.Ideals.{read_ideal}
+use Rattle.stream_audits.proofs.Ideals.{read_ideal}
 use Rattle.law_checked_runs.proofs.Names.{reads_have_plain_names}
 use Rattle.borealis_top.proofs.Runs.{read_can_run}
 use Rattle.borealis_top.proofs.Ended.{WasRead, long-refusal, long-whole, read-in_part, read-Answers, told-ReadEnds, open-ReadEnds, refused-ReadEnds, Stays-same}

@@ -6,10 +6,10 @@ use Rattle.borealis_top.proofs.Words.{live-range}
 use Rattle.borealis_top.proofs.whole.borealis.Goals as goal
 
 pub run_live-requires-clause-some : goal.run_live-requires-clause-some
-run_live-requires-clause-some g c κs within = (live-range (map string_bytes c.args.words.now) c.in-Some.workers (sym c.workers_in.ensures ∙ c.in-Some.is)).0
+run_live-requires-clause-some g c κs within = (live-range (map string_bytes c.args.words.now) c.in-Some.command (sym c.live_in.ensures ∙ c.in-Some.is)).0
 
 pub run_live-requires-clause-few : goal.run_live-requires-clause-few
-run_live-requires-clause-few g c κs within = (live-range (map string_bytes c.args.words.now) c.in-Some.workers (sym c.workers_in.ensures ∙ c.in-Some.is)).1
+run_live-requires-clause-few g c κs within = (live-range (map string_bytes c.args.words.now) c.in-Some.command (sym c.live_in.ensures ∙ c.in-Some.is)).1
 
 pub returns-in-None : goal.returns-in-None
 returns-in-None g c =
@@ -17,7 +17,7 @@ returns-in-None g c =
     let text = g.O.Sink in
     let line = g.E.Sink in
     let done = c.plain in
-    let none : live_of (map string_bytes c.args.words.now) ≡ None = sym c.workers_in.ensures ∙ c.in-None.is in
+    let none : live_of (map string_bytes c.args.words.now) ≡ None = sym c.live_in.ensures ∙ c.in-None.is in
     rw none
     (ends-of _ (source.edge c.args.input.now) (source.edge done.new.input) (text.edge c.args.out.now) (text.edge done.new.out) (line.edge c.args.err.now)
     (line.edge done.new.err) done.result
@@ -31,5 +31,5 @@ returns-in-None g c =
 
 pub returns-in-Some : goal.returns-in-Some
 returns-in-Some g c =
-    let some : live_of (map string_bytes c.args.words.now) ≡ Some c.in-Some.workers = sym c.workers_in.ensures ∙ c.in-Some.is in
+    let some : live_of (map string_bytes c.args.words.now) ≡ Some c.in-Some.command = sym c.live_in.ensures ∙ c.in-Some.is in
     rw some (c.run_live.ensures.ends, c.run_live.ensures.complete)

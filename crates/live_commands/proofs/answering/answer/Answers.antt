@@ -9,7 +9,7 @@ run_answer-requires-clause-can g c κs within = can-run c.as_slice.result.now c.
 
 pub returns-in-Ok : goal.returns-in-Ok
 returns-in-Ok g c =
-    then-IfOk c.run_answer.result c.run_answer.ensures _ (λ outcome told. can-end c.args.input.items c.in-Ok.script outcome (rw c.as_slice.ensures.value at c.in-Ok.ensures) told)
+    then-IfOk c.run_answer.result c.run_answer.ensures _ (λ outcome told. can-end c.args.notation c.args.input.items c.in-Ok.script outcome (rw c.as_slice.ensures.value at c.in-Ok.ensures) told)
 
 pub returns-in_ok-fault_line-in-Refused : goal.returns-in_ok-fault_line-in-Refused
 returns-in_ok-fault_line-in-Refused g c = (

@@ -5,4 +5,4 @@ use Rattle.ops_window.proofs.joining.join_before.Given as goal
 
 abbrev pub invariant-loop-key : goal.invariant-loop-key
 invariant-loop-key l =
-    fold (join_cell l.aggs l.begin) l.window.entries (cells_before l.end l.key-iterator) ≡ fold (join_cell l.aggs l.begin) l.fn.window.entries (cells_before l.end l.cells.entries)
+    fold (join_cell l.aggs l.begin) l.window (cells_before l.end l.key-iterator) ≡ fold (join_cell l.aggs l.begin) l.fn.window (cells_before l.end l.cells)

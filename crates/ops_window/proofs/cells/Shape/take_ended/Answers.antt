@@ -7,7 +7,7 @@ use Rattle.ops_window.proofs.cells.Shape.take_ended.Goals as goal
 pub returns-clause-rows : goal.returns-clause-rows
 returns-clause-rows c =
     let self = c.args.self.now in
-    let cells = c.args.cells.now.entries in
+    let cells = c.args.cells.now in
     let time : c.saturating_sub.result ≡ c.args.end - (self.size - 1) = search rules in
     c.in_ok-ended_rows.ensures
     ∙ ap (λ (cs : List Cell). c.args.rows.now.items ++ map (row_of self) (ended_cells self.size c.args.end cs))
@@ -19,7 +19,7 @@ returns-clause-rows c =
 pub returns-clause-cells : goal.returns-clause-cells
 returns-clause-cells c =
     let self = c.args.self.now in
-    let cells = c.args.cells.now.entries in
+    let cells = c.args.cells.now in
     let time : c.saturating_sub.result ≡ c.args.end - (self.size - 1) = search rules in
     c.in_ok-ended.ensures.left
     ∙ ap (λ (n : ℕ). cells_behind n cells) time

@@ -6,4 +6,4 @@ use Rattle.ops_window.proofs.cells.Shape.take_inputs.Given as goal
 
 abbrev pub invariant-loop-x : goal.invariant-loop-x
 invariant-loop-x l =
-    l.cells.entries ≡ take_tuples (reach l.self.size l.self.step) l.self.step l.self.group l.self.aggs l.fn.cells.entries (at_port 0 (take l.x-index l.inputs))
+    l.cells ≡ take_tuples (reach l.self.size l.self.step) l.self.step l.self.group l.self.aggs l.fn.cells (at_port 0 (take l.x-index l.inputs))

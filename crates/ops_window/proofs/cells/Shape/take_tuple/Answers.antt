@@ -8,5 +8,5 @@ pub loop-number-preserved : goal.loop-number-preserved
 loop-number-preserved c =
     let fits : FitsSigned w64 c.group_of-group.result = search rules in
     taken-more c.args.self.now.aggs c.as_slice.result.now c.args.tuple.now c.args.self.now.step c.ended_count-first.result c.loop-number.number
-    (group_of c.args.self.now.group c.args.tuple.now) _ c.args.cells.now.entries c.loop-number.cells.entries c.take_in.new.cells.entries
+    (group_of c.args.self.now.group c.args.tuple.now) _ c.args.cells.now c.loop-number.cells c.take_in.new.self
     c.in_ok-take_in.ensures c.as_slice.ensures (to_z-of_z w64 c.group_of-group.result fits ∙ c.group_of-group.ensures) (omega arith) c.loop-number.invariant

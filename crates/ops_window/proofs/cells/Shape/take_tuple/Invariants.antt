@@ -6,4 +6,4 @@ use Rattle.ops_window.proofs.cells.Shape.take_tuple.Given as goal
 
 abbrev pub invariant-loop-number : goal.invariant-loop-number
 invariant-loop-number l =
-    l.cells.entries ≡ fold (λ cs j. take_cell l.self.aggs l.tuple cs (j * l.self.step, group_of l.self.group l.tuple)) l.fn.cells.entries (range_with_len l.first (l.number - l.first))
+    l.cells ≡ fold (λ cs j. take_cell l.self.aggs l.tuple cs (j * l.self.step, group_of l.self.group l.tuple)) l.fn.cells (range_with_len l.first (l.number - l.first))

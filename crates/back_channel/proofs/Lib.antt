@@ -1,0 +1,11 @@
+pub mod Beginnings
+pub mod Comparing
+pub mod Foldings
+pub mod Holding
+pub mod Leading
+pub mod Numbering
+pub mod Onward
+pub mod Sources
+pub mod Stepping
+pub mod Times
+pub mod Wholes

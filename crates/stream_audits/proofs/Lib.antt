@@ -1,0 +1,3 @@
+pub mod Ideals
+pub mod Words
+pub mod Judged
