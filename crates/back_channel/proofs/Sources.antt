@@ -16,12 +16,12 @@ use Rattle.back_channel.specs.Told.{Goes, IsLater, IsOfOne}
 use Rattle.back_channel.proofs.Beginnings.{Begins, begins-split, longer-begins}
 use Rattle.back_channel.proofs.Onward.{goes-on}
 
--- the tuple of an item is one of a merge
+-- the tuple of an item is one of a merge, and a boundary is that of the merge
 abbrev IsFrom : Merged → Item → Type 0
 IsFrom new (Stable k t) = slice_get new.stable k ≡ Some t
 IsFrom new (Tentative t) = Contains new.tentative t
 IsFrom new (Passed b) = ⊤
-IsFrom new (Boundary b m) = ⊤
+IsFrom new (Boundary b m) = (b ≡ new.bound) × (m ≡ length (cut new.stable b))
 IsFrom new (Undo n) = ⊤
 IsFrom new RecDone = ⊤
 
@@ -52,7 +52,7 @@ from-undone old new = elim (is_nil old.tentative) as (λ c. All (IsFrom new) (co
 
 from-bound : (old new : Merged) → All (IsFrom new) (bound_told old new)
 from-bound old new = elim (nat_lt old.bound new.bound) as (λ c. All (IsFrom new) (cond c (Boundary new.bound (length (cut new.stable new.bound)) ∷ []) [])) [
-  | true ↦ from-one new (Boundary new.bound (length (cut new.stable new.bound))) tt
+  | true ↦ from-one new (Boundary new.bound (length (cut new.stable new.bound))) (refl, refl)
   | false ↦ All-nil (IsFrom new)
 ]
 
@@ -100,7 +100,7 @@ of-merge x y (Tentative t) =
       | false ↦ λ e. inl (kept-contains b x.tentative t e)
     ]
 of-merge x y (Passed b) = λ h. tt
-of-merge x y (Boundary b m) = λ h. tt
+of-merge x y (Boundary b m) = λ h. h
 of-merge x y (Undo n) = λ h. tt
 of-merge x y RecDone = λ h. tt
 

@@ -27,7 +27,8 @@ pub fn a_reader_of_the_merge_goes_on()
 {}
 
 /// Nothing is told but what a reader holds: each stable tuple stands at its number in the stable list of one of the two,
-/// and each tentative one among the tentative tuples of one.
+/// and each tentative one among the tentative tuples of one. A boundary that is told is the greater one of both, and counts
+/// the stable tuples below it.
 pub fn told_tuples_are_of_one_reader()
     ensures { (x y x' y' : Reader) (item : Item) → Goes x x' → Goes y y' → OneBegins x.stable y.stable → OneBegins x'.stable y'.stable
         → Contains (items_between (merge x y) (merge x' y')) item → IsOfOne x' y' item }

@@ -1,14 +1,14 @@
 -- How a command ends, from how each of them does.
-use Rattle.std.proofs.Common.{◌≡◌, ℕ, Option, None, Some, refl}
+use Rattle.std.proofs.Common.{◌≡◌, ℕ, List, Option, None, Some, refl}
 use Rattle.dpc_edge.specs.Edges.{Edge}
 use Rattle.borealis_top.specs.declared.command.Reading.{Reading}
 use Rattle.borealis_top.specs.declared.command.Command.{Command}
 use Rattle.borealis_top.specs.declared.command.Command.TheVariants.{Read, Journal, Gen, Help, Reasons, Version}
 use Rattle.journal_commands.specs.declared.outcome.JournalCommand.{JournalCommand}
 use Rattle.borealis_top.specs.declared.status.Status.{Status}
-use Rattle.borealis_top.specs.Programs.{CommandEnds}
+use Rattle.borealis_top.specs.Programs.{CommandEnds, PlainEnds}
 
-pub ends-of : (command : Option Command) (input input_new out out_new err err_new : Edge) (result : Status) →
+ends-of : (command : Option Command) (input input_new out out_new err err_new : Edge) (result : Status) →
     (command ≡ None → CommandEnds None input input_new out out_new err err_new result) →
     (command ≡ Some Help → CommandEnds (Some Help) input input_new out out_new err err_new result) →
     (command ≡ Some Reasons → CommandEnds (Some Reasons) input input_new out out_new err err_new result) →
@@ -24,3 +24,17 @@ ends-of (Some Version) input input_new out out_new err err_new result none help 
 ends-of (Some (Gen seed)) input input_new out out_new err err_new result none help reasons version gen read journal = gen seed refl
 ends-of (Some (Read reading)) input input_new out out_new err err_new result none help reasons version gen read journal = read reading refl
 ends-of (Some (Journal what)) input input_new out out_new err err_new result none help reasons version gen read journal = journal what refl
+
+pub plain-ends : (names : Option (List ℕ × List ℕ)) (command : Option Command) (input input_new out out_new err err_new : Edge) (result : Status) →
+    (command ≡ None → names ≡ None → CommandEnds None input input_new out out_new err err_new result) →
+    (command ≡ Some Help → CommandEnds (Some Help) input input_new out out_new err err_new result) →
+    (command ≡ Some Reasons → CommandEnds (Some Reasons) input input_new out out_new err err_new result) →
+    (command ≡ Some Version → CommandEnds (Some Version) input input_new out out_new err err_new result) →
+    ((seed : ℕ) → command ≡ Some (Gen seed) → CommandEnds (Some (Gen seed)) input input_new out out_new err err_new result) →
+    ((reading : Reading) → command ≡ Some (Read reading) → CommandEnds (Some (Read reading)) input input_new out out_new err err_new result) →
+    ((what : JournalCommand) → command ≡ Some (Journal what) → CommandEnds (Some (Journal what)) input input_new out out_new err err_new result) →
+    ((pair : List ℕ × List ℕ) → names ≡ Some pair → PlainEnds (Some pair) command input input_new out out_new err err_new result) →
+    PlainEnds names command input input_new out out_new err err_new result
+plain-ends (Some pair) command input input_new out out_new err err_new result none help reasons version gen read journal paired = paired pair refl
+plain-ends None command input input_new out out_new err err_new result none help reasons version gen read journal paired =
+    ends-of command input input_new out out_new err err_new result (λ e. none e refl) help reasons version gen read journal

@@ -27,7 +27,7 @@ use Rattle.borealis_top.specs.Ends.{run_of, IsGoodRun, Holds}
 pub read_can_run : (text : List ℕ) (s : Script) → reading text ≡ Ok s → CanRun s.plan
 read_can_run text s e = can_run s (reads_have_facts text s (ap script_in e))
 
-good-run : (s : Script) → CanRun s.plan → IsChecked s → IsGoodRun s
+pub good-run : (s : Script) → CanRun s.plan → IsChecked s → IsGoodRun s
 good-run s can checked =
     record {
       safe = run-safe s.plan (lockstep_journal s) can.checked;

@@ -82,7 +82,15 @@ live_of (w ∷ v ∷ []) = live_by notation.Lines w v
 live_of (w ∷ v ∷ u ∷ []) = if bytes_eq u (codes "frames") then live_by notation.Frames w v else None
 live_of (w ∷ v ∷ u ∷ t ∷ words) = None
 
--- the command that the words are, of those that wait for nobody
+-- the names of the two clients whose one stream the words ask for
+abbrev pub pair_of : List (List ℕ) → Option (List ℕ × List ℕ)
+pair_of [] = None
+pair_of (w ∷ []) = None
+pair_of (w ∷ v ∷ []) = None
+pair_of (w ∷ v ∷ u ∷ []) = if bytes_eq w (codes "pair") then Some (v, u) else None
+pair_of (w ∷ v ∷ u ∷ t ∷ words) = None
+
+-- the command that the words are, of those that wait for nobody and have no names in them
 abbrev pub command_of : List (List ℕ) → Option Command
 command_of [] = None
 command_of (w ∷ []) = command_word w

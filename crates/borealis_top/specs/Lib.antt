@@ -3,6 +3,7 @@ pub mod Commands
 pub mod Texts
 pub mod Transfers
 pub mod Ends
-pub mod JournalEnds
+pub mod InputEnds
+pub mod Questions
 pub mod LiveEnds
 pub mod Programs

@@ -8,10 +8,11 @@ use Rattle.borealis_top.specs.declared.command.LiveCommand.{LiveCommand}
 use Rattle.borealis_top.specs.declared.status.Status.{Status}
 use Rattle.borealis_top.specs.declared.status.Status.TheVariants.{Done, Words, NoMemory}
 use Rattle.borealis_top.specs.Codes.{code_of}
-use Rattle.borealis_top.specs.Commands.{command_of, live_of}
+use Rattle.borealis_top.specs.Commands.{command_of, live_of, pair_of}
 use Rattle.borealis_top.specs.Texts.{help_text, version_text, unknown_words_line}
 use Rattle.borealis_top.specs.Ends.{IsTold, ReadEnds, ReadIsWhole, GenEnds}
-use Rattle.borealis_top.specs.JournalEnds.{JournalEnds, JournalIsWhole}
+use Rattle.borealis_top.specs.InputEnds.{EndsBy, IsWholeFor}
+use Rattle.borealis_top.specs.Questions.{journal_question, pair_question}
 use Rattle.borealis_top.specs.LiveEnds.{LiveEnds, LiveIsWhole}
 
 -- how a command ends, or words that are none
@@ -27,15 +28,22 @@ CommandEnds (Some Version) input input_new out out_new err err_new result =
 CommandEnds (Some (Read reading)) input input_new out out_new err err_new result =
     ReadEnds reading input input_new out out_new err err_new result × ReadIsWhole reading input input_new out out_new err err_new result
 CommandEnds (Some (Journal what)) input input_new out out_new err err_new result =
-    JournalEnds what input input_new out out_new err err_new result × JournalIsWhole what input input_new out out_new err err_new result
+    EndsBy (journal_question what) input input_new out out_new err err_new result × IsWholeFor (journal_question what) input input_new out out_new err err_new result
 CommandEnds (Some (Gen seed)) input input_new out out_new err err_new result =
     GenEnds seed out out_new result × (err_new ≡ err) × (input_new ≡ input)
 
+-- how a command on two clients ends, or one without names
+abbrev pub PlainEnds : Option (List ℕ × List ℕ) → Option Command → Edge → Edge → Edge → Edge → Edge → Edge → Status → Type 0
+PlainEnds (Some names) command input input_new out out_new err err_new result =
+    EndsBy (pair_question names.0 names.1) input input_new out out_new err err_new result
+    × IsWholeFor (pair_question names.0 names.1) input input_new out out_new err err_new result
+PlainEnds None command input input_new out out_new err err_new result = CommandEnds command input input_new out out_new err err_new result
+
 -- how what the words say ends: a run by so many threads, or a command that waits for nobody
-abbrev pub WordsEnd : Option LiveCommand → Option Command → Edge → Edge → Edge → Edge → Edge → Edge → Status → Type 0
-WordsEnd (Some live) command input input_new out out_new err err_new result =
+abbrev pub WordsEnd : Option LiveCommand → Option (List ℕ × List ℕ) → Option Command → Edge → Edge → Edge → Edge → Edge → Edge → Status → Type 0
+WordsEnd (Some live) names command input input_new out out_new err err_new result =
     LiveEnds live.notation input input_new out out_new err err_new result × LiveIsWhole live.notation input input_new out out_new err err_new result
-WordsEnd None command input input_new out out_new err err_new result = CommandEnds command input input_new out out_new err err_new result
+WordsEnd None names command input input_new out out_new err err_new result = PlainEnds names command input input_new out out_new err err_new result
 
 -- nothing was touched, for want of memory
 abbrev pub IsUntouched : Edge → Edge → Edge → Edge → Edge → Edge → Status → Type 0
@@ -46,7 +54,7 @@ pub record ProgramEnds (input input_new out out_new err err_new : Edge) (exit : 
   pub words : List (List ℕ)
   pub status : Status
   pub code : exit ≡ code_of status
-  pub ends : WordsEnd (live_of words) (command_of words) input input_new out out_new err err_new status
+  pub ends : WordsEnd (live_of words) (pair_of words) (command_of words) input input_new out out_new err err_new status
       ⊎ IsUntouched input input_new out out_new err err_new status
 
 -- a standard stream: it tells no bytes, and so many of its calls failed

@@ -1,6 +1,6 @@
 //! What the words of the command line ask for.
-ghost use Rattle.std.specs.Prelude.{◌≡◌, map, string_bytes, bytes_eq};
-ghost use Rattle.borealis_top.specs.Commands.{reading_word, told_word, journal_word, input_word, form_word, seed_of, command_word, two_words, command_of, workers_of, live_by, live_of};
+ghost use Rattle.std.specs.Prelude.{◌≡◌, None, Some, map, string_bytes, bytes_eq, MatchOption};
+ghost use Rattle.borealis_top.specs.Commands.{reading_word, told_word, journal_word, input_word, form_word, seed_of, command_word, two_words, command_of, workers_of, live_by, live_of, pair_of};
 
 use input_parts::notation::Notation;
 use journal_commands::outcome::JournalCommand;
@@ -39,6 +39,13 @@ pub struct LiveCommand {
     pub workers: u64,
     /// How its journal and its report are told.
     pub notation: Notation,
+}
+
+/// Two clients whose one stream is asked for, by their names.
+#[derive(Clone, Copy)]
+pub struct PairNames<'a> {
+    pub first: &'a [u8],
+    pub second: &'a [u8],
 }
 
 /// What the program is to do.
@@ -210,7 +217,27 @@ pub fn live_in(words: &[String]) -> Option<LiveCommand>
     }
 }
 
-/// The command that the words are, of those that wait for nobody.
+/// The two clients whose one stream the words ask for.
+pub fn pair_in(words: &[String]) -> Option<PairNames<'_>>
+    ensures { MatchOption result (pair_of (map string_bytes words.now) ≡ None)
+        (λ names. pair_of (map string_bytes words.now) ≡ Some (names.first.now, names.second.now)) }
+{
+    match words {
+        [word, first, second] => {
+            if is_word(word, b"pair") {
+                Some(PairNames {
+                    first: first.as_bytes(),
+                    second: second.as_bytes(),
+                })
+            } else {
+                None
+            }
+        }
+        _ => None,
+    }
+}
+
+/// The command that the words are, of those that wait for nobody and have no names in them.
 pub fn command_in(words: &[String]) -> Option<Command>
     ensures { result ≡ command_of (map string_bytes words.now) }
 {

@@ -2,8 +2,8 @@
 #![tactic(auto)]
 
 mod answer;
+mod asking;
 mod command;
-mod journal;
 mod live;
 pub mod plain;
 pub mod program;

@@ -1,5 +1,5 @@
 //! The commands that wait for nobody, which are all but `live`.
-ghost use Rattle.std.specs.Prelude.{◌≡◌, ◌⊎◌, ℕ, IfOk, Some, None, map, string_bytes};
+ghost use Rattle.std.specs.Prelude.{◌≡◌, ◌⊎◌, ℕ, List, IfOk, Some, None, map, string_bytes};
 ghost use Rattle.dpc_edge.specs.Edges.{Stays};
 ghost use Rattle.dpc_model.specs.ScriptText.{script_text};
 ghost use Rattle.report.specs.Text.{ideal_text};
@@ -8,15 +8,16 @@ ghost use Rattle.load_gen.specs.Generated.{generated};
 ghost use Rattle.script_rules.specs.ReasonTable.{reasons_text};
 ghost use Rattle.journal_commands.specs.declared.outcome.JournalCommand as journal;
 ghost use Rattle.status_lines.specs.Lines as lines;
-ghost use Rattle.borealis_top.specs.Commands.{command_of};
-ghost use Rattle.borealis_top.specs.JournalEnds.{JournalEnds, JournalIsWhole};
+ghost use Rattle.borealis_top.specs.Commands.{command_of, pair_of};
+ghost use Rattle.borealis_top.specs.InputEnds.{EndsBy, IsWholeFor};
+ghost use Rattle.borealis_top.specs.Questions.{journal_question, pair_question};
 ghost use Rattle.borealis_top.specs.Texts.{help_text, version_text, unknown_words_line};
 ghost use Rattle.borealis_top.specs.Ends.{IsTold, IsToldBoth, IsToldOpen, IsToldAlong, ReadEnds, ReadIsWhole, GenEnds};
 ghost use Rattle.borealis_top.specs.declared.command.Reading as reading;
 
 use crate::answer::{Answer, answer_script};
-use crate::command::{Command, Reading, command_in};
-use crate::journal::read_journal;
+use crate::asking::ask;
+use crate::command::{Command, Reading, command_in, pair_in};
 use crate::status::Status;
 use crate::transfer::{InputFault, MOST_INPUT, read_whole};
 use diagram_printer::print_script;
@@ -50,6 +51,7 @@ borealis audit frames < BOTH     the same of a stream in frames
 borealis upgrade < BOTH          writes a script, and the journal behind it if there is one, in the newest form
 borealis live N < SCRIPT         runs a script by N threads, 1 to 16, and writes the journal and what each client received
 borealis live N frames < SCRIPT  the same as frames
+borealis pair X Y < SCRIPT       runs a script, and writes one stream made of what clients X and Y of one stream received
 borealis gen N                   writes the generated script of a number, 1 to 1000
 borealis reasons                 writes the reasons to refuse a line, each with its number
 borealis --help                  writes these lines
@@ -99,7 +101,7 @@ pub fn plain<S: Source, O: Sink, E: Sink>(
     out: &mut O,
     err: &mut E,
 ) -> Status
-    ensures words { command_of (map string_bytes words.now) ≡ None
+    ensures words { command_of (map string_bytes words.now) ≡ None → pair_of (map string_bytes words.now) ≡ None
         → IsTold (E.edge err.old) (E.edge err.new) unknown_words_line Status.Words result
         × (out.new ≡ out.old) × (input.new ≡ input.old) }
     ensures help { command_of (map string_bytes words.now) ≡ Some Command.Help
@@ -120,11 +122,20 @@ pub fn plain<S: Source, O: Sink, E: Sink>(
         → ReadIsWhole what (S.edge input.old) (S.edge input.new) (O.edge out.old) (O.edge out.new) (E.edge err.old)
         (E.edge err.new) result }
     ensures journal { (what : journal.JournalCommand) → command_of (map string_bytes words.now) ≡ Some (Command.Journal what)
-        → JournalEnds what (S.edge input.old) (S.edge input.new) (O.edge out.old) (O.edge out.new) (E.edge err.old) (E.edge err.new) result }
+        → EndsBy (journal_question what) (S.edge input.old) (S.edge input.new) (O.edge out.old) (O.edge out.new) (E.edge err.old) (E.edge err.new) result }
     ensures answered { (what : journal.JournalCommand) → command_of (map string_bytes words.now) ≡ Some (Command.Journal what)
-        → JournalIsWhole what (S.edge input.old) (S.edge input.new) (O.edge out.old) (O.edge out.new) (E.edge err.old)
+        → IsWholeFor (journal_question what) (S.edge input.old) (S.edge input.new) (O.edge out.old) (O.edge out.new) (E.edge err.old)
         (E.edge err.new) result }
+    ensures pair { (first second : List ℕ) → pair_of (map string_bytes words.now) ≡ Some (first, second)
+        → EndsBy (pair_question first second) (S.edge input.old) (S.edge input.new) (O.edge out.old) (O.edge out.new)
+        (E.edge err.old) (E.edge err.new) result }
+    ensures paired { (first second : List ℕ) → pair_of (map string_bytes words.now) ≡ Some (first, second)
+        → IsWholeFor (pair_question first second) (S.edge input.old) (S.edge input.new) (O.edge out.old) (O.edge out.new)
+        (E.edge err.old) (E.edge err.new) result }
 {
+    if let Some(names) = pair_in(words) {
+        return ask(alloc, &names, input, out, err);
+    }
     match command_in(words) {
         None => told(err, UNKNOWN_WORDS, Status::Words),
         Some(Command::Help) => told(out, HELP, Status::Done),
@@ -132,7 +143,7 @@ pub fn plain<S: Source, O: Sink, E: Sink>(
         Some(Command::Version) => told(out, VERSION, Status::Done),
         Some(Command::Gen(seed)) => gen_script(alloc, seed, out),
         Some(Command::Read(reading)) => read(alloc, reading, input, out, err),
-        Some(Command::Journal(what)) => read_journal(alloc, what, input, out, err),
+        Some(Command::Journal(what)) => ask(alloc, &what, input, out, err),
     }
 }
 

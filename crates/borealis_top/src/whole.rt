@@ -1,6 +1,6 @@
 //! All commands: those that wait for nobody, and a run by several threads.
 ghost use Rattle.std.specs.Prelude.{map, string_bytes};
-ghost use Rattle.borealis_top.specs.Commands.{command_of, live_of};
+ghost use Rattle.borealis_top.specs.Commands.{command_of, live_of, pair_of};
 ghost use Rattle.borealis_top.specs.Programs.{WordsEnd};
 
 use crate::command::live_in;
@@ -25,7 +25,7 @@ pub fn borealis<R: Threads + Wait + Sync, S: Source, O: Sink, E: Sink, G: Gate +
     err: &mut E,
     gate: &G,
 ) -> Status
-    ensures { WordsEnd (live_of (map string_bytes words.now)) (command_of (map string_bytes words.now))
+    ensures { WordsEnd (live_of (map string_bytes words.now)) (pair_of (map string_bytes words.now)) (command_of (map string_bytes words.now))
         (S.edge input.old) (S.edge input.new) (O.edge out.old) (O.edge out.new) (E.edge err.old) (E.edge err.new) result }
 {
     match live_in(words) {

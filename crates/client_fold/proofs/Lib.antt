@@ -1,3 +1,4 @@
 mod Following
 mod Batching
 mod Ticking
+mod Marks

@@ -6,7 +6,6 @@ use Rattle.dpc_model.specs.PartStands.{InletValue}
 use Rattle.dpc_model.specs.Ports.{port_after_tick, without_ended_marks, subscriptions}
 use Rattle.dpc_model.specs.declared.batches.Taken.{Taken}
 use Rattle.dpc_model.specs.declared.batches.Taken.TheVariants as taken_as
-use Rattle.dpc_model.specs.declared.messages.Message.{Message}
 use Rattle.dpc_model.specs.declared.messages.Message.TheVariants as message
 use Rattle.dpc_model.specs.declared.messages.Out.{Out}
 use Rattle.dpc_model.specs.declared.messages.Sess.{Sess}

@@ -1,5 +1,5 @@
 //! A client, and what it has.
-ghost use Rattle.std.specs.Prelude.{◌≡◌, ◌<◌, ◌≤◌, ℕ, length, IfOk};
+ghost use Rattle.std.specs.Prelude.{◌≡◌, ◌<◌, ◌≤◌, ℕ, length, drop, IfOk};
 ghost use Rattle.dpc_model.specs.Actors.{senders_of};
 ghost use Rattle.dpc_model.specs.Reading.{is_settled};
 ghost use Rattle.dpc_model.specs.declared.plans.Plan.{Plan};
@@ -27,11 +27,14 @@ pub struct Client {
     inlet: Inlet,
     /// What was taken of each batch, in order.
     taken: Vec<Shared<Item>>,
+    /// How many items those are.
+    total: u128,
     end: u64,
     clock: u64,
 }
 
 impl Model for Client {
+    ghost use Rattle.std.specs.Prelude.{◌≡◌, length};
     ghost use Rattle.std.specs.Coded.{codes};
     ghost use Rattle.client_fold.specs.Folding.{ClientValue, all_taken};
 
@@ -40,6 +43,24 @@ impl Model for Client {
     ghost coded = { Prim.hlevel codes };
 
     ghost view = { λ c. record { end = c.end; upstream = c.upstream; inlet = c.inlet; taken = all_taken c.taken.items; clock = c.clock } };
+
+    ghost invariant = { λ c. c.total ≡ length (all_taken c.taken.items) };
+}
+
+/// The last batches, as few as hold all items from number `mark` on, and how many items in front of these. There are
+/// `total` items in all batches.
+fn last_batches(batches: &[Shared<Item>], total: u128, mark: u128) -> (&[Shared<Item>], u128)
+    requires total { total ≡ length (all_taken batches.now) }
+    requires mark { mark ≤ total }
+    ensures { drop result.1 (all_taken result.0.now) ≡ drop mark (all_taken batches.now) }
+{
+    let mut first = batches.len();
+    let mut before = total;
+    while before > mark {
+        first -= 1;
+        before -= batches[first].len() as u128;
+    }
+    (&batches[first..], mark - before)
 }
 
 impl Client {
@@ -55,6 +76,7 @@ impl Client {
             upstream,
             inlet: Inlet::new(alloc, 1),
             taken: Vec::new(alloc),
+            total: 0,
             end: plan.end,
             clock: 0,
         })
@@ -65,6 +87,29 @@ impl Client {
         ensures { all_taken result.now ≡ self.now.taken }
     {
         self.taken.as_slice()
+    }
+
+    /// How many items were taken.
+    pub fn total(&self) -> u128
+        ensures { result ≡ length self.now.taken }
+    {
+        self.total
+    }
+
+    /// What was taken behind the first so many items: the last batches, as few as hold it, and how many items in front of
+    /// them are not part of it. It looks at these batches alone.
+    pub fn taken_behind(&self, mark: u128) -> (&[Shared<Item>], u128)
+        requires { mark ≤ length self.now.taken }
+        ensures { drop result.1 (all_taken result.0.now) ≡ drop mark self.now.taken }
+    {
+        last_batches(self.taken.as_slice(), self.total, mark)
+    }
+
+    /// What is known of the replicas that it may read, and which it reads.
+    pub fn upstream(&self) -> &Upstream
+        ensures { result.now ≡ self.now.upstream }
+    {
+        &self.upstream
     }
 
     /// How many stable tuples there were.

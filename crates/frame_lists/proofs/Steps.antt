@@ -8,7 +8,7 @@ use Rattle.stream_codec.specs.declared.faults.DecodeFault.TheVariants.{Short}
 use Rattle.stream_codec.specs.declared.frames.Frame.{Frame}
 use Rattle.stream_codec.proofs.Reprinted.{read-whole}
 use Rattle.stream_codec.proofs.Steps.{kind-told, length-told, rest-told, body-told, not-ok}
-use Rattle.frame_lists.specs.Lists.{part_of, part_at, parts_from, parts_of}
+use Rattle.frame_lists.specs.Lists.{part_of, part_at, parts_from, parts_of, BeginWithFrame}
 
 -- a frame that is read has five bytes or more
 pub read-some : (bs : List ℕ) (f : Frame) (n : ℕ) → decoded bs ≡ Ok (f, n) → 5 ≤ n
@@ -67,15 +67,16 @@ module _ {T : Type 0} (part : Frame → Option T) where
   no-more (suc steps) before (b ∷ bytes) some h =
       ap (λ (o : Option (T × ℕ)). elim o as (λ _. Result (List T) ℕ) [ None ↦ Err (length before) | Some y ↦ parts_from part steps (before ++ y.0 ∷ []) (drop y.1 (b ∷ bytes)) ]) h
 
-  -- ---- a reading under way: what is left is read to the same as the whole
+  -- ---- a reading under way: what is left is read to the same as the whole, and does not begin with a frame unless the whole does
   pub record IsUnderWay (bytes : List ℕ) (parts : List T) (rest : List ℕ) : Type 0 where
     pub steps : ℕ
     pub enough : length rest ≤ steps
     pub same : parts_from part steps parts rest ≡ parts_of part bytes
+    pub begun : BeginWithFrame rest → BeginWithFrame bytes
 
   pub at-start : (bytes : List ℕ) → IsUnderWay bytes [] bytes
   unfolding parts_of
-  at-start bytes = record { steps = length bytes; enough = omega arith; same = refl }
+  at-start bytes = record { steps = length bytes; enough = omega arith; same = refl; begun = λ h. h }
 
   pub goes-on : (bytes : List ℕ) (parts : List T) (rest left : List ℕ) (x : T) (n : ℕ) → IsUnderWay bytes parts rest → 1 ≤ length rest → part_at part rest ≡ Some (x, n) →
       left ≡ drop n rest → IsUnderWay bytes (parts ++ x ∷ []) left
@@ -85,10 +86,12 @@ module _ {T : Type 0} (part : Frame → Option T) where
       by-steps zero enough same = absurd (omega (arith, some, enough))
       by-steps (suc steps) enough same =
           let long = some-bytes rest x n h in
+          let first = is-read rest x n h in
           record {
             steps = steps;
             enough = rw e (omega (arith, length-drop n rest, long, enough, some));
             same = ap (parts_from part steps (parts ++ x ∷ [])) e ∙ sym (one-more steps parts rest x n some h) ∙ same;
+            begun = λ _. way.begun ((first.frame, n), first.read);
           }
 
   pub ends : (bytes : List ℕ) (parts : List T) (rest : List ℕ) → IsUnderWay bytes parts rest → rest ≡ [] → parts_of part bytes ≡ Ok parts

@@ -68,12 +68,22 @@ module _ {T : Type 0} (part : Frame → Option T) where
 
 -- ---- what code answers
 
--- there is no frame of the sort, or memory was wanting
+-- bytes begin with a frame, of whatever sort
+abbrev pub BeginWithFrame : List ℕ → Type 0
+BeginWithFrame bytes = (x : Frame × ℕ) × (decoded bytes ≡ Ok x)
+
+-- there is no frame of the sort, or memory was wanting, of which `WantsMemory` speaks
 abbrev pub IsNone : {T : Type 0} → Option (T × ℕ) → ℕ → ListFault → Type 0
 IsNone told count NoMemory = ⊤
 IsNone told count (NoFrame n) = (told ≡ None) × (n ≡ count)
 
-abbrev pub IsList : {T : Type 0} → Result (List T) ℕ → Result (Vec T Global) ListFault → Type 0
-IsList told (Ok parts) = told ≡ Ok parts.items
-IsList told (Err NoMemory) = ⊤
-IsList told (Err (NoFrame n)) = told ≡ Err n
+-- memory was wanting only where the bytes begin with a frame
+abbrev pub WantsMemory : List ℕ → ListFault → Type 0
+WantsMemory bytes NoMemory = BeginWithFrame bytes
+WantsMemory bytes (NoFrame n) = ⊤
+
+-- all that the bytes hold, or where there is no frame of the sort; want of memory only where the bytes begin with a frame
+abbrev pub IsList : {T : Type 0} → Result (List T) ℕ → List ℕ → Result (Vec T Global) ListFault → Type 0
+IsList told bytes (Ok parts) = told ≡ Ok parts.items
+IsList told bytes (Err NoMemory) = BeginWithFrame bytes
+IsList told bytes (Err (NoFrame n)) = told ≡ Err n

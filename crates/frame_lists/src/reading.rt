@@ -17,6 +17,7 @@ fn next_part<'a, T, S: Sort<T>>(
 ) -> Result<(T, &'a [u8]), ListFault>
     ensures part { IfOk result (λ x. (n : ℕ) × (spec.part_at (S.part sort.now) bytes.now ≡ Some (x.0, n)) × (x.1.now ≡ drop n bytes.now)) }
     ensures none { IfErr result (spec.IsNone (spec.part_at (S.part sort.now) bytes.now) count) }
+    ensures memory { IfErr result (spec.WantsMemory bytes.now) }
 {
     match decode(alloc, bytes) {
         Ok((frame, taken)) => match sort.part(frame) {
@@ -29,13 +30,14 @@ fn next_part<'a, T, S: Sort<T>>(
 }
 
 /// What frames of one sort hold that stand one behind another to the end of the bytes, or how many stand in front of the first place
-/// where no such frame begins. It is one pass, and takes memory for what they hold.
+/// where no such frame begins. Want of memory is told only where the bytes begin with a frame. It is one pass, and takes memory for what
+/// they hold.
 pub fn read_frames<T: Drop, S: Sort<T>>(
     alloc: Global,
     sort: &S,
     bytes: &[u8],
 ) -> Result<Vec<T>, ListFault>
-    ensures { spec.IsList (spec.parts_of (S.part sort.now) bytes.now) result }
+    ensures { spec.IsList (spec.parts_of (S.part sort.now) bytes.now) bytes.now result }
 {
     let mut parts = Vec::new(alloc);
     let mut rest = bytes;

@@ -3,7 +3,7 @@ use Rattle.std.proofs.Common.{◌≡◌, ℕ, ◌+◌, ◌-◌, ◌/◌, ◌≤�
 use Rattle.byteorder.specs.Endian.{big_number}
 use Rattle.stream_codec.specs.Kinds.{width, holds, fields, has_columns, kind_of}
 use Rattle.stream_codec.specs.Frames.{widths, bad_place, all_hold, numbers_at, columns_at, has_wrong_count, frame_of, decoded, decoded_of, decoded_rest, values_at, decoded_body, IsDecoding, AreNumbers, IsBadField, AreColumns, IsBadCount}
-use Rattle.stream_codec.proofs.Steps.{told-kind, told-length}
+use Rattle.stream_codec.proofs.Steps.{told-kind, told-length, told-frame}
 use Rattle.stream_codec.specs.declared.faults.DecodeFault.{DecodeFault}
 use Rattle.stream_codec.specs.declared.faults.DecodeFault.TheVariants.{NoMemory, Short, BadKind, BadLength, BadValue}
 use Rattle.stream_codec.specs.declared.frames.Frame.{Frame}
@@ -86,9 +86,9 @@ wrong-count : (k : Kind) (n : ℕ) (bs ns : List ℕ) → AreNumbers (fields k) 
     → decoded_body k n bs ≡ Err (BadValue (5 + widths (fields k)))
 wrong-count k n bs ns a h = rw (a.good, decoded_body, h) refl
 
--- a wrong count, or no memory
+-- a wrong count, or no memory for a frame
 pub bad-count : (k : Kind) (n : ℕ) (bs ns : List ℕ) (e : DecodeFault) → AreNumbers (fields k) bs ns → IsBadCount k n bs e → IsDecoding (decoded_body k n bs) (Err e)
-bad-count k n bs ns NoMemory a h = tt
+bad-count k n bs ns NoMemory a h = ((frame_of k (numbers_at (fields k) bs) (columns_at k n bs), 5 + n), told-frame k n bs a.good h)
 bad-count k n bs ns Short a h = wrong-count k n bs ns a h.0 ∙ ap Err (sym h.1)
 bad-count k n bs ns (BadKind x) a h = wrong-count k n bs ns a h.0 ∙ ap Err (sym h.1)
 bad-count k n bs ns (BadLength x) a h = wrong-count k n bs ns a h.0 ∙ ap Err (sym h.1)

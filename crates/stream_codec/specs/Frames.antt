@@ -1,5 +1,5 @@
 -- The bytes of a frame, and the frame that stands in front of bytes.
-use Rattle.std.specs.Prelude.{⊤, ◌≡◌, ℕ, zero, suc, ◌+◌, ◌-◌, ◌/◌, ◌%◌, ◌^◌, ◌==◌, nat_lt, nat_le, ◌&&◌, not, Bool, true, false, ℤ, pos, negsuc, int_le, if◌then◌else◌, List, [], ◌∷◌, ◌++◌, flat_map, length, take, drop, slice_index, Option, Some, None, Result, Ok, Err}
+use Rattle.std.specs.Prelude.{◌≡◌, ℕ, zero, suc, ◌+◌, ◌-◌, ◌/◌, ◌%◌, ◌^◌, ◌==◌, nat_lt, nat_le, ◌&&◌, not, Bool, true, false, ℤ, pos, negsuc, int_le, if◌then◌else◌, List, [], ◌∷◌, ◌++◌, flat_map, length, take, drop, slice_index, Option, Some, None, Result, Ok, Err}
 use Rattle.std.specs.Int.{w64, cast_unsigned, cast_signed}
 use Rattle.dpc_lists.specs.Lists.{list_all}
 use Rattle.byteorder.specs.Endian.{big_bytes, big_number}
@@ -204,10 +204,10 @@ unfoldable pub decoded : List ℕ → Result (Frame × ℕ) DecodeFault
 decoded [] = Err Short
 decoded (b ∷ bs) = elim (kind_of b) [ None ↦ Err (BadKind b) | Some k ↦ decoded_of k bs ]
 
--- the frame and its length, the fault of the bytes, or want of memory
+-- the frame and its length, or the fault of the bytes; want of memory only where there is a frame
 abbrev pub IsDecoding : Result (Frame × ℕ) DecodeFault → Result (Frame × ℕ) DecodeFault → Type 0
 IsDecoding told (Ok x) = told ≡ Ok x
-IsDecoding told (Err NoMemory) = ⊤
+IsDecoding told (Err NoMemory) = (x : Frame × ℕ) × (told ≡ Ok x)
 IsDecoding told (Err fault) = told ≡ Err fault
 
 -- ---- what the parts of a reader tell
@@ -229,7 +229,7 @@ pub record AreColumns (k : Kind) (n : ℕ) (bs : List ℕ) (vs : List ℤ) : Typ
   pub right : has_wrong_count k n bs ≡ false
   pub read : vs ≡ columns_at k n bs
 
--- the count of columns is wrong, and the fault names its place, or there is no memory
+-- the count of columns is wrong, and the fault names its place, or it is right, and there is no memory
 abbrev pub IsBadCount : Kind → ℕ → List ℕ → DecodeFault → Type 0
-IsBadCount k n bs NoMemory = ⊤
+IsBadCount k n bs NoMemory = has_wrong_count k n bs ≡ false
 IsBadCount k n bs e = (has_wrong_count k n bs ≡ true) × (e ≡ BadValue (5 + widths (fields k)))

@@ -167,7 +167,8 @@ fn decode_rest(
 
 /// The frame with which the bytes begin, and how many bytes it has, whatever follows. Of several faults the first is
 /// told in this order: the kind, the length, bytes that are missing, and the first field that is out of its range.
-/// It takes memory only for a tuple of more values than a tuple holds in itself.
+/// Want of memory is told only where there is a frame. It takes memory only for a tuple of more values than a tuple
+/// holds in itself.
 #[tactic(auto, unfolding(crate::specs::Frames::decoded))]
 pub fn decode(alloc: Global, input: &[u8]) -> Result<(Frame, usize), DecodeFault>
     ensures { spec.IsDecoding (spec.decoded input.now) result }

@@ -13,6 +13,9 @@ use dpc_model::messages::{Beat, Message, Sess};
 use dpc_model::tuples::Item;
 use std::alloc::Global;
 
+/// Where more items were taken, their number might pass its range with the next batch.
+const MOST_TAKEN: u128 = u128::MAX - u64::MAX as u128;
+
 impl Client {
     /// Marks end that the stable tuples reach.
     fn end_marks(&mut self)
@@ -34,16 +37,18 @@ impl Client {
         ensures ok { OnOk result (IsFolded sess index items.now self.old self.new) }
         ensures err { OnErr result (self.new ≡ self.old) }
     {
-        if !self.inlet.has_room(items.len()) {
+        if !self.inlet.has_room(items.len()) || self.total > MOST_TAKEN {
             return Err(NoMemory);
         }
         self.taken.reserve(1)?;
         let Taken::Used(items) = self.inlet.take(alloc, sess, index, items)? else {
             return Ok(());
         };
+        let used = items.len() as u128;
         let Ok(()) = self.taken.push(items) else {
             unreachable!()
         };
+        self.total += used;
         let bound = self.inlet.bound();
         self.inlet.drop_below(bound);
         Ok(())

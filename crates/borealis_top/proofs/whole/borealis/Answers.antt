@@ -1,7 +1,7 @@
 -- Words that ask for a run by several threads end as that does, and all others as `plain` does.
 use Rattle.std.proofs.Common.{◌≡◌, ◌∙◌, None, Some, ap, sym, map, string_bytes}
 use Rattle.borealis_top.specs.Commands.{live_of}
-use Rattle.borealis_top.proofs.Commands.{ends-of}
+use Rattle.borealis_top.proofs.Commands.{plain-ends}
 use Rattle.borealis_top.proofs.Words.{live-range}
 use Rattle.borealis_top.proofs.whole.borealis.Goals as goal
 
@@ -19,15 +19,16 @@ returns-in-None g c =
     let done = c.plain in
     let none : live_of (map string_bytes c.args.words.now) ≡ None = sym c.live_in.ensures ∙ c.in-None.is in
     rw none
-    (ends-of _ (source.edge c.args.input.now) (source.edge done.new.input) (text.edge c.args.out.now) (text.edge done.new.out) (line.edge c.args.err.now)
+    (plain-ends _ _ (source.edge c.args.input.now) (source.edge done.new.input) (text.edge c.args.out.now) (text.edge done.new.out) (line.edge c.args.err.now)
     (line.edge done.new.err) done.result
-    (λ e. let h = done.ensures.words e in (h.0, ap text.edge h.1, ap source.edge h.2))
+    (λ e no. let h = done.ensures.words e no in (h.0, ap text.edge h.1, ap source.edge h.2))
     (λ e. let h = done.ensures.help e in (h.0, ap line.edge h.1, ap source.edge h.2))
     (λ e. let h = done.ensures.reasons e in (h.0, ap line.edge h.1, ap source.edge h.2))
     (λ e. let h = done.ensures.version e in (h.0, ap line.edge h.1, ap source.edge h.2))
     (λ seed e. let h = done.ensures.made seed e in (h.0, ap line.edge h.1, ap source.edge h.2))
     (λ reading e. (done.ensures.read reading e, done.ensures.complete reading e))
-    (λ what e. (done.ensures.journal what e, done.ensures.answered what e)))
+    (λ what e. (done.ensures.journal what e, done.ensures.answered what e))
+    (λ names e. (done.ensures.pair names.0 names.1 e, done.ensures.paired names.0 names.1 e)))
 
 pub returns-in-Some : goal.returns-in-Some
 returns-in-Some g c =

@@ -7,7 +7,7 @@ use Rattle.lockstep.proofs.Phasing.{phases-past}
 use Rattle.lockstep.proofs.phase.RunSoFar.phases.Goals as goal
 
 pub returns-in_err-phase-clause-long : goal.returns-in_err-phase-clause-long
-returns-in_err-phase-clause-long c =
+returns-in_err-phase-clause-long g c =
     let p = c.loop-phase.self.phase in
     let first = c.loop-phase.self.first in
     let fault = c.in_err-phase.field-0.0 in

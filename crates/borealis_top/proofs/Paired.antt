@@ -1,0 +1,29 @@
+-- What holds of the run of a script and of the one stream of two of its clients.
+use Rattle.std.proofs.Common.{◌≡◌, ℕ, ◌^◌, ◌<◌, List, length, Err, ap, refl}
+use Rattle.std.proofs.lemmas.Bool.{lt-ltb}
+use Rattle.dpc_model.specs.Limits.{most_input}
+use Rattle.script_rules.specs.Reading.{reading}
+use Rattle.script_rules.specs.declared.reasons.Reason.TheVariants.{PastLimit}
+use Rattle.law_scripts.proofs.ReadChecked.{reads_checked}
+use Rattle.law_pairs.proofs.Whole.{one-stream}
+use Rattle.world_model.specs.Schedules.{lockstep_journal}
+use Rattle.journal_commands.proofs.Promised.{read-can-run}
+use Rattle.pair_commands.specs.Pairs.{read_ending}
+use Rattle.pair_commands.proofs.Readers.{named-readers}
+use Rattle.borealis_top.specs.InputEnds.{IsSound}
+use Rattle.borealis_top.specs.Questions.{pair_question}
+use Rattle.borealis_top.proofs.Runs.{good-run}
+
+long-reading : (text : List ℕ) → most_input < length text → reading text ≡ Err (record { line = 0; reason = PastLimit })
+unfolding reading
+long-reading text long = rw (lt-ltb (2 ^ 26) (length text) long) refl
+
+pub pair-sound : (first second : List ℕ) → IsSound (pair_question first second)
+pair-sound first second =
+    record {
+      long = λ text long. ap (read_ending first second) (long-reading text long);
+      all = λ text s x y is named.
+          let can = read-can-run text s is in
+          let readers = named-readers s.plan first second x y named in
+          record { run = good-run s can (reads_checked text s is); readers = readers; stream = one-stream s.plan (lockstep_journal s) x y can.checked readers };
+    }

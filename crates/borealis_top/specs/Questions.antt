@@ -1,0 +1,33 @@
+-- What the commands on a whole input ask of it.
+use Rattle.std.specs.Prelude.{◌≡◌, ℕ, List, None, Some}
+use Rattle.dpc_model.specs.Limits.{most_input}
+use Rattle.dpc_model.specs.declared.scripts.Script.{Script}
+use Rattle.script_rules.specs.Reading.{read}
+use Rattle.world_model.specs.Worlds.{excess}
+use Rattle.world_model.specs.Schedules.{lockstep_journal}
+use Rattle.journal_commands.specs.declared.outcome.JournalCommand.{JournalCommand}
+use Rattle.journal_commands.specs.Endings.{most_journal_input, ending_of}
+use Rattle.journal_commands.specs.Promises.{Holds}
+use Rattle.law_pairs.specs.Pairs.{AreReaders, IsOneStream}
+use Rattle.pair_commands.specs.Named.{pair_named}
+use Rattle.pair_commands.specs.Pairs.{pair_ending}
+use Rattle.borealis_top.specs.Ends.{IsGoodRun}
+use Rattle.borealis_top.specs.InputEnds.{Question}
+
+-- of a script and the journal or stream behind it
+abbrev pub journal_question : JournalCommand → Question
+journal_question what = record { most = most_journal_input; ending = ending_of what; holds = Holds what }
+
+-- what holds of the run of a script and of the one stream of two of its clients
+pub record IsGoodPair (s : Script) (x y : ℕ) : Type 0 where
+  pub run : IsGoodRun s
+  pub readers : AreReaders s.plan x y
+  pub stream : IsOneStream s.plan (lockstep_journal s) x y
+
+-- so it is of every script with such clients
+abbrev pub PairHolds : List ℕ → List ℕ → List ℕ → Type 0
+PairHolds first second input = (s : Script) (x y : ℕ) → read input ≡ Some s → pair_named s.plan first second ≡ Some (x, y) → IsGoodPair s x y
+
+-- of a script with clients under these names
+abbrev pub pair_question : List ℕ → List ℕ → Question
+pair_question first second = record { most = most_input; ending = pair_ending first second; holds = PairHolds first second }

@@ -1,0 +1,33 @@
+//! Who looks at a run.
+ghost use Rattle.std.specs.Prelude.{⊤, ◌≡◌, false, OnOk};
+ghost use Rattle.run_watchers.specs.Watching.{gone_on};
+ghost use Rattle.world_core.specs.Runs.{RunOf};
+
+use dpc_lists::faults::NoMemory;
+use dpc_model::messages::Event;
+use std::alloc::Global;
+use world_core::world::World;
+
+/// Looks at a run after each of its events.
+pub trait Watcher {
+    /// What one that began so has made of a run whose events it saw, each when it had happened.
+    ghost saw: { Self → RunOf → Self → Type 0 };
+
+    /// One more event happened.
+    fn see(&mut self, alloc: Global, world: &World, event: Event) -> Result<(), NoMemory>
+        requires { world.now.spent ≡ false }
+        ensures { (start : Self) (before : RunOf) → world.now ≡ gone_on before event → saw start before self.old
+            → OnOk result (saw start world.now self.new) };
+}
+
+/// Nobody looks.
+#[derive(Clone, Copy)]
+pub struct Unwatched;
+
+impl Watcher for Unwatched {
+    ghost saw = { λ _ _ _. ⊤ };
+
+    fn see(&mut self, _alloc: Global, _world: &World, _event: Event) -> Result<(), NoMemory> {
+        Ok(())
+    }
+}
