@@ -1,0 +1,8 @@
+pub mod Parts
+pub mod Moves
+pub mod Views
+pub mod Counts
+pub mod Steps
+pub mod Making
+pub mod Leaving
+pub mod Gathering
