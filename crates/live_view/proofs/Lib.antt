@@ -1,0 +1,6 @@
+pub mod Keeping
+pub mod Looks
+pub mod Tellings
+pub mod Opening
+pub mod SampleTold
+pub mod TakenItems

@@ -1,0 +1,16 @@
+use Rattle.std.proofs.Common.{◌≡◌, ◌+◌, map, take}
+use Rattle.saved_slots.specs.Series.{last_kept, GivesWay}
+use Rattle.saved_slots.specs.Resting.{history_in, room_in, number_in, kept_in, IsResting}
+use Rattle.saved_slots.proofs.series.save_each.Given as goal
+
+abbrev pub invariant-loop-payload : goal.invariant-loop-payload
+invariant-loop-payload g l =
+    let old = l.fn.slots in
+    let saved = map g.P.Payload.bytes (take l.payload-index l.payloads) in
+    record {
+      same : room_in l.slots ≡ room_in old;
+      number : number_in l.slots ≡ number_in old + l.payload-index;
+      rests : IsResting old → IsResting l.slots;
+      way : IsResting old → GivesWay (room_in old) (kept_in old) saved (history_in old) (history_in l.slots);
+      kept : IsResting old → kept_in l.slots ≡ last_kept (kept_in old) saved;
+    }

@@ -1,0 +1,28 @@
+//! Saves one after another.
+ghost use Rattle.std.specs.Prelude.{◌≡◌, ◌<◌, ◌+◌, ◌^◌, length, map, OnOk, OnErr};
+ghost use Rattle.saved_slots.specs.Series.{last_kept, GivesWay, IsCutShort};
+ghost use Rattle.saved_slots.specs.Resting.{history_in, room_in, number_in, kept_in, IsResting};
+
+use crate::fault::SaveFault;
+use crate::payload::Payload;
+use crate::slots::SavedSlots;
+use disk_model::disk::Disk;
+use std::alloc::Global;
+
+/// Saves each, up to the first that is refused. One that was acknowledged gives way only to what was saved later.
+pub fn save_each<D: Disk, P: Payload>(
+    slots: &mut SavedSlots<D>,
+    alloc: Global,
+    payloads: &[P],
+) -> Result<(), SaveFault>
+    requires { number_in slots.old + length payloads.now < 2 ^ 64 }
+    ensures rests { IsResting slots.old → OnOk result (IsResting slots.new) }
+    ensures gives_way { IsResting slots.old → OnOk result (GivesWay (room_in slots.old) (kept_in slots.old) (map P.bytes payloads.now) (history_in slots.old) (history_in slots.new)) }
+    ensures kept { IsResting slots.old → OnOk result (kept_in slots.new ≡ last_kept (kept_in slots.old) (map P.bytes payloads.now)) }
+    ensures cut_short { IsResting slots.old → OnErr result (IsCutShort (room_in slots.old) (kept_in slots.old) (map P.bytes payloads.now) (history_in slots.old) (history_in slots.new)) }
+{
+    for payload in payloads {
+        slots.save(alloc, payload)?;
+    }
+    Ok(())
+}
