@@ -1,9 +1,9 @@
 #!/usr/bin/env python3
 """run_threads [PROGRAM]: measures `borealis live N` beside `borealis run`.
 
-A line for each script and each number of workers: seconds by the clock, seconds of the processor, the most memory in
-MiB, how many entries the journal has, and the share of the clock of `run` and of `live 1`. The best of three runs by the
-clock. What is written is thrown away, but for the count of entries.
+A line for each script and each crew of workers, and of millers at a pool: seconds by the clock, seconds of the
+processor, the most memory in MiB, how many entries the journal has, and the share of the clock of `run` and of
+`live 1`. The best of three runs by the clock. What is written is thrown away, but for the count of entries.
 """
 import os
 import subprocess
@@ -15,7 +15,7 @@ from run_engine import BUILT, chain, deep, wide
 from run_journals import mesh
 
 ROUNDS = 3
-WORKERS = (1, 2, 4)
+CREWS = ("1", "2", "4", "1 pool 3")
 
 
 def measure(program, words, script):
@@ -55,7 +55,7 @@ def main():
                     file.write(("\n".join(make()) + "\n").encode())
             count = entries(program, path)
             run = measure(program, ["run"], path)
-            rows = [("run", run)] + [(f"live {it}", measure(program, ["live", str(it)], path)) for it in WORKERS]
+            rows = [("run", run)] + [(f"live {it}", measure(program, ["live", *it.split()], path)) for it in CREWS]
             alone = rows[1][1][0]
             for words, (clock, processor, memory, status) in rows:
                 shares = f"{clock / run[0]:.2f} | {clock / alone:.2f}"

@@ -65,22 +65,29 @@ two_words w v =
     else (if bytes_eq v (codes "frames") then option_map Journal (told_word notation.Frames w)
     else None))
 
--- how many workers run a script: 1 to 16
-abbrev pub workers_of : List ℕ → Option ℕ
-workers_of w = if is_numeral w && nat_le 1 (number w) && nat_le (number w) 16 then Some (number w) else None
+-- how many threads of a kind run a script: 1 to 16
+abbrev pub threads_of : List ℕ → Option ℕ
+threads_of w = if is_numeral w && nat_le 1 (number w) && nat_le (number w) 16 then Some (number w) else None
 
--- the run by several threads that two words ask for, and how it is told
-abbrev pub live_by : Notation → List ℕ → List ℕ → Option LiveCommand
-live_by told w v =
-    if bytes_eq w (codes "live") then option_map (λ n. record { workers = n; notation = told }) (workers_of v) else None
+-- the run by several threads that two words ask for, with so many others that mill, and how it is told
+abbrev pub live_by : Notation → Option ℕ → List ℕ → List ℕ → Option LiveCommand
+live_by told millers w v =
+    if bytes_eq w (codes "live") then option_map (λ n. record { workers = n; millers = millers; notation = told }) (threads_of v) else None
+
+-- the run through a pool that four words ask for, and how it is told
+abbrev pub pool_by : Notation → List ℕ → List ℕ → List ℕ → List ℕ → Option LiveCommand
+pool_by told w v u t =
+    if bytes_eq u (codes "pool") then (elim (threads_of t) [ Some m ↦ live_by told (Some m) w v | None ↦ None ]) else None
 
 -- the run by several threads that the words ask for
 abbrev pub live_of : List (List ℕ) → Option LiveCommand
 live_of [] = None
 live_of (w ∷ []) = None
-live_of (w ∷ v ∷ []) = live_by notation.Lines w v
-live_of (w ∷ v ∷ u ∷ []) = if bytes_eq u (codes "frames") then live_by notation.Frames w v else None
-live_of (w ∷ v ∷ u ∷ t ∷ words) = None
+live_of (w ∷ v ∷ []) = live_by notation.Lines None w v
+live_of (w ∷ v ∷ u ∷ []) = if bytes_eq u (codes "frames") then live_by notation.Frames None w v else None
+live_of (w ∷ v ∷ u ∷ t ∷ []) = pool_by notation.Lines w v u t
+live_of (w ∷ v ∷ u ∷ t ∷ s ∷ []) = if bytes_eq s (codes "frames") then pool_by notation.Frames w v u t else None
+live_of (w ∷ v ∷ u ∷ t ∷ s ∷ r ∷ words) = None
 
 -- the names of the two clients whose one stream the words ask for
 abbrev pub pair_of : List (List ℕ) → Option (List ℕ × List ℕ)

@@ -1,6 +1,6 @@
 //! What the words of the command line ask for.
 ghost use Rattle.std.specs.Prelude.{◌≡◌, None, Some, map, string_bytes, bytes_eq, MatchOption};
-ghost use Rattle.borealis_top.specs.Commands.{reading_word, told_word, journal_word, input_word, form_word, seed_of, command_word, two_words, command_of, workers_of, live_by, live_of, pair_of};
+ghost use Rattle.borealis_top.specs.Commands.{reading_word, told_word, journal_word, input_word, form_word, seed_of, command_word, two_words, command_of, threads_of, live_by, pool_by, live_of, pair_of};
 
 use input_parts::notation::Notation;
 use journal_commands::outcome::JournalCommand;
@@ -37,6 +37,8 @@ pub enum Reading {
 pub struct LiveCommand {
     /// How many workers it has: 1 to 16.
     pub workers: u64,
+    /// How many others mill what workers put into a pool: 1 to 16. None: workers mill it themselves.
+    pub millers: Option<u64>,
     /// How its journal and its report are told.
     pub notation: Notation,
 }
@@ -68,8 +70,8 @@ pub enum Command {
 /// The greatest number of a generated script.
 const MOST_SEED: u64 = 1000;
 
-/// The most workers that run a script.
-const MOST_WORKERS: u64 = 16;
+/// The most threads of a kind that run a script.
+const MOST_THREADS: u64 = 16;
 
 /// Whether an argument is this word.
 fn is_word(argument: &String, word: &[u8]) -> bool
@@ -181,20 +183,46 @@ fn seed_in(word: &String) -> Option<u64>
     number(word.as_bytes()).filter(|n| 1 <= *n && *n <= MOST_SEED)
 }
 
-/// How many workers run a script.
-fn workers_of(word: &String) -> Option<u64>
-    ensures { result ≡ workers_of (string_bytes word.now) }
+/// How many threads of a kind run a script.
+fn threads_of(word: &String) -> Option<u64>
+    ensures { result ≡ threads_of (string_bytes word.now) }
 {
-    number(word.as_bytes()).filter(|n| 1 <= *n && *n <= MOST_WORKERS)
+    number(word.as_bytes()).filter(|n| 1 <= *n && *n <= MOST_THREADS)
 }
 
-/// The run by several threads that two words ask for, and how it is told.
-fn live_by(first: &String, second: &String, notation: Notation) -> Option<LiveCommand>
-    ensures { result ≡ live_by notation (string_bytes first.now) (string_bytes second.now) }
+/// The run by several threads that two words ask for, with so many others that mill, and how it is told.
+fn live_by(
+    notation: Notation,
+    millers: Option<u64>,
+    first: &String,
+    second: &String,
+) -> Option<LiveCommand>
+    ensures { result ≡ live_by notation millers (string_bytes first.now) (string_bytes second.now) }
 {
     if is_word(first, b"live") {
-        let workers = workers_of(second)?;
-        Some(LiveCommand { workers, notation })
+        Some(LiveCommand {
+            workers: threads_of(second)?,
+            millers,
+            notation,
+        })
+    } else {
+        None
+    }
+}
+
+/// The run through a pool that four words ask for, and how it is told.
+fn pool_by(
+    notation: Notation,
+    first: &String,
+    second: &String,
+    third: &String,
+    fourth: &String,
+) -> Option<LiveCommand>
+    ensures { result ≡ pool_by notation (string_bytes first.now) (string_bytes second.now) (string_bytes third.now) (string_bytes fourth.now) }
+{
+    if is_word(third, b"pool") {
+        let millers = threads_of(fourth)?;
+        live_by(notation, Some(millers), first, second)
     } else {
         None
     }
@@ -205,10 +233,18 @@ pub fn live_in(words: &[String]) -> Option<LiveCommand>
     ensures { result ≡ live_of (map string_bytes words.now) }
 {
     match words {
-        [first, second] => live_by(first, second, Notation::Lines),
+        [first, second] => live_by(Notation::Lines, None, first, second),
         [first, second, third] => {
             if is_word(third, b"frames") {
-                live_by(first, second, Notation::Frames)
+                live_by(Notation::Frames, None, first, second)
+            } else {
+                None
+            }
+        }
+        [first, second, third, fourth] => { pool_by(Notation::Lines, first, second, third, fourth) }
+        [first, second, third, fourth, fifth] => {
+            if is_word(fifth, b"frames") {
+                pool_by(Notation::Frames, first, second, third, fourth)
             } else {
                 None
             }

@@ -1,5 +1,5 @@
 //! The command that runs a script by several threads.
-ghost use Rattle.std.specs.Prelude.{◌≤◌, IfOk, IfErr};
+ghost use Rattle.std.specs.Prelude.{◌≡◌, ℕ, ◌≤◌, Some, IfOk, IfErr};
 ghost use Rattle.input_parts.specs.declared.notation.Notation.{Notation};
 ghost use Rattle.live_commands.specs.Endings.{Ending, IsEnding};
 ghost use Rattle.borealis_top.specs.LiveEnds.{IsLiveOutcome, LiveFailsSo, IsLiveTold, LiveEnds, LiveIsWhole};
@@ -28,11 +28,20 @@ fn outcome_of<R: Threads + Wait + Sync, S: Source, G: Gate + Sync>(
 ) -> Result<Outcome, InputFault>
     requires some { 1 ≤ command.workers }
     requires few { command.workers ≤ 16 }
+    requires millers { (m : ℕ) → command.millers ≡ Some m → (1 ≤ m) × (m ≤ 16) }
     ensures ok { IfOk result (IsLiveOutcome command.notation (S.edge input.old) (S.edge input.new)) }
     ensures err { IfErr result (LiveFailsSo (S.edge input.old) (S.edge input.new)) }
 {
     match read_whole(alloc, input, MOST_INPUT) {
-        Ok(text) => match answer(rt, alloc, command.notation, text, command.workers, gate) {
+        Ok(text) => match answer(
+            rt,
+            alloc,
+            command.notation,
+            text,
+            command.workers,
+            command.millers,
+            gate,
+        ) {
             Ok(outcome) => Ok(outcome),
             Err(_) => Err(InputFault::NoMemory),
         },
@@ -76,6 +85,7 @@ pub(crate) fn run_live<R: Threads + Wait + Sync, S: Source, O: Sink, E: Sink, G:
 ) -> Status
     requires some { 1 ≤ command.workers }
     requires few { command.workers ≤ 16 }
+    requires millers { (m : ℕ) → command.millers ≡ Some m → (1 ≤ m) × (m ≤ 16) }
     ensures ends { LiveEnds command.notation (S.edge input.old) (S.edge input.new) (O.edge out.old) (O.edge out.new)
         (E.edge err.old) (E.edge err.new) result }
     ensures complete { LiveIsWhole command.notation (S.edge input.old) (S.edge input.new) (O.edge out.old) (O.edge out.new)

@@ -51,6 +51,7 @@ borealis audit frames < BOTH     the same of a stream in frames
 borealis upgrade < BOTH          writes a script, and the journal behind it if there is one, in the newest form
 borealis live N < SCRIPT         runs a script by N threads, 1 to 16, and writes the journal and what each client received
 borealis live N frames < SCRIPT  the same as frames
+borealis live N pool M < SCRIPT  the same as live N, with M threads more, 1 to 16, that process what the N put into a pool
 borealis pair X Y < SCRIPT       runs a script, and writes one stream made of what clients X and Y of one stream received
 borealis gen N                   writes the generated script of a number, 1 to 1000
 borealis reasons                 writes the reasons to refuse a line, each with its number

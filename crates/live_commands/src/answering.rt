@@ -1,11 +1,11 @@
 //! What is to be written of a script that several threads run.
-ghost use Rattle.std.specs.Prelude.{◌≡◌, ◌≤◌, ◌<◌, ◌^◌, ◌&&◌, not, false, length, vec_len, IfOk, OnOk};
+ghost use Rattle.std.specs.Prelude.{◌≡◌, ℕ, ◌≤◌, ◌<◌, ◌^◌, ◌&&◌, not, false, length, vec_len, Some, IfOk, IfErr, OnOk};
 ghost use Rattle.dpc_model.specs.Limits.{most_input};
 ghost use Rattle.dpc_model.specs.declared.scripts.Script as scripts;
 ghost use Rattle.law_fit.specs.Fits.{CanRun};
 ghost use Rattle.world_model.specs.Worlds.{all_settled};
 ghost use Rattle.world_core.specs.Runs.{world_of};
-ghost use Rattle.node_threads.specs.Lives.{IsStopped};
+ghost use Rattle.node_threads.specs.Lives.{IsLiveRun, IsPast, IsStopped};
 ghost use Rattle.live_commands.specs.Endings.{Ending, CanEnd, IsEnding, EndsSo, IsToldOf, journal_and_report, journal_upto};
 
 use crate::outcome::Outcome;
@@ -21,6 +21,7 @@ use journal_commands::{framed_report, report};
 use journal_text::print_journal;
 use node_threads::faults::LiveFault;
 use node_threads::live::live;
+use node_threads::pooled::live_by_pool;
 use node_threads::stop::Stop;
 use status_lines::{fault_line, too_long_line};
 use std::alloc::Global;
@@ -31,7 +32,8 @@ use world_core::world::World;
 /// More events than any list of them has.
 const NO_SUCH_LENGTH: usize = 1 << 62;
 
-/// What a run by so many threads of the script in an input of at most 64 MiB comes to, told in lines or in frames.
+/// What a run by so many workers, and others that mill for them if there are any, of the script in an input of at most
+/// 64 MiB comes to, told in lines or in frames.
 /// The input is let go before the run. It may wait, so its promise holds if it returns.
 pub fn answer<R: Threads + Wait + Sync, G: Gate + Sync>(
     rt: &R,
@@ -39,21 +41,45 @@ pub fn answer<R: Threads + Wait + Sync, G: Gate + Sync>(
     notation: Notation,
     input: Vec<u8>,
     workers: u64,
+    millers: Option<u64>,
     gate: &G,
 ) -> Result<Outcome, NoMemory>
     requires long { vec_len input ≤ most_input }
     requires some { 1 ≤ workers }
     requires few { workers ≤ 16 }
+    requires millers { (m : ℕ) → millers ≡ Some m → (1 ≤ m) × (m ≤ 16) }
     ensures { IfOk result (λ outcome. (ending : Ending) × CanEnd input.items ending × IsEnding notation ending outcome) }
 {
     let script = read_script(alloc, input.as_slice());
     drop(input);
     match script {
-        Ok(script) => run_answer(rt, alloc, notation, script, workers, gate),
+        Ok(script) => run_answer(rt, alloc, notation, script, workers, millers, gate),
         Err(why) => match why {
             ScriptFault::NoMemory => Err(NoMemory),
             ScriptFault::Refused(fault) => Ok(Outcome::Refused(fault_line(alloc, fault)?)),
         },
+    }
+}
+
+/// Runs a script by so many workers, and by so many others that mill for them, if there are any.
+fn run_by<R: Threads + Wait + Sync, G: Gate + Sync>(
+    rt: &R,
+    alloc: Global,
+    script: Script,
+    workers: u64,
+    millers: Option<u64>,
+    gate: &G,
+) -> Result<World, LiveFault>
+    requires can { CanRun script.plan }
+    requires some { 1 ≤ workers }
+    requires few { workers ≤ 16 }
+    requires millers { (m : ℕ) → millers ≡ Some m → (1 ≤ m) × (m ≤ 16) }
+    ensures ok { IfOk result (IsLiveRun script) }
+    ensures long { IfErr result (IsPast script) }
+{
+    match millers {
+        Some(millers) => live_by_pool(rt, alloc, script, workers, millers, gate),
+        None => live(rt, alloc, script, workers, gate),
     }
 }
 
@@ -64,15 +90,17 @@ fn run_answer<R: Threads + Wait + Sync, G: Gate + Sync>(
     notation: Notation,
     script: Script,
     workers: u64,
+    millers: Option<u64>,
     gate: &G,
 ) -> Result<Outcome, NoMemory>
     requires can { CanRun script.plan }
     requires some { 1 ≤ workers }
     requires few { workers ≤ 16 }
+    requires millers { (m : ℕ) → millers ≡ Some m → (1 ≤ m) × (m ≤ 16) }
     ensures { IfOk result (EndsSo notation script) }
 {
     let settle = script.settle;
-    match live(rt, alloc, script, workers, gate) {
+    match run_by(rt, alloc, script, workers, millers, gate) {
         Ok(world) => world_answer(alloc, notation, settle, &world),
         Err(LiveFault::TooLong(world, stop)) => stopped_answer(alloc, notation, &world, stop),
         Err(LiveFault::NoMemory) => Err(NoMemory),

@@ -6,3 +6,5 @@ pub mod Steps
 pub mod Making
 pub mod Leaving
 pub mod Gathering
+pub mod Staying
+pub mod Crossing

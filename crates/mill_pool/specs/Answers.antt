@@ -13,19 +13,23 @@ use Rattle.mill_pool.specs.declared.pool.CloseFault.TheVariants as close
 use Rattle.mill_pool.specs.declared.rule.SeatView.{SeatView}
 use Rattle.mill_pool.specs.Jobs.{JobValue, TakenOrLeft, tickets}
 use Rattle.mill_pool.specs.Rule.{SawQueue}
-use Rattle.mill_pool.specs.Seats.{SeatOf, AreAllOf}
+use Rattle.mill_pool.specs.Seats.{SeatOf, AreAllOf, known}
 
 -- how many jobs a pool has room for
-abbrev pub room_of : {M : Type 0} → Pool M → ℕ
+abbrev pub room_of : {M K : Type 0} → Pool M K → ℕ
 room_of pool = ruled_capacity pool.queue
 
 -- a seat of a pool
-abbrev pub IsSeatOf : {M : Type 0} → Pool M → SeatOf M → Type 0
+abbrev pub IsSeatOf : {M K : Type 0} → Pool M K → SeatOf M → Type 0
 IsSeatOf pool seat = IsPassOf pool.queue seat
 
 -- all seats of a pool
-abbrev pub AreSeatsOf : {M : Type 0} → Pool M → List (SeatOf M) → Type 0
+abbrev pub AreSeatsOf : {M K : Type 0} → Pool M K → List (SeatOf M) → Type 0
 AreSeatsOf pool seats = AreAllOf pool.queue seats
+
+-- a seat of the pool with the number and the parts that it had, whatever was put or taken there
+abbrev pub IsSameSeat : {M K : Type 0} → Pool M K → SeatOf M → SeatOf M → Type 0
+IsSameSeat pool seat after = IsSeatOf pool after × ((known after).number ≡ (known seat).number) × ((known after).parts ≡ (known seat).parts)
 
 -- an order that wasn't put comes back; where it is told that the queue was full, it held as many jobs as it has room for
 abbrev pub IsRefused : {M : Type 0} → ℕ → SeatView M → OrderValue M → PutFault M → Type 0
@@ -41,5 +45,5 @@ pub record IsAccount {M : Type 0} (put taken : List (JobValue M)) (account : Acc
   pub left_tickets : account.left ≡ tickets left
 
 -- a pool that wasn't closed comes back with its seats
-abbrev pub IsHandedBack : {M : Type 0} → Pool M → Vec (SeatOf M) Global → CloseFault M → Type 0
+abbrev pub IsHandedBack : {M K : Type 0} → Pool M K → Vec (SeatOf M) Global → CloseFault M K → Type 0
 IsHandedBack pool seats (close.NoMemory p s) = (p ≡ pool) × (s ≡ seats)

@@ -1,5 +1,5 @@
 -- The seats of a pool.
-use Rattle.std.specs.Prelude.{◌≡◌, ℕ, Option, ◌<◌, List, [], ◌+◌, ◌-◌, length, sum_by}
+use Rattle.std.specs.Prelude.{◌≡◌, ℕ, Option, ◌<◌, List, [], ◌+◌, ◌-◌, length, map, sum_by}
 use Rattle.std.specs.List.{flat_map}
 use mathlib.Core.Option.{some}
 use lib.ListN.{get_elem?}
@@ -41,6 +41,10 @@ module _ {M : Type 0} where
 
   abbrev pub taken_by : List (SeatOf M) → List (JobValue M)
   taken_by seats = flat_map (λ s. (known s).taken) seats
+
+  -- their numbers
+  abbrev pub numbers_of : List (SeatOf M) → List ℕ
+  numbers_of seats = map (λ s. (known s).number) seats
 
   -- how many parts seats have
   abbrev pub parts_of : List (SeatOf M) → ℕ

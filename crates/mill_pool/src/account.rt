@@ -5,6 +5,7 @@ ghost use Rattle.mill_pool.specs.Jobs.{is_ticket, left_of, tickets};
 ghost use Rattle.mill_pool.specs.Seats.{put_by, taken_by};
 
 use crate::job::Ticket;
+use crate::kind::OrderKind;
 use crate::seat::Seat;
 use dpc_lists::faults::NoMemory;
 use dpc_lists::lists::Listed;
@@ -22,7 +23,10 @@ pub struct Account {
 }
 
 /// The account of all seats of a pool.
-pub(crate) fn account_of<M: Engine>(alloc: Global, seats: &[Seat<M>]) -> Result<Account, NoMemory>
+pub(crate) fn account_of<M: Engine, K: OrderKind<M>>(
+    alloc: Global,
+    seats: &[Seat<M, K>],
+) -> Result<Account, NoMemory>
     ensures put { IfOk result (λ a. a.put ≡ tickets (put_by seats.now)) }
     ensures taken { IfOk result (λ a. a.taken ≡ tickets (taken_by seats.now)) }
     ensures left { IfOk result (λ a. a.left ≡ left_of (tickets (put_by seats.now)) (tickets (taken_by seats.now))) }
@@ -38,7 +42,10 @@ pub(crate) fn account_of<M: Engine>(alloc: Global, seats: &[Seat<M>]) -> Result<
 }
 
 /// The tickets that seats put.
-fn all_put<M: Engine>(alloc: Global, seats: &[Seat<M>]) -> Result<Vec<Ticket>, NoMemory>
+fn all_put<M: Engine, K: OrderKind<M>>(
+    alloc: Global,
+    seats: &[Seat<M, K>],
+) -> Result<Vec<Ticket>, NoMemory>
     ensures { IfOk result (λ v. v.items ≡ tickets (put_by seats.now)) }
 {
     let mut all = Vec::new(alloc);
@@ -49,7 +56,10 @@ fn all_put<M: Engine>(alloc: Global, seats: &[Seat<M>]) -> Result<Vec<Ticket>, N
 }
 
 /// The tickets that seats took.
-fn all_taken<M: Engine>(alloc: Global, seats: &[Seat<M>]) -> Result<Vec<Ticket>, NoMemory>
+fn all_taken<M: Engine, K: OrderKind<M>>(
+    alloc: Global,
+    seats: &[Seat<M, K>],
+) -> Result<Vec<Ticket>, NoMemory>
     ensures { IfOk result (λ v. v.items ≡ tickets (taken_by seats.now)) }
 {
     let mut all = Vec::new(alloc);

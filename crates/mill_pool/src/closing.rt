@@ -4,12 +4,17 @@ ghost use Rattle.crossbeam_queue.specs.Passes.{IsPassOf};
 ghost use Rattle.mill_pool.specs.Jobs.{JobValue, TakenOrLeft};
 ghost use Rattle.mill_pool.specs.Seats.{AreAllOf, AreOf, known, parts_of, put_by, taken_by};
 
+use crate::kind::OrderKind;
 use crate::rule::{Gathering, JobQueue, SeatPass, Whole};
 use crate::seat::Seat;
 use dpc_model::engines::Engine;
 
 /// The passes of these seats come to this one.
-fn gather<M: Engine + Drop>(queue: &JobQueue<M>, pass: &mut SeatPass<M>, seats: Vec<Seat<M>>)
+fn gather<M: Engine + Drop, K: OrderKind<M>>(
+    queue: &JobQueue<M, K>,
+    pass: &mut SeatPass<M, K>,
+    seats: Vec<Seat<M, K>>,
+)
     requires queue { IsPassOf queue.now pass.old }
     requires seats { AreOf queue.now seats.items }
     requires live { 0 < (known pass.old).parts }
@@ -24,7 +29,10 @@ fn gather<M: Engine + Drop>(queue: &JobQueue<M>, pass: &mut SeatPass<M>, seats: 
 }
 
 /// What all seats of a pool know together: each job that they put was taken or is left.
-pub(crate) fn gather_all<M: Engine + Drop>(queue: &JobQueue<M>, seats: Vec<Seat<M>>)
+pub(crate) fn gather_all<M: Engine + Drop, K: OrderKind<M>>(
+    queue: &JobQueue<M, K>,
+    seats: Vec<Seat<M, K>>,
+)
     requires { AreAllOf queue.now seats.items }
     ensures { (left : List (JobValue M)) × TakenOrLeft (put_by seats.items) (taken_by seats.items) left }
 {

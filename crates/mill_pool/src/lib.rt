@@ -4,6 +4,7 @@
 pub mod account;
 mod closing;
 pub mod job;
+pub mod kind;
 pub mod pool;
 pub mod rule;
 pub mod seat;

@@ -1,5 +1,6 @@
 //! The rule of a pool: what each seat knows, and what each kind of step makes of it.
-use crate::job::Job;
+use crate::job::{Job, KnownJob};
+use crate::kind::OrderKind;
 use crossbeam_queue::protocol::{Join, Lesson, Outcome, Protocol, Split};
 use crossbeam_queue::{Pass, RuledArrayQueue};
 use dpc_model::engines::Engine;
@@ -14,14 +15,14 @@ pub struct SeatView<M: Engine> {
     pub parts: u64,
     /// How many views there are, where this one may make more; else 0.
     pub made: u64,
-    pub put: LinkedList<Job<M>>,
-    pub taken: LinkedList<Job<M>>,
+    pub put: LinkedList<KnownJob<M>>,
+    pub taken: LinkedList<KnownJob<M>>,
 }
 
 /// What holds of a pool at each moment.
 pub struct PoolRule;
 
-impl<M: Engine> Protocol<Job<M>, SeatView<M>> for PoolRule {
+impl<M: Engine, K: OrderKind<M>> Protocol<Job<M, K>, SeatView<M>> for PoolRule {
     ghost use Rattle.mill_pool.specs.Rule.{IsPool, first_view};
 
     ghost holds = { IsPool };
@@ -43,14 +44,14 @@ impl<M: Engine> Split<SeatView<M>> for Making {
 /// A push, or one that was refused.
 pub struct Putting;
 
-impl<M: Engine> Outcome<Job<M>, SeatView<M>> for Putting {
+impl<M: Engine, K: OrderKind<M>> Outcome<Job<M, K>, SeatView<M>> for Putting {
     ghost use Rattle.std.specs.Prelude.{◌≡◌};
     ghost use Rattle.mill_pool.specs.Rule.{put_view};
 
     ghost then = { λ before job after. after ≡ put_view before job };
 }
 
-impl<M: Engine> Lesson<Job<M>, SeatView<M>> for Putting {
+impl<M: Engine, K: OrderKind<M>> Lesson<Job<M, K>, SeatView<M>> for Putting {
     ghost use Rattle.mill_pool.specs.Rule.{SawQueue};
 
     ghost fact = { SawQueue };
@@ -59,14 +60,14 @@ impl<M: Engine> Lesson<Job<M>, SeatView<M>> for Putting {
 /// A pop, or one that found nothing.
 pub struct Taking;
 
-impl<M: Engine> Outcome<Job<M>, SeatView<M>> for Taking {
+impl<M: Engine, K: OrderKind<M>> Outcome<Job<M, K>, SeatView<M>> for Taking {
     ghost use Rattle.std.specs.Prelude.{◌≡◌};
     ghost use Rattle.mill_pool.specs.Rule.{taken_view};
 
     ghost then = { λ before job after. after ≡ taken_view before job };
 }
 
-impl<M: Engine> Lesson<Job<M>, SeatView<M>> for Taking {
+impl<M: Engine, K: OrderKind<M>> Lesson<Job<M, K>, SeatView<M>> for Taking {
     ghost use Rattle.mill_pool.specs.Rule.{SawQueue};
 
     ghost fact = { SawQueue };
@@ -86,14 +87,14 @@ impl<M: Engine> Join<SeatView<M>> for Gathering {
 /// What the seat with every part knows.
 pub struct Whole;
 
-impl<M: Engine> Lesson<Job<M>, SeatView<M>> for Whole {
+impl<M: Engine, K: OrderKind<M>> Lesson<Job<M, K>, SeatView<M>> for Whole {
     ghost use Rattle.mill_pool.specs.Jobs.{TakenOrLeft};
 
     ghost fact = { λ v items. TakenOrLeft v.put v.taken items };
 }
 
 /// A queue under the rule.
-pub type JobQueue<M> = RuledArrayQueue<Job<M>, SeatView<M>, PoolRule>;
+pub type JobQueue<M, K> = RuledArrayQueue<Job<M, K>, SeatView<M>, PoolRule>;
 
 /// What one seat carries through its calls. It takes no memory.
-pub type SeatPass<M> = Pass<Job<M>, SeatView<M>>;
+pub type SeatPass<M, K> = Pass<Job<M, K>, SeatView<M>>;

@@ -15,6 +15,7 @@ use fragment_mill::mill::FragMill;
 use mill_work::order::Order;
 use ops_stateless::filter::Filter;
 use std::alloc::{AllocError, Global};
+use std::marker::Brand;
 use std::sync::Wait;
 use std::test::Fail;
 use std::thread;
@@ -41,9 +42,9 @@ fn order(alloc: Global, node: u64) -> Result<Order<Filter>, AllocError>
 fn exchange<R: Wait>(
     rt: &R,
     alloc: Global,
-    pool: &Pool<Filter>,
-    first: &mut Seat<Filter>,
-    second: &mut Seat<Filter>,
+    pool: &Pool<Filter, Brand>,
+    first: &mut Seat<Filter, Brand>,
+    second: &mut Seat<Filter, Brand>,
 ) -> Result<bool, Fail>
     requires first { IsSeatOf pool.now first.old }
     requires second { IsSeatOf pool.now second.old }
@@ -76,7 +77,7 @@ fn has_one(account: &Account) -> bool {
 
 /// A pool with room for one order, and two seats.
 fn one_room<R: Wait>(rt: &R, alloc: Global) -> Result<bool, Fail> {
-    let (pool, mut seats) = Pool::<Filter>::new(alloc, 1, 2)?;
+    let (pool, mut seats) = Pool::<Filter, Brand>::new(alloc, 1, 2)?;
     let Some(mut second) = seats.pop() else {
         return Ok(false);
     };
@@ -95,7 +96,12 @@ fn one_room<R: Wait>(rt: &R, alloc: Global) -> Result<bool, Fail> {
 }
 
 /// A worker that puts two orders.
-fn put_two<R: Wait>(rt: &R, alloc: Global, pool: &Pool<Filter>, seat: Seat<Filter>) -> Seat<Filter>
+fn put_two<R: Wait>(
+    rt: &R,
+    alloc: Global,
+    pool: &Pool<Filter, Brand>,
+    seat: Seat<Filter, Brand>,
+) -> Seat<Filter, Brand>
     requires { IsSeatOf pool.now seat }
     ensures { IsSeatOf pool.now result × ((known result).parts ≡ (known seat).parts) }
 {
@@ -108,7 +114,11 @@ fn put_two<R: Wait>(rt: &R, alloc: Global, pool: &Pool<Filter>, seat: Seat<Filte
 }
 
 /// A worker that takes an order, if there is one.
-fn take_one<R: Wait>(rt: &R, pool: &Pool<Filter>, seat: Seat<Filter>) -> Seat<Filter>
+fn take_one<R: Wait>(
+    rt: &R,
+    pool: &Pool<Filter, Brand>,
+    seat: Seat<Filter, Brand>,
+) -> Seat<Filter, Brand>
     requires { IsSeatOf pool.now seat }
     ensures { IsSeatOf pool.now result × ((known result).parts ≡ (known seat).parts) }
 {
@@ -121,10 +131,10 @@ fn take_one<R: Wait>(rt: &R, pool: &Pool<Filter>, seat: Seat<Filter>) -> Seat<Fi
 fn both_at_once<R: Threads + Wait + Sync>(
     rt: &R,
     alloc: Global,
-    pool: &Pool<Filter>,
-    first: Seat<Filter>,
-    second: Seat<Filter>,
-) -> (Seat<Filter>, Seat<Filter>)
+    pool: &Pool<Filter, Brand>,
+    first: Seat<Filter, Brand>,
+    second: Seat<Filter, Brand>,
+) -> (Seat<Filter, Brand>, Seat<Filter, Brand>)
     requires seats { IsSeatOf pool.now first × IsSeatOf pool.now second }
     ensures first { IsSeatOf pool.now result.0 × ((known result.0).parts ≡ (known first).parts) }
     ensures second { IsSeatOf pool.now result.1 × ((known result.1).parts ≡ (known second).parts) }
@@ -149,7 +159,7 @@ fn has_two(account: &Account) -> bool {
 
 /// What two workers put and took at once is put, and taken or left.
 fn two_workers<R: Threads + Wait + Sync>(rt: &R, alloc: Global) -> Result<bool, Fail> {
-    let (pool, mut seats) = Pool::<Filter>::new(alloc, 4, 2)?;
+    let (pool, mut seats) = Pool::<Filter, Brand>::new(alloc, 4, 2)?;
     let Some(second) = seats.pop() else {
         return Ok(false);
     };
@@ -167,7 +177,7 @@ fn two_workers<R: Threads + Wait + Sync>(rt: &R, alloc: Global) -> Result<bool, 
 
 /// A pool for the engines of fragments, of which nothing is asked.
 fn of_fragments(alloc: Global) -> Result<bool, Fail> {
-    let (pool, seats) = Pool::<FragMill>::new(alloc, 64, 3)?;
+    let (pool, seats) = Pool::<FragMill, Brand>::new(alloc, 64, 3)?;
     match pool.close(alloc, seats) {
         Ok(account) => Ok(
             account.put.is_empty() && account.taken.is_empty() && account.left.is_empty(),

@@ -72,7 +72,7 @@ operator-cases = search (join-sends, aggregate-sends, filter-sends, map-sends, u
 stage-sends : IsSend Stage.the_row
 stage-sends = search (operator-cases, sendable, crosses) depth 60 fits 20000
 
-mill-sends : IsSend FragMill.the_row
+pub mill-sends : IsSend FragMill.the_row
 mill-sends = search (stage-sends, sendable, crosses) depth 60 fits 20000
 
 plan-fields : IsSend (Struct (shape Plan.the_type))

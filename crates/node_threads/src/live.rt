@@ -6,8 +6,9 @@ ghost use Rattle.node_threads.specs.Lives.{IsLiveRun, IsPast};
 use crate::faults::LiveFault;
 use crate::hall::Hall;
 use crate::hand::{Hand, deal, gather};
+use crate::post::Post;
 use crate::signals::Signals;
-use crate::worker::{Post, work, work_by_hand};
+use crate::worker::{work, work_by_hand};
 use dpc_edge::gate::Gate;
 use dpc_model::scripts::Script;
 use event_shares::names::RunName;
@@ -21,7 +22,7 @@ use std::thread::Threads;
 use world_core::world::World;
 
 /// How many parts the ledger of a run has.
-const PARTS: u64 = 64;
+pub(crate) const PARTS: u64 = 64;
 
 /// Does what is left of a run, and gives its world. The share of all parts has then counted each event.
 pub fn finish<N: RunName, R: Wait, G: Gate>(
@@ -49,7 +50,7 @@ pub fn finish<N: RunName, R: Wait, G: Gate>(
             return Ok((hall.into_world(), share));
         }
         let lock = Mutex::new(hall);
-        let signals = Signals::new();
+        let signals = Signals::new(alloc);
         let post = Post {
             alloc,
             hall: &lock,
@@ -128,7 +129,7 @@ fn live_named<N: RunName + Send + Sync, R: Threads + Wait + Sync, G: Gate + Sync
     let (hall, mut rest) = Hall::<N>::new(alloc, script, blank)?;
     let hands = deal(alloc, &mut rest, workers)?;
     let lock = Mutex::new(hall);
-    let signals = Signals::new();
+    let signals = Signals::new(alloc);
     let hands = by_threads(rt, alloc, &lock, &signals, gate, hands, workers)?;
     gather(&mut rest, hands);
     let (world, _) = finish(rt, alloc, lock.into_inner(), gate, rest)?;

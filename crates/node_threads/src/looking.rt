@@ -27,14 +27,14 @@ pub(crate) enum Look {
 
 /// Which worker of how many looks, of which phase it took its work last, and how many phases it opened to the others.
 #[derive(Clone, Copy)]
-pub(crate) struct Seat {
+pub(crate) struct Station {
     pub worker: u64,
     pub workers: u64,
     pub taken: u64,
     pub opened: u64,
 }
 
-impl Seat {
+impl Station {
     /// Whether all workers did their work of each phase that was opened to them, where they did it so often in all.
     pub fn all_rested(self, rested: u64) -> bool {
         rested >= self.opened.saturating_mul(self.workers)
@@ -57,13 +57,13 @@ impl Work {
     }
 
     /// Puts down what a worker's actors have to do in the open phase.
-    fn put_down(&mut self, run: &LiveRun, seat: Seat) -> Result<(), NoMemory>
+    fn put_down(&mut self, run: &LiveRun, station: Station) -> Result<(), NoMemory>
         requires { run.now.spent ≡ false }
     {
         self.ready.clear();
         self.due.clear();
         for actor in 0..narrow(run.actor_count() as u64)? {
-            if u64::from(actor) % seat.workers.max(1) == seat.worker {
+            if u64::from(actor) % station.workers.max(1) == station.worker {
                 if run.world().ready(u64::from(actor)) > 0 {
                     self.ready.push(actor)?;
                 }
@@ -77,7 +77,7 @@ impl Work {
 impl<N: RunName> Hall<N> {
     /// What a worker may do next. The work of a phase is put down once. The first worker makes the events of
     /// directives and phases; it comes here where all others rest.
-    pub(crate) fn look(&self, seat: Seat, work: &mut Work) -> Result<Look, ApplyFault> {
+    pub(crate) fn look(&self, station: Station, work: &mut Work) -> Result<Look, ApplyFault> {
         if self.run.is_spent() {
             return Err(ApplyFault::Spent);
         }
@@ -85,11 +85,11 @@ impl<N: RunName> Hall<N> {
             return Ok(Look::Over);
         }
         let phase = self.run.phase();
-        if self.run.is_free() && phase != seat.taken {
-            work.put_down(&self.run, seat)?;
+        if self.run.is_free() && phase != station.taken {
+            work.put_down(&self.run, station)?;
             return Ok(Look::Share(phase));
         }
-        if seat.worker != 0 {
+        if station.worker != 0 {
             return Ok(Look::Wait);
         }
         if let Some(e) = self.run.next_directive()? {

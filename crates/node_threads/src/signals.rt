@@ -1,4 +1,6 @@
 //! What workers tell one another beside the lock.
+use dpc_lists::faults::NoMemory;
+use std::alloc::Global;
 use std::sync::atomic::{AtomicBool, AtomicU64, Ordering};
 
 /// Hints of who may look when, so that nobody takes the lock in vain. Nothing is promised of them: the hall decides
@@ -13,16 +15,32 @@ pub struct Signals {
     busy: AtomicU64,
     /// The run is at its end, or does not go on.
     over: AtomicBool,
+    /// How many orders each seat of a pool put that are not done.
+    out: Vec<AtomicU64>,
+    /// How many orders from a pool are milled now.
+    milling: AtomicU64,
 }
 
 impl Signals {
-    pub fn new() -> Signals {
+    /// For workers who mill what is theirs. It takes no memory.
+    pub fn new(alloc: Global) -> Signals {
         Signals {
             opened: AtomicU64::new(0),
             rested: AtomicU64::new(0),
             busy: AtomicU64::new(0),
             over: AtomicBool::new(false),
+            out: Vec::new(alloc),
+            milling: AtomicU64::new(0),
         }
+    }
+
+    /// For those who have so many seats of a pool.
+    pub fn with_seats(alloc: Global, seats: usize) -> Result<Signals, NoMemory> {
+        let mut signals = Signals::new(alloc);
+        for _ in 0..seats {
+            signals.out.push(AtomicU64::new(0))?;
+        }
+        Ok(signals)
     }
 
     /// The work of a phase may be taken.
@@ -64,5 +82,42 @@ impl Signals {
     /// Whether all may leave.
     pub(crate) fn has_ended(&self) -> bool {
         self.over.load(Ordering::SeqCst)
+    }
+
+    /// This seat is about to put an order.
+    pub(crate) fn put(&self, seat: u64) {
+        if let Some(out) = self.out.get(seat as usize) {
+            out.fetch_add(1, Ordering::SeqCst);
+        }
+    }
+
+    /// An order that this seat put is done, or was not put after all.
+    pub(crate) fn done(&self, seat: u64) {
+        if let Some(out) = self.out.get(seat as usize) {
+            out.fetch_sub(1, Ordering::SeqCst);
+        }
+    }
+
+    /// Whether each order that this seat put is done.
+    pub(crate) fn all_done(&self, seat: u64) -> bool {
+        match self.out.get(seat as usize) {
+            Some(out) => out.load(Ordering::SeqCst) == 0,
+            None => true,
+        }
+    }
+
+    /// An order from a pool is milled from now on.
+    pub(crate) fn begin_milling(&self) {
+        self.milling.fetch_add(1, Ordering::SeqCst);
+    }
+
+    /// It is no more.
+    pub(crate) fn end_milling(&self) {
+        self.milling.fetch_sub(1, Ordering::SeqCst);
+    }
+
+    /// Whether any order from a pool is milled.
+    pub(crate) fn is_milling(&self) -> bool {
+        self.milling.load(Ordering::SeqCst) > 0
     }
 }

@@ -1,11 +1,13 @@
-//! What no clause says of a run by several threads: that two workers are at work at the same time, and what work is
-//! whose node crashed meanwhile. Writes a line on each.
+//! What no clause says of a run by several threads: that two workers, or two millers of a pool, are at work at the same
+//! time, that orders go through the pool, and what work is whose node crashed meanwhile. Writes a line on each.
 #![tactic(auto)]
 
 mod meeting;
+mod pooled;
 mod stale;
 
 use crate::meeting::{Meetings, meet_often};
+use crate::pooled::taken_through;
 use crate::stale::crashed_meanwhile;
 use std::process::ExitCode;
 
@@ -22,8 +24,14 @@ fn met(told: Meetings) -> &'static str {
 }
 
 fn main(rt: HostRuntime) -> ExitCode {
-    let two = meet_often(&rt, rt.alloc(), 2, ROUNDS);
-    let one = meet_often(&rt, rt.alloc(), 1, 1);
+    let two = meet_often(&rt, rt.alloc(), 2, None, ROUNDS);
+    let one = meet_often(&rt, rt.alloc(), 1, None, 1);
+    let pool = meet_often(&rt, rt.alloc(), 1, Some(2), ROUNDS);
+    let taken = match taken_through(&rt, rt.alloc()) {
+        Some(taken) if taken >= 2 => "two or more",
+        Some(_) => "fewer than two",
+        None => "the run was not whole",
+    };
     let stale = crashed_meanwhile(rt.alloc());
     let stale = match stale {
         Some(true) => "its node is up",
@@ -33,7 +41,9 @@ fn main(rt: HostRuntime) -> ExitCode {
     let first = println!(rt; "two workers, two nodes: {}", met(two));
     let second = println!(rt; "one worker, two nodes: {}", met(one));
     let third = println!(rt; "work whose node crashed: {stale}");
-    if first.is_ok() && second.is_ok() && third.is_ok() {
+    let fourth = println!(rt; "one worker and two millers: {}", met(pool));
+    let fifth = println!(rt; "orders taken from the pool: {taken}");
+    if first.is_ok() && second.is_ok() && third.is_ok() && fourth.is_ok() && fifth.is_ok() {
         ExitCode::SUCCESS
     } else {
         ExitCode::FAILURE

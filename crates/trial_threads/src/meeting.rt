@@ -1,5 +1,5 @@
 //! Two nodes whose orders wait for one another: only who mills both at the same time goes on.
-ghost use Rattle.std.specs.Prelude.{◌≤◌};
+ghost use Rattle.std.specs.Prelude.{◌≡◌, ℕ, ◌≤◌, Some};
 
 use dpc_edge::gate::Gate;
 use dpc_lists::faults::NoMemory;
@@ -13,7 +13,7 @@ use std::thread;
 use std::thread::Threads;
 
 /// Two fragments of one replica each read a source: it is actor 0, their nodes are 1 and 2, the clients 3 and 4.
-const SCRIPT: &str =
+pub(crate) const SCRIPT: &str =
     "borealis 1\nwidth 10\ndelay 50\nend 10\nsource a 1\nlog a 1 10\nfragment f 1 a\nfilter k a 1\nfragment g 1 a\nfilter h a 1\nclient c f\nclient d g\nbegin\nrelease a 10\ntick 1\nsettle\n";
 
 /// What stands behind the journal, whatever that is.
@@ -38,14 +38,14 @@ pub enum Meetings {
 
 /// Where the millers of the two nodes wait for one another.
 #[derive(Drop)]
-struct Meeting {
+pub(crate) struct Meeting {
     first: AtomicBool,
     second: AtomicBool,
-    missed: AtomicBool,
+    pub missed: AtomicBool,
 }
 
 impl Meeting {
-    fn new() -> Meeting {
+    pub fn new() -> Meeting {
         Meeting {
             first: AtomicBool::new(false),
             second: AtomicBool::new(false),
@@ -81,15 +81,22 @@ impl Gate for Meeting {
 }
 
 /// One run whose nodes wait for one another.
-fn meet<R: Threads + Wait + Sync>(rt: &R, alloc: Global, workers: u64) -> Result<Meetings, NoMemory>
-    requires { (1 ≤ workers) × (workers ≤ 16) }
+fn meet<R: Threads + Wait + Sync>(
+    rt: &R,
+    alloc: Global,
+    workers: u64,
+    millers: Option<u64>,
+) -> Result<Meetings, NoMemory>
+    requires workers { (1 ≤ workers) × (workers ≤ 16) }
+    requires millers { (m : ℕ) → millers ≡ Some m → (1 ≤ m) × (m ≤ 16) }
 {
     let gate = Meeting::new();
     let script = SCRIPT.as_bytes().to_vec(alloc)?;
     if script.len() > MOST_BYTES {
         return Ok(Meetings::Broken);
     }
-    let Outcome::Text(text) = answer(rt, alloc, Notation::Lines, script, workers, &gate)? else {
+    let Outcome::Text(text) = answer(rt, alloc, Notation::Lines, script, workers, millers, &gate)?
+    else {
         return Ok(Meetings::Broken);
     };
     if !text.ends_with(REPORT.as_bytes()) {
@@ -106,12 +113,14 @@ pub fn meet_often<R: Threads + Wait + Sync>(
     rt: &R,
     alloc: Global,
     workers: u64,
+    millers: Option<u64>,
     rounds: u64,
 ) -> Meetings
-    requires { (1 ≤ workers) × (workers ≤ 16) }
+    requires workers { (1 ≤ workers) × (workers ≤ 16) }
+    requires millers { (m : ℕ) → millers ≡ Some m → (1 ≤ m) × (m ≤ 16) }
 {
     for _ in 0..rounds {
-        match meet(rt, alloc, workers) {
+        match meet(rt, alloc, workers, millers) {
             Ok(Meetings::All) => {}
             Ok(other) => return other,
             Err(_) => return Meetings::Broken,

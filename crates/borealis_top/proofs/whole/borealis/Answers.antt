@@ -6,10 +6,13 @@ use Rattle.borealis_top.proofs.Words.{live-range}
 use Rattle.borealis_top.proofs.whole.borealis.Goals as goal
 
 pub run_live-requires-clause-some : goal.run_live-requires-clause-some
-run_live-requires-clause-some g c κs within = (live-range (map string_bytes c.args.words.now) c.in-Some.command (sym c.live_in.ensures ∙ c.in-Some.is)).0
+run_live-requires-clause-some g c κs within = (live-range (map string_bytes c.args.words.now) c.in-Some.command (sym c.live_in.ensures ∙ c.in-Some.is)).workers.0
 
 pub run_live-requires-clause-few : goal.run_live-requires-clause-few
-run_live-requires-clause-few g c κs within = (live-range (map string_bytes c.args.words.now) c.in-Some.command (sym c.live_in.ensures ∙ c.in-Some.is)).1
+run_live-requires-clause-few g c κs within = (live-range (map string_bytes c.args.words.now) c.in-Some.command (sym c.live_in.ensures ∙ c.in-Some.is)).workers.1
+
+pub run_live-requires-clause-millers : goal.run_live-requires-clause-millers
+run_live-requires-clause-millers g c κs within = (live-range (map string_bytes c.args.words.now) c.in-Some.command (sym c.live_in.ensures ∙ c.in-Some.is)).millers
 
 pub returns-in-None : goal.returns-in-None
 returns-in-None g c =

@@ -1,6 +1,6 @@
 use Rattle.std.specs.Prelude.{◌≡◌}
 use Rattle.law_work.specs.TrueWork.{IsTrueWork}
-use Rattle.node_threads.proofs.worker.put_back.Given as goal
+use Rattle.node_threads.proofs.post.put_back.Given as goal
 
 abbrev pub invariant-loop : goal.invariant-loop
 invariant-loop g l =

@@ -1,4 +1,0 @@
-use Rattle.node_threads.proofs.worker.work.Given as goal
-
-abbrev pub ghosts-work_counted : goal.ghosts-work_counted
-ghosts-work_counted g a = record { name = a.blank.name; parts = a.blank.parts }
