@@ -1,0 +1,69 @@
+//! A replica that a script never crashes never recovers, whoever else is crashed: what its senders forget it holds.
+#![tactic(auto)]
+
+ghost use Rattle.std.specs.Prelude.{List};
+ghost use Rattle.dpc_model.specs.declared.messages.Event.{Event};
+ghost use Rattle.dpc_model.specs.declared.scripts.Script.{Script};
+ghost use Rattle.law_survivors.specs.Spared.{SparedStandWhole, SendersKeepForSpared, SnapshotsSuffice, SparedAreNotRefused, HearWhole, RefusedAreNotAnswered, AckedIsDone, KnowsPresently, KnowNoMore, KeptWhileRecovering, NoneStartsAfresh};
+
+/// In every live run a replica that the script never crashes is up at each point, and does not recover, whichever others are crashed, of
+/// its own fragment and of those that it reads.
+pub fn the_spared_never_recover()
+    ensures { (script : Script) (events : List Event) → SparedStandWhole script events }
+{}
+
+/// What the replicas of a fragment may forget, and what was acknowledged to them by such a reader, is at most what the reader holds, in
+/// each replica that is up, in each snapshot that one of them sent, and in each acknowledgement under way.
+pub fn senders_keep_for_the_spared()
+    ensures { (script : Script) (events : List Event) → SendersKeepForSpared script events }
+{}
+
+/// It is even at most what a snapshot of the reader carries: whoever goes on from one lacks nothing that was forgotten when it was made.
+pub fn snapshots_of_the_spared_suffice()
+    ensures { (script : Script) (events : List Event) → SnapshotsSuffice script events }
+{}
+
+/// So none of them ever refuses such a reader its present session.
+pub fn the_spared_are_not_refused()
+    ensures { (script : Script) (events : List Event) → SparedAreNotRefused script events }
+{}
+
+/// No other replica of its fragment ever heard that a replica which the script never crashes recovers, whatever it missed.
+pub fn the_spared_are_heard_whole()
+    ensures { (script : Script) (events : List Event) → HearWhole script events }
+{}
+
+/// A session that a replica refused a reader, whichever of them was crashed, it never answers by a batch, neither before nor after.
+pub fn refused_sessions_are_not_answered()
+    ensures { (script : Script) (events : List Event) → RefusedAreNotAnswered script events }
+{}
+
+/// What a replica that recovers acknowledged in its present incarnation, a replica of its fragment that the script never crashes has
+/// processed: so a snapshot of that one lies at or above all that senders may forget on the word of the first one.
+pub fn the_spared_have_done_what_others_acknowledged()
+    ensures { (script : Script) (events : List Event) → AckedIsDone script events }
+{}
+
+/// In a live run whose quiet phases open well, from the fourth of them on, what a replica knows a node that reads it to have acknowledged
+/// was acknowledged in the node's present incarnation, or is nothing: no number of an earlier incarnation lets it forget more.
+pub fn acknowledgements_are_of_the_present_incarnation()
+    ensures { (script : Script) (events : List Event) → KnowsPresently script events }
+{}
+
+/// So while a replica recovers, what its senders know it to have acknowledged a replica of its fragment that the script never crashes
+/// has processed: a snapshot of that one lies at or above all that they may forget before the first one acknowledges again.
+pub fn senders_know_no_more_of_one_that_recovers()
+    ensures { (script : Script) (events : List Event) → KnowNoMore script events }
+{}
+
+/// And as long as it recovers they forget no more: what that other replica had processed at a point of the fourth quiet phase or behind
+/// it, and so what a snapshot of that point carries, stays at or above all bases, in snapshots too.
+pub fn senders_keep_for_one_that_recovers()
+    ensures { (script : Script) (events : List Event) → KeptWhileRecovering script events }
+{}
+
+/// Past the first quiet phase of the one-thread journal no replica that recovers starts afresh, where another one of its fragment is
+/// never crashed.
+pub fn nobody_starts_afresh()
+    ensures { (script : Script) → NoneStartsAfresh script }
+{}
