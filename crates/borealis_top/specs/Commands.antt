@@ -11,6 +11,8 @@ use Rattle.borealis_top.specs.declared.command.LiveCommand.{LiveCommand}
 use Rattle.input_parts.specs.declared.notation.Notation.{Notation}
 use Rattle.input_parts.specs.declared.notation.Notation.TheVariants as notation
 use Rattle.journal_commands.specs.declared.outcome.JournalCommand.{JournalCommand}
+use Rattle.live_commands.specs.declared.beside.Beside.{Beside}
+use Rattle.live_commands.specs.declared.beside.Beside.TheVariants.{Nobody, Millers, Readers}
 use Rattle.journal_commands.specs.declared.outcome.JournalCommand.TheVariants.{Replay, Upgrade, Audit}
 
 -- what is done with a script that is read
@@ -69,23 +71,33 @@ two_words w v =
 abbrev pub threads_of : List ℕ → Option ℕ
 threads_of w = if is_numeral w && nat_le 1 (number w) && nat_le (number w) 16 then Some (number w) else None
 
--- the run by several threads that two words ask for, with so many others that mill, and how it is told
-abbrev pub live_by : Notation → Option ℕ → List ℕ → List ℕ → Option LiveCommand
-live_by told millers w v =
-    if bytes_eq w (codes "live") then option_map (λ n. record { workers = n; millers = millers; notation = told }) (threads_of v) else None
+-- how many readers watch a run: 1 to 8
+abbrev pub readers_of : List ℕ → Option ℕ
+readers_of w = if is_numeral w && nat_le 1 (number w) && nat_le (number w) 8 then Some (number w) else None
+
+-- the run by several threads that two words ask for, with these beside them, and how it is told
+abbrev pub live_by : Notation → Beside → List ℕ → List ℕ → Option LiveCommand
+live_by told beside w v =
+    if bytes_eq w (codes "live") then option_map (λ n. record { workers = n; beside = beside; notation = told }) (threads_of v) else None
 
 -- the run through a pool that four words ask for, and how it is told
 abbrev pub pool_by : Notation → List ℕ → List ℕ → List ℕ → List ℕ → Option LiveCommand
 pool_by told w v u t =
-    if bytes_eq u (codes "pool") then (elim (threads_of t) [ Some m ↦ live_by told (Some m) w v | None ↦ None ]) else None
+    if bytes_eq u (codes "pool") then (elim (threads_of t) [ Some m ↦ live_by told (Millers m) w v | None ↦ None ]) else None
+
+-- the run that is watched, or through a pool, that four words ask for
+abbrev pub watch_by : List ℕ → List ℕ → List ℕ → List ℕ → Option LiveCommand
+watch_by w v u t =
+    if bytes_eq u (codes "watch") then (elim (readers_of t) [ Some r ↦ live_by notation.Lines (Readers r) w v | None ↦ None ])
+    else pool_by notation.Lines w v u t
 
 -- the run by several threads that the words ask for
 abbrev pub live_of : List (List ℕ) → Option LiveCommand
 live_of [] = None
 live_of (w ∷ []) = None
-live_of (w ∷ v ∷ []) = live_by notation.Lines None w v
-live_of (w ∷ v ∷ u ∷ []) = if bytes_eq u (codes "frames") then live_by notation.Frames None w v else None
-live_of (w ∷ v ∷ u ∷ t ∷ []) = pool_by notation.Lines w v u t
+live_of (w ∷ v ∷ []) = live_by notation.Lines Nobody w v
+live_of (w ∷ v ∷ u ∷ []) = if bytes_eq u (codes "frames") then live_by notation.Frames Nobody w v else None
+live_of (w ∷ v ∷ u ∷ t ∷ []) = watch_by w v u t
 live_of (w ∷ v ∷ u ∷ t ∷ s ∷ []) = if bytes_eq s (codes "frames") then pool_by notation.Frames w v u t else None
 live_of (w ∷ v ∷ u ∷ t ∷ s ∷ r ∷ words) = None
 

@@ -9,10 +9,11 @@ use Rattle.dpc_model.specs.declared.scripts.Script.{Script}
 use Rattle.script_rules.specs.declared.reasons.PlanFault.{PlanFault}
 use Rattle.status_lines.specs.Lines.{fault_line, not_settled_line, too_long_line}
 use Rattle.world_model.specs.Worlds.{Sums}
-use Rattle.input_parts.specs.declared.notation.Notation.{Notation}
-use Rattle.live_commands.specs.Endings.{Ending, Whole, Stopped, CanEnd, IsEnding, journal_and_report, journal_upto, leaves_open}
+use Rattle.client_views.specs.declared.watched.Watched.{Watched}
+use Rattle.live_commands.specs.Endings.{Ending, Whole, Stopped, CanEnd, IsEnding, whole_text, journal_upto, leaves_open, readers_of}
 use Rattle.live_commands.specs.Endings as live
 use Rattle.live_commands.specs.declared.outcome.Outcome.{Outcome}
+use Rattle.borealis_top.specs.declared.command.LiveCommand.{LiveCommand}
 use Rattle.borealis_top.specs.declared.status.Status.{Status}
 use Rattle.borealis_top.specs.declared.status.Status.TheVariants.{Done, Words, Refused, NoMemory, NotSettled, ReadFault, WriteFault, TooLong}
 use Rattle.borealis_top.specs.declared.transfer.InputFault.{InputFault}
@@ -20,71 +21,71 @@ use Rattle.borealis_top.specs.declared.transfer.InputFault.TheVariants as input_
 use Rattle.borealis_top.specs.Ends.{IsTold, IsToldBoth, IsReadInPart}
 
 -- an input was read to its end, or to one byte past the longest script, and comes to this; what is promised of it holds
-pub record LiveComesTo (input input_new : Edge) (ending : Ending) : Type 0 where
+pub record LiveComesTo (asked : LiveCommand) (input input_new : Edge) (ending : Ending) : Type 0 where
   pub text : List ℕ
   pub gave : Gave input input_new text
   pub whole : IsAtEnd input_new.bytes ⊎ (length text ≡ most_input + 1)
-  pub can : CanEnd text ending
+  pub can : CanEnd (readers_of asked.beside) text ending
 
 -- a run came to its end, and left a client open
-pub record LeftOpen (input input_new : Edge) (s : Script) (events : List Event) : Type 0 where
-  pub comes : LiveComesTo input input_new (Whole s events)
+pub record LeftOpen (asked : LiveCommand) (input input_new : Edge) (s : Script) (events : List Event) (watched : List Watched) : Type 0 where
+  pub comes : LiveComesTo asked input input_new (Whole s events watched)
   pub still : leaves_open s events ≡ true
 
 -- how it ends, by its status
-abbrev pub LiveEnds : Notation → Edge → Edge → Edge → Edge → Edge → Edge → Status → Type 0
-LiveEnds notation input input_new out out_new err err_new Done =
-    (s : Script) × (events : List Event) × LiveComesTo input input_new (Whole s events) × (leaves_open s events ≡ false)
-    × Took out out_new (journal_and_report notation s.plan events) × Stays err err_new
-LiveEnds notation input input_new out out_new err err_new NotSettled =
-    (s : Script) × (events : List Event) × LeftOpen input input_new s events × Took out out_new (journal_and_report notation s.plan events)
+abbrev pub LiveEnds : LiveCommand → Edge → Edge → Edge → Edge → Edge → Edge → Status → Type 0
+LiveEnds asked input input_new out out_new err err_new Done =
+    (s : Script) × (events : List Event) × (watched : List Watched) × LiveComesTo asked input input_new (Whole s events watched) × (leaves_open s events ≡ false)
+    × Took out out_new (whole_text asked.notation s.plan events watched) × Stays err err_new
+LiveEnds asked input input_new out out_new err err_new NotSettled =
+    (s : Script) × (events : List Event) × (watched : List Watched) × LeftOpen asked input input_new s events watched × Took out out_new (whole_text asked.notation s.plan events watched)
     × Took err err_new not_settled_line
-LiveEnds notation input input_new out out_new err err_new TooLong =
-    (s : Script) × (events : List Event) × (e : Event) × (sums : Sums) × LiveComesTo input input_new (Stopped s events e sums)
-    × Took out out_new (journal_upto notation s.plan events e) × Took err err_new (too_long_line sums)
-LiveEnds notation input input_new out out_new err err_new Refused =
-    (fault : PlanFault) × LiveComesTo input input_new (live.Refused fault) × Stays out out_new × Took err err_new (fault_line fault)
-LiveEnds notation input input_new out out_new err err_new NoMemory =
+LiveEnds asked input input_new out out_new err err_new TooLong =
+    (s : Script) × (events : List Event) × (e : Event) × (sums : Sums) × LiveComesTo asked input input_new (Stopped s events e sums)
+    × Took out out_new (journal_upto asked.notation s.plan events e) × Took err err_new (too_long_line sums)
+LiveEnds asked input input_new out out_new err err_new Refused =
+    (fault : PlanFault) × LiveComesTo asked input input_new (live.Refused fault) × Stays out out_new × Took err err_new (fault_line fault)
+LiveEnds asked input input_new out out_new err err_new NoMemory =
     Stays out out_new × Stays err err_new × IsReadInPart input input_new × (input_new.faults ≡ input.faults)
-LiveEnds notation input input_new out out_new err err_new ReadFault =
+LiveEnds asked input input_new out out_new err err_new ReadFault =
     Stays out out_new × Stays err err_new × IsReadInPart input input_new × Rises input.faults input_new.faults
-LiveEnds notation input input_new out out_new err err_new WriteFault =
-    ((s : Script) × (events : List Event) × LiveComesTo input input_new (Whole s events) × TookPart out out_new (journal_and_report notation s.plan events)
+LiveEnds asked input input_new out out_new err err_new WriteFault =
+    ((s : Script) × (events : List Event) × (watched : List Watched) × LiveComesTo asked input input_new (Whole s events watched) × TookPart out out_new (whole_text asked.notation s.plan events watched)
     × Stays err err_new)
-    ⊎ ((s : Script) × (events : List Event) × LeftOpen input input_new s events × Took out out_new (journal_and_report notation s.plan events)
+    ⊎ ((s : Script) × (events : List Event) × (watched : List Watched) × LeftOpen asked input input_new s events watched × Took out out_new (whole_text asked.notation s.plan events watched)
     × TookPart err err_new not_settled_line)
-    ⊎ ((s : Script) × (events : List Event) × (e : Event) × (sums : Sums) × LiveComesTo input input_new (Stopped s events e sums)
-    × TookPart out out_new (journal_upto notation s.plan events e) × Stays err err_new)
-    ⊎ ((s : Script) × (events : List Event) × (e : Event) × (sums : Sums) × LiveComesTo input input_new (Stopped s events e sums)
-    × Took out out_new (journal_upto notation s.plan events e) × TookPart err err_new (too_long_line sums))
-    ⊎ ((fault : PlanFault) × LiveComesTo input input_new (live.Refused fault) × Stays out out_new × TookPart err err_new (fault_line fault))
-LiveEnds notation input input_new out out_new err err_new Words = ⊥
+    ⊎ ((s : Script) × (events : List Event) × (e : Event) × (sums : Sums) × LiveComesTo asked input input_new (Stopped s events e sums)
+    × TookPart out out_new (journal_upto asked.notation s.plan events e) × Stays err err_new)
+    ⊎ ((s : Script) × (events : List Event) × (e : Event) × (sums : Sums) × LiveComesTo asked input input_new (Stopped s events e sums)
+    × Took out out_new (journal_upto asked.notation s.plan events e) × TookPart err err_new (too_long_line sums))
+    ⊎ ((fault : PlanFault) × LiveComesTo asked input input_new (live.Refused fault) × Stays out out_new × TookPart err err_new (fault_line fault))
+LiveEnds asked input input_new out out_new err err_new Words = ⊥
 
 -- ---- an answer for each input
 
 -- where what is written to does not fail, all of it is written
-abbrev pub IsLiveWhole : Notation → Ending → Edge → Edge → Edge → Edge → Status → Type 0
-IsLiveWhole notation (Whole s events) out out_new err err_new result =
+abbrev pub IsLiveWhole : LiveCommand → Ending → Edge → Edge → Edge → Edge → Status → Type 0
+IsLiveWhole asked (Whole s events watched) out out_new err err_new result =
     (Rises out.faults out_new.faults → ⊥) → (Rises err.faults err_new.faults → ⊥) →
-    Took out out_new (journal_and_report notation s.plan events)
+    Took out out_new (whole_text asked.notation s.plan events watched)
     × (((leaves_open s events ≡ false) × (result ≡ Done)) ⊎ ((leaves_open s events ≡ true) × (result ≡ NotSettled) × Took err err_new not_settled_line))
-IsLiveWhole notation (Stopped s events e sums) out out_new err err_new result =
+IsLiveWhole asked (Stopped s events e sums) out out_new err err_new result =
     (Rises out.faults out_new.faults → ⊥) → (Rises err.faults err_new.faults → ⊥) →
-    (result ≡ TooLong) × Took out out_new (journal_upto notation s.plan events e) × Took err err_new (too_long_line sums)
-IsLiveWhole notation (live.Refused fault) out out_new err err_new result =
+    (result ≡ TooLong) × Took out out_new (journal_upto asked.notation s.plan events e) × Took err err_new (too_long_line sums)
+IsLiveWhole asked (live.Refused fault) out out_new err err_new result =
     (Rises err.faults err_new.faults → ⊥) → (result ≡ Refused) × Took err err_new (fault_line fault)
 
 -- so it is of every input that does not fail, unless memory runs out
-abbrev pub LiveIsWhole : Notation → Edge → Edge → Edge → Edge → Edge → Edge → Status → Type 0
-LiveIsWhole notation input input_new out out_new err err_new result =
+abbrev pub LiveIsWhole : LiveCommand → Edge → Edge → Edge → Edge → Edge → Edge → Status → Type 0
+LiveIsWhole asked input input_new out out_new err err_new result =
     (bytes : List ℕ) → input.bytes ≡ Some bytes → (Rises input.faults input_new.faults → ⊥) →
-    ((ending : Ending) × CanEnd bytes ending × IsLiveWhole notation ending out out_new err err_new result) ⊎ (result ≡ NoMemory)
+    ((ending : Ending) × CanEnd (readers_of asked.beside) bytes ending × IsLiveWhole asked ending out out_new err err_new result) ⊎ (result ≡ NoMemory)
 
 -- ---- the parts of such a command
 
 -- what was read comes to this
-abbrev pub IsLiveOutcome : Notation → Edge → Edge → Outcome → Type 0
-IsLiveOutcome notation input input_new outcome = (ending : Ending) × LiveComesTo input input_new ending × IsEnding notation ending outcome
+abbrev pub IsLiveOutcome : LiveCommand → Edge → Edge → Outcome → Type 0
+IsLiveOutcome asked input input_new outcome = (ending : Ending) × LiveComesTo asked input input_new ending × IsEnding asked.notation ending outcome
 
 -- why an input was not read whole
 abbrev pub LiveFailsSo : Edge → Edge → InputFault → Type 0
@@ -93,10 +94,10 @@ LiveFailsSo input input_new input_fault.Failed = IsReadInPart input input_new ×
 LiveFailsSo input input_new input_fault.TooLong = ⊥
 
 -- what an input comes to was written, or a sink failed
-abbrev pub IsLiveTold : Notation → Ending → Edge → Edge → Edge → Edge → Status → Type 0
-IsLiveTold notation (Whole s events) out out_new err err_new result =
-    ((leaves_open s events ≡ false) × IsTold out out_new (journal_and_report notation s.plan events) Done result × (err_new ≡ err))
-    ⊎ ((leaves_open s events ≡ true) × IsToldBoth out out_new err err_new (journal_and_report notation s.plan events) not_settled_line NotSettled result)
-IsLiveTold notation (Stopped s events e sums) out out_new err err_new result =
-    IsToldBoth out out_new err err_new (journal_upto notation s.plan events e) (too_long_line sums) TooLong result
-IsLiveTold notation (live.Refused fault) out out_new err err_new result = IsTold err err_new (fault_line fault) Refused result × (out_new ≡ out)
+abbrev pub IsLiveTold : LiveCommand → Ending → Edge → Edge → Edge → Edge → Status → Type 0
+IsLiveTold asked (Whole s events watched) out out_new err err_new result =
+    ((leaves_open s events ≡ false) × IsTold out out_new (whole_text asked.notation s.plan events watched) Done result × (err_new ≡ err))
+    ⊎ ((leaves_open s events ≡ true) × IsToldBoth out out_new err err_new (whole_text asked.notation s.plan events watched) not_settled_line NotSettled result)
+IsLiveTold asked (Stopped s events e sums) out out_new err err_new result =
+    IsToldBoth out out_new err err_new (journal_upto asked.notation s.plan events e) (too_long_line sums) TooLong result
+IsLiveTold asked (live.Refused fault) out out_new err err_new result = IsTold err err_new (fault_line fault) Refused result × (out_new ≡ out)

@@ -42,7 +42,7 @@ PlainEnds None command input input_new out out_new err err_new result = CommandE
 -- how what the words say ends: a run by so many threads, or a command that waits for nobody
 abbrev pub WordsEnd : Option LiveCommand → Option (List ℕ × List ℕ) → Option Command → Edge → Edge → Edge → Edge → Edge → Edge → Status → Type 0
 WordsEnd (Some live) names command input input_new out out_new err err_new result =
-    LiveEnds live.notation input input_new out out_new err err_new result × LiveIsWhole live.notation input input_new out out_new err err_new result
+    LiveEnds live input input_new out out_new err err_new result × LiveIsWhole live input input_new out out_new err err_new result
 WordsEnd None names command input input_new out out_new err err_new result = PlainEnds names command input input_new out out_new err err_new result
 
 -- nothing was touched, for want of memory

@@ -1,9 +1,10 @@
 //! What the words of the command line ask for.
 ghost use Rattle.std.specs.Prelude.{◌≡◌, None, Some, map, string_bytes, bytes_eq, MatchOption};
-ghost use Rattle.borealis_top.specs.Commands.{reading_word, told_word, journal_word, input_word, form_word, seed_of, command_word, two_words, command_of, threads_of, live_by, pool_by, live_of, pair_of};
+ghost use Rattle.borealis_top.specs.Commands.{reading_word, told_word, journal_word, input_word, form_word, seed_of, command_word, two_words, command_of, threads_of, readers_of, live_by, pool_by, watch_by, live_of, pair_of};
 
 use input_parts::notation::Notation;
 use journal_commands::outcome::JournalCommand;
+use live_commands::beside::Beside;
 use script_words::spelling::number;
 
 /// How a run is reported.
@@ -37,8 +38,8 @@ pub enum Reading {
 pub struct LiveCommand {
     /// How many workers it has: 1 to 16.
     pub workers: u64,
-    /// How many others mill what workers put into a pool: 1 to 16. None: workers mill it themselves.
-    pub millers: Option<u64>,
+    /// Who is there beside them.
+    pub beside: Beside,
     /// How its journal and its report are told.
     pub notation: Notation,
 }
@@ -72,6 +73,9 @@ const MOST_SEED: u64 = 1000;
 
 /// The most threads of a kind that run a script.
 const MOST_THREADS: u64 = 16;
+
+/// The most readers of what clients take.
+const MOST_READERS: u64 = 8;
 
 /// Whether an argument is this word.
 fn is_word(argument: &String, word: &[u8]) -> bool
@@ -190,19 +194,26 @@ fn threads_of(word: &String) -> Option<u64>
     number(word.as_bytes()).filter(|n| 1 <= *n && *n <= MOST_THREADS)
 }
 
-/// The run by several threads that two words ask for, with so many others that mill, and how it is told.
+/// How many readers watch a run.
+fn readers_of(word: &String) -> Option<u64>
+    ensures { result ≡ readers_of (string_bytes word.now) }
+{
+    number(word.as_bytes()).filter(|n| 1 <= *n && *n <= MOST_READERS)
+}
+
+/// The run by several threads that two words ask for, with these beside them, and how it is told.
 fn live_by(
     notation: Notation,
-    millers: Option<u64>,
+    beside: Beside,
     first: &String,
     second: &String,
 ) -> Option<LiveCommand>
-    ensures { result ≡ live_by notation millers (string_bytes first.now) (string_bytes second.now) }
+    ensures { result ≡ live_by notation beside (string_bytes first.now) (string_bytes second.now) }
 {
     if is_word(first, b"live") {
         Some(LiveCommand {
             workers: threads_of(second)?,
-            millers,
+            beside,
             notation,
         })
     } else {
@@ -222,9 +233,21 @@ fn pool_by(
 {
     if is_word(third, b"pool") {
         let millers = threads_of(fourth)?;
-        live_by(notation, Some(millers), first, second)
+        live_by(notation, Beside::Millers(millers), first, second)
     } else {
         None
+    }
+}
+
+/// The run that is watched, or through a pool, that four words ask for.
+fn watch_by(first: &String, second: &String, third: &String, fourth: &String) -> Option<LiveCommand>
+    ensures { result ≡ watch_by (string_bytes first.now) (string_bytes second.now) (string_bytes third.now) (string_bytes fourth.now) }
+{
+    if is_word(third, b"watch") {
+        let readers = readers_of(fourth)?;
+        live_by(Notation::Lines, Beside::Readers(readers), first, second)
+    } else {
+        pool_by(Notation::Lines, first, second, third, fourth)
     }
 }
 
@@ -233,15 +256,15 @@ pub fn live_in(words: &[String]) -> Option<LiveCommand>
     ensures { result ≡ live_of (map string_bytes words.now) }
 {
     match words {
-        [first, second] => live_by(Notation::Lines, None, first, second),
+        [first, second] => live_by(Notation::Lines, Beside::Nobody, first, second),
         [first, second, third] => {
             if is_word(third, b"frames") {
-                live_by(Notation::Frames, None, first, second)
+                live_by(Notation::Frames, Beside::Nobody, first, second)
             } else {
                 None
             }
         }
-        [first, second, third, fourth] => { pool_by(Notation::Lines, first, second, third, fourth) }
+        [first, second, third, fourth] => { watch_by(first, second, third, fourth) }
         [first, second, third, fourth, fifth] => {
             if is_word(fifth, b"frames") {
                 pool_by(Notation::Frames, first, second, third, fourth)

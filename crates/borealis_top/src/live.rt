@@ -1,7 +1,7 @@
 //! The command that runs a script by several threads.
-ghost use Rattle.std.specs.Prelude.{◌≡◌, ℕ, ◌≤◌, Some, IfOk, IfErr};
-ghost use Rattle.input_parts.specs.declared.notation.Notation.{Notation};
-ghost use Rattle.live_commands.specs.Endings.{Ending, IsEnding};
+ghost use Rattle.std.specs.Prelude.{◌≤◌, IfOk, IfErr};
+ghost use Rattle.live_commands.specs.Endings.{Ending, IsEnding, IsFew};
+ghost use Rattle.borealis_top.specs.declared.command.LiveCommand as commands;
 ghost use Rattle.borealis_top.specs.LiveEnds.{IsLiveOutcome, LiveFailsSo, IsLiveTold, LiveEnds, LiveIsWhole};
 
 use crate::command::LiveCommand;
@@ -28,8 +28,8 @@ fn outcome_of<R: Threads + Wait + Sync, S: Source, G: Gate + Sync>(
 ) -> Result<Outcome, InputFault>
     requires some { 1 ≤ command.workers }
     requires few { command.workers ≤ 16 }
-    requires millers { (m : ℕ) → command.millers ≡ Some m → (1 ≤ m) × (m ≤ 16) }
-    ensures ok { IfOk result (IsLiveOutcome command.notation (S.edge input.old) (S.edge input.new)) }
+    requires beside { IsFew command.beside }
+    ensures ok { IfOk result (IsLiveOutcome command (S.edge input.old) (S.edge input.new)) }
     ensures err { IfErr result (LiveFailsSo (S.edge input.old) (S.edge input.new)) }
 {
     match read_whole(alloc, input, MOST_INPUT) {
@@ -39,7 +39,7 @@ fn outcome_of<R: Threads + Wait + Sync, S: Source, G: Gate + Sync>(
             command.notation,
             text,
             command.workers,
-            command.millers,
+            command.beside,
             gate,
         ) {
             Ok(outcome) => Ok(outcome),
@@ -56,8 +56,8 @@ fn outcome_of<R: Threads + Wait + Sync, S: Source, G: Gate + Sync>(
 
 /// Writes what a run comes to.
 fn tell<O: Sink, E: Sink>(out: &mut O, err: &mut E, outcome: Outcome) -> Status
-    ensures { (notation : Notation) (ending : Ending) → IsEnding notation ending outcome
-        → IsLiveTold notation ending (O.edge out.old) (O.edge out.new) (E.edge err.old) (E.edge err.new) result }
+    ensures { (asked : commands.LiveCommand) (ending : Ending) → IsEnding asked.notation ending outcome
+        → IsLiveTold asked ending (O.edge out.old) (O.edge out.new) (E.edge err.old) (E.edge err.new) result }
 {
     match outcome {
         Outcome::Text(text) => told(out, text.as_slice(), Status::Done),
@@ -73,7 +73,7 @@ fn tell<O: Sink, E: Sink>(out: &mut O, err: &mut E, outcome: Outcome) -> Status
     }
 }
 
-/// Reads a script, runs it by so many threads, and writes the journal of that run and its report.
+/// Reads a script, runs it by so many threads, and writes the journal of that run, its report, and what readers saw.
 pub(crate) fn run_live<R: Threads + Wait + Sync, S: Source, O: Sink, E: Sink, G: Gate + Sync>(
     rt: &R,
     alloc: Global,
@@ -85,10 +85,10 @@ pub(crate) fn run_live<R: Threads + Wait + Sync, S: Source, O: Sink, E: Sink, G:
 ) -> Status
     requires some { 1 ≤ command.workers }
     requires few { command.workers ≤ 16 }
-    requires millers { (m : ℕ) → command.millers ≡ Some m → (1 ≤ m) × (m ≤ 16) }
-    ensures ends { LiveEnds command.notation (S.edge input.old) (S.edge input.new) (O.edge out.old) (O.edge out.new)
+    requires beside { IsFew command.beside }
+    ensures ends { LiveEnds command (S.edge input.old) (S.edge input.new) (O.edge out.old) (O.edge out.new)
         (E.edge err.old) (E.edge err.new) result }
-    ensures complete { LiveIsWhole command.notation (S.edge input.old) (S.edge input.new) (O.edge out.old) (O.edge out.new)
+    ensures complete { LiveIsWhole command (S.edge input.old) (S.edge input.new) (O.edge out.old) (O.edge out.new)
         (E.edge err.old) (E.edge err.new) result }
 {
     match outcome_of(rt, alloc, command, input, gate) {

@@ -37,26 +37,27 @@ use std::alloc::Global;
 
 /// What `--help` writes.
 const HELP: &[u8] = b"\
-borealis run < SCRIPT            runs a script, and writes what each client received
-borealis run short < SCRIPT      the summary lines alone
-borealis run json < SCRIPT       the same as JSON
-borealis run frames < SCRIPT     the same as frames of bytes
-borealis check < SCRIPT          tells whether a script is right, or its first faulty line and why
-borealis print < SCRIPT          writes a script in canonical form
-borealis ideal < SCRIPT          writes the failure-free stream of each client
-borealis replay < BOTH           runs the journal behind a script, and writes what each client received
-borealis replay frames < BOTH    the same of a journal in frames
-borealis audit < BOTH            compares the recorded stream behind a script with the failure-free one
-borealis audit frames < BOTH     the same of a stream in frames
-borealis upgrade < BOTH          writes a script, and the journal behind it if there is one, in the newest form
-borealis live N < SCRIPT         runs a script by N threads, 1 to 16, and writes the journal and what each client received
-borealis live N frames < SCRIPT  the same as frames
-borealis live N pool M < SCRIPT  the same as live N, with M threads more, 1 to 16, that process what the N put into a pool
-borealis pair X Y < SCRIPT       runs a script, and writes one stream made of what clients X and Y of one stream received
-borealis gen N                   writes the generated script of a number, 1 to 1000
-borealis reasons                 writes the reasons to refuse a line, each with its number
-borealis --help                  writes these lines
-borealis --version               writes the version
+borealis run < SCRIPT             runs a script, and writes what each client received
+borealis run short < SCRIPT       the summary lines alone
+borealis run json < SCRIPT        the same as JSON
+borealis run frames < SCRIPT      the same as frames of bytes
+borealis check < SCRIPT           tells whether a script is right, or its first faulty line and why
+borealis print < SCRIPT           writes a script in canonical form
+borealis ideal < SCRIPT           writes the failure-free stream of each client
+borealis replay < BOTH            runs the journal behind a script, and writes what each client received
+borealis replay frames < BOTH     the same of a journal in frames
+borealis audit < BOTH             compares the recorded stream behind a script with the failure-free one
+borealis audit frames < BOTH      the same of a stream in frames
+borealis upgrade < BOTH           writes a script, and the journal behind it if there is one, in the newest form
+borealis live N < SCRIPT          runs a script by N threads, 1 to 16, and writes the journal and what each client received
+borealis live N frames < SCRIPT   the same as frames
+borealis live N pool M < SCRIPT   the same as live N, with M threads more, 1 to 16, that process what the N put into a pool
+borealis live N watch R < SCRIPT  the same as live N, with R threads more, 1 to 8, that read what the clients take, and what they saw
+borealis pair X Y < SCRIPT        runs a script, and writes one stream made of what clients X and Y of one stream received
+borealis gen N                    writes the generated script of a number, 1 to 1000
+borealis reasons                  writes the reasons to refuse a line, each with its number
+borealis --help                   writes these lines
+borealis --version                writes the version
 The script language, and the reasons: docs/SCRIPT.md
 ";
 

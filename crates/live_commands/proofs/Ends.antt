@@ -18,12 +18,14 @@ use Rattle.world_model.specs.Worlds.{Sums}
 use Rattle.input_parts.specs.declared.notation.Notation.{Notation}
 use Rattle.journal_commands.proofs.Promised.{good-run, read-can-run}
 use Rattle.node_threads.specs.declared.stop.Stop.{Stop}
-use Rattle.node_threads.specs.Lives.{IsLiveRun, IsStopped}
+use Rattle.node_threads.specs.Lives.{IsStopped}
+use Rattle.live_watch.specs.Watches.{IsWatchedRun}
+use Rattle.client_views.specs.declared.watched.Watched.{Watched}
 use Rattle.world_core.specs.Runs.{RunOf, world_of}
 use Rattle.world_model.specs.Worlds.{all_settled}
 use Rattle.live_commands.specs.declared.outcome.Outcome.{Outcome}
 use Rattle.live_commands.specs.declared.outcome.Outcome.TheVariants as outcome
-use Rattle.live_commands.specs.Endings.{Ending, Whole, Stopped, Refused, CanEnd, IsEnding, EndsSo, HasEnded, HasStopped, IsToldOf, journal_and_report, journal_upto}
+use Rattle.live_commands.specs.Endings.{Ending, Whole, Stopped, Refused, CanEnd, IsEnding, EndsSo, HasEnded, HasStopped, IsToldOf, whole_text, journal_upto}
 use Rattle.std.specs.Prelude.{not, ◌&&◌, ◌^◌, ◌<◌, length}
 
 -- what is read can be run
@@ -31,8 +33,9 @@ pub can-run : (text : List ℕ) (s : Script) → reading text ≡ Ok s → CanRu
 can-run text s is = read-can-run text s (ap script_in is)
 
 -- a run that came to its end keeps its promises
-ended : (text : List ℕ) (s : Script) (events : List Event) → read text ≡ Some s → HasEnded s events → CanEnd text (Whole s events)
-ended text s events is h =
+ended : (readers : ℕ) (text : List ℕ) (s : Script) (events : List Event) (watched : List Watched) → read text ≡ Some s → HasEnded readers s events watched →
+    CanEnd readers text (Whole s events watched)
+ended readers text s events watched is h =
     let can = read-can-run text s is in (
       is,
       good-run s events can (reads_checked text s is) (replay-whole s events h.live h.within),
@@ -40,35 +43,38 @@ ended text s events is h =
         printed-input front text s events same is (live-far s events h.live) h.within h.short,
         framed-input front text s events same is (live-far s events h.live) h.within h.short,
       ),
+      h.seen,
     )
 
 -- so does one that would pass a limit
-stopped : (text : List ℕ) (s : Script) (events : List Event) (e : Event) (reached : Sums) → read text ≡ Some s → HasStopped s events e reached → CanEnd text (Stopped s events e reached)
-stopped text s events e reached is h = (
+stopped : (readers : ℕ) (text : List ℕ) (s : Script) (events : List Event) (e : Event) (reached : Sums) → read text ≡ Some s → HasStopped s events e reached →
+    CanEnd readers text (Stopped s events e reached)
+stopped readers text s events e reached is h = (
   is,
   record { safe = run-safe s.plan events (read-can-run text s is).checked; stopped = h },
 )
 
-pub can-end : (notation : Notation) (text : List ℕ) (s : Script) (o : Outcome) → reading text ≡ Ok s → EndsSo notation s o → (ending : Ending) × CanEnd text ending × IsEnding notation ending o
-can-end notation text s (outcome.Text t) is (events, h, e) = (Whole s events, ended text s events (ap script_in is) h, e)
-can-end notation text s (outcome.Open t) is (events, h, e) = (Whole s events, ended text s events (ap script_in is) h, e)
-can-end notation text s (outcome.TooLong entries line) is (events, e, reached, h, told) =
-    (Stopped s events e reached, stopped text s events e reached (ap script_in is) h, told)
-can-end notation text s (outcome.Refused line) is h = absurd h
+pub can-end : (notation : Notation) (readers : ℕ) (text : List ℕ) (s : Script) (o : Outcome) → reading text ≡ Ok s → EndsSo notation readers s o →
+    (ending : Ending) × CanEnd readers text ending × IsEnding notation ending o
+can-end notation readers text s (outcome.Text t) is (events, watched, h, e) = (Whole s events watched, ended readers text s events watched (ap script_in is) h, e)
+can-end notation readers text s (outcome.Open t) is (events, watched, h, e) = (Whole s events watched, ended readers text s events watched (ap script_in is) h, e)
+can-end notation readers text s (outcome.TooLong entries line) is (events, e, reached, h, told) =
+    (Stopped s events e reached, stopped readers text s events e reached (ap script_in is) h, told)
+can-end notation readers text s (outcome.Refused line) is h = absurd h
 
 -- ---- a world
 
 -- what is told of the world of a whole run is told of that run
-pub whole-ends : (notation : Notation) (s : Script) (w : RunOf) (o : Outcome) → IsLiveRun s w → length w.events < 2 ^ 62 →
-    IsToldOf (s.settle && not (all_settled (world_of w))) (journal_and_report notation w.plan w.events) o → EndsSo notation s o
-whole-ends notation s w (outcome.Text t) run short told =
-    let same = run.plan in
-    (w.events, record { live = run.live; within = run.within; short = short }, rw same at told)
-whole-ends notation s w (outcome.Open t) run short told =
-    let same = run.plan in
-    (w.events, record { live = run.live; within = run.within; short = short }, rw same at told)
-whole-ends notation s w (outcome.TooLong entries line) run short told = absurd told
-whole-ends notation s w (outcome.Refused line) run short told = absurd told
+pub whole-ends : (notation : Notation) (readers : ℕ) (s : Script) (w : RunOf) (watched : List Watched) (o : Outcome) → IsWatchedRun s readers w watched → length w.events < 2 ^ 62 →
+    IsToldOf (s.settle && not (all_settled (world_of w))) (whole_text notation w.plan w.events watched) o → EndsSo notation readers s o
+whole-ends notation readers s w watched (outcome.Text t) h short told =
+    let same = h.run.plan in
+    (w.events, watched, record { live = h.run.live; within = h.run.within; short = short; seen = rw same at h.seen }, rw same at told)
+whole-ends notation readers s w watched (outcome.Open t) h short told =
+    let same = h.run.plan in
+    (w.events, watched, record { live = h.run.live; within = h.run.within; short = short; seen = rw same at h.seen }, rw same at told)
+whole-ends notation readers s w watched (outcome.TooLong entries line) h short told = absurd told
+whole-ends notation readers s w watched (outcome.Refused line) h short told = absurd told
 
 -- and so of one that is stopped
 pub stopped-is : (s : Script) (w : RunOf) (stop : Stop) → IsStopped s w stop →

@@ -1,14 +1,18 @@
 //! What is to be written of a script that several threads run.
-ghost use Rattle.std.specs.Prelude.{◌≡◌, ℕ, ◌≤◌, ◌<◌, ◌^◌, ◌&&◌, not, false, length, vec_len, Some, IfOk, IfErr, OnOk};
+ghost use Rattle.std.specs.Prelude.{◌≡◌, ℕ, ◌≤◌, ◌<◌, ◌^◌, ◌&&◌, not, false, length, vec_len, IfOk, IfErr, OnOk};
 ghost use Rattle.dpc_model.specs.Limits.{most_input};
 ghost use Rattle.dpc_model.specs.declared.scripts.Script as scripts;
 ghost use Rattle.law_fit.specs.Fits.{CanRun};
 ghost use Rattle.world_model.specs.Worlds.{all_settled};
 ghost use Rattle.world_core.specs.Runs.{world_of};
-ghost use Rattle.node_threads.specs.Lives.{IsLiveRun, IsPast, IsStopped};
-ghost use Rattle.live_commands.specs.Endings.{Ending, CanEnd, IsEnding, EndsSo, IsToldOf, journal_and_report, journal_upto};
+ghost use Rattle.node_threads.specs.Lives.{IsPast, IsStopped};
+ghost use Rattle.live_watch.specs.Watches.{IsWatchedRun};
+ghost use Rattle.live_commands.specs.Endings.{Ending, CanEnd, IsEnding, IsFew, EndsSo, IsToldOf, readers_of, journal_and_report, whole_text, journal_upto};
 
+use crate::beside::Beside;
 use crate::outcome::Outcome;
+use crate::watching::put_all_watched;
+use client_views::watched::Watched;
 use diagram_reader::faults::ScriptFault;
 use diagram_reader::read_script;
 use dpc_edge::gate::Gate;
@@ -19,6 +23,7 @@ use frame_lists::writing::journal_frames;
 use input_parts::notation::Notation;
 use journal_commands::{framed_report, report};
 use journal_text::print_journal;
+use live_watch::live::live_watch;
 use node_threads::faults::LiveFault;
 use node_threads::live::live;
 use node_threads::pooled::live_by_pool;
@@ -32,8 +37,8 @@ use world_core::world::World;
 /// More events than any list of them has.
 const NO_SUCH_LENGTH: usize = 1 << 62;
 
-/// What a run by so many workers, and others that mill for them if there are any, of the script in an input of at most
-/// 64 MiB comes to, told in lines or in frames.
+/// What a run by so many workers, with those who are beside them, of the script in an input of at most 64 MiB comes to,
+/// told in lines or in frames; behind it stand the lines on what readers saw, if there are any.
 /// The input is let go before the run. It may wait, so its promise holds if it returns.
 pub fn answer<R: Threads + Wait + Sync, G: Gate + Sync>(
     rt: &R,
@@ -41,19 +46,19 @@ pub fn answer<R: Threads + Wait + Sync, G: Gate + Sync>(
     notation: Notation,
     input: Vec<u8>,
     workers: u64,
-    millers: Option<u64>,
+    beside: Beside,
     gate: &G,
 ) -> Result<Outcome, NoMemory>
     requires long { vec_len input ≤ most_input }
     requires some { 1 ≤ workers }
     requires few { workers ≤ 16 }
-    requires millers { (m : ℕ) → millers ≡ Some m → (1 ≤ m) × (m ≤ 16) }
-    ensures { IfOk result (λ outcome. (ending : Ending) × CanEnd input.items ending × IsEnding notation ending outcome) }
+    requires beside { IsFew beside }
+    ensures { IfOk result (λ outcome. (ending : Ending) × CanEnd (readers_of beside) input.items ending × IsEnding notation ending outcome) }
 {
     let script = read_script(alloc, input.as_slice());
     drop(input);
     match script {
-        Ok(script) => run_answer(rt, alloc, notation, script, workers, millers, gate),
+        Ok(script) => run_answer(rt, alloc, notation, script, workers, beside, gate),
         Err(why) => match why {
             ScriptFault::NoMemory => Err(NoMemory),
             ScriptFault::Refused(fault) => Ok(Outcome::Refused(fault_line(alloc, fault)?)),
@@ -61,25 +66,32 @@ pub fn answer<R: Threads + Wait + Sync, G: Gate + Sync>(
     }
 }
 
-/// Runs a script by so many workers, and by so many others that mill for them, if there are any.
+/// Runs a script by so many workers, with those who are beside them: the world, and what readers saw.
 fn run_by<R: Threads + Wait + Sync, G: Gate + Sync>(
     rt: &R,
     alloc: Global,
     script: Script,
     workers: u64,
-    millers: Option<u64>,
+    beside: Beside,
     gate: &G,
-) -> Result<World, LiveFault>
+) -> Result<(World, Vec<Watched>), LiveFault>
     requires can { CanRun script.plan }
     requires some { 1 ≤ workers }
     requires few { workers ≤ 16 }
-    requires millers { (m : ℕ) → millers ≡ Some m → (1 ≤ m) × (m ≤ 16) }
-    ensures ok { IfOk result (IsLiveRun script) }
+    requires beside { IsFew beside }
+    ensures ok { IfOk result (λ r. IsWatchedRun script (readers_of beside) r.0 r.1.items) }
     ensures long { IfErr result (IsPast script) }
 {
-    match millers {
-        Some(millers) => live_by_pool(rt, alloc, script, workers, millers, gate),
-        None => live(rt, alloc, script, workers, gate),
+    match beside {
+        Beside::Nobody => {
+            let world = live(rt, alloc, script, workers, gate)?;
+            Ok((world, Vec::new(alloc)))
+        }
+        Beside::Millers(millers) => {
+            let world = live_by_pool(rt, alloc, script, workers, millers, gate)?;
+            Ok((world, Vec::new(alloc)))
+        }
+        Beside::Readers(readers) => live_watch(rt, alloc, script, workers, readers, gate),
     }
 }
 
@@ -90,40 +102,44 @@ fn run_answer<R: Threads + Wait + Sync, G: Gate + Sync>(
     notation: Notation,
     script: Script,
     workers: u64,
-    millers: Option<u64>,
+    beside: Beside,
     gate: &G,
 ) -> Result<Outcome, NoMemory>
     requires can { CanRun script.plan }
     requires some { 1 ≤ workers }
     requires few { workers ≤ 16 }
-    requires millers { (m : ℕ) → millers ≡ Some m → (1 ≤ m) × (m ≤ 16) }
-    ensures { IfOk result (EndsSo notation script) }
+    requires beside { IsFew beside }
+    ensures { IfOk result (EndsSo notation (readers_of beside) script) }
 {
     let settle = script.settle;
-    match run_by(rt, alloc, script, workers, millers, gate) {
-        Ok(world) => world_answer(alloc, notation, settle, &world),
+    match run_by(rt, alloc, script, workers, beside, gate) {
+        Ok((world, watched)) => {
+            world_answer(alloc, notation, settle, &world, watched.as_slice())
+        }
         Err(LiveFault::TooLong(world, stop)) => stopped_answer(alloc, notation, &world, stop),
         Err(LiveFault::NoMemory) => Err(NoMemory),
     }
 }
 
-/// The journal of a world and its report, and whether a client is left open behind `settle`.
+/// The journal of a world, its report and what readers saw, and whether a client is left open behind `settle`.
 fn world_answer(
     alloc: Global,
     notation: Notation,
     settle: bool,
     world: &World,
+    watched: &[Watched],
 ) -> Result<Outcome, NoMemory>
     requires live { world.now.spent ≡ false }
     requires run { CanRun world.now.plan }
     ensures short { OnOk result (length world.now.events < 2 ^ 62) }
     ensures told { IfOk result (IsToldOf (settle && not (all_settled (world_of world.now)))
-        (journal_and_report notation world.now.plan world.now.events)) }
+        (whole_text notation world.now.plan world.now.events watched.now)) }
 {
     if world.journal().len() >= NO_SUCH_LENGTH {
         return Err(NoMemory);
     }
-    let text = whole_text(alloc, notation, world)?;
+    let mut text = journal_and_report(alloc, notation, world)?;
+    put_all_watched(&mut text, world.plan(), watched)?;
     if settle && !world.settled() {
         Ok(Outcome::Open(text))
     } else {
@@ -132,7 +148,7 @@ fn world_answer(
 }
 
 /// The journal of a world, and its report.
-fn whole_text(alloc: Global, notation: Notation, world: &World) -> Result<Vec<u8>, NoMemory>
+fn journal_and_report(alloc: Global, notation: Notation, world: &World) -> Result<Vec<u8>, NoMemory>
     requires live { world.now.spent ≡ false }
     requires run { CanRun world.now.plan }
     ensures { IfOk result (λ text. text.items ≡ journal_and_report notation world.now.plan world.now.events) }
@@ -158,7 +174,7 @@ fn stopped_answer(
     world: &World,
     stop: Stop,
 ) -> Result<Outcome, NoMemory>
-    ensures { IfOk result (λ outcome. (script : scripts.Script) → IsStopped script world.now stop → EndsSo notation script outcome) }
+    ensures { IfOk result (λ outcome. (readers : ℕ) (script : scripts.Script) → IsStopped script world.now stop → EndsSo notation readers script outcome) }
 {
     let entries = entries_upto(alloc, notation, world, stop.event)?;
     let line = too_long_line(alloc, stop.envelopes, stop.items)?;

@@ -2,6 +2,8 @@
 #![tactic(auto)]
 
 mod answering;
+pub mod beside;
 pub mod outcome;
+mod watching;
 
 pub use answering::answer;

@@ -1,8 +1,8 @@
 -- The items that a reader took go on where its stable tuples end, and tell what it then holds.
-use Rattle.std.proofs.Common.{◌≡◌, ℕ, zero, suc, ◌+◌, ◌<◌, max, Bool, true, false, cond, nat_lt, nat_le, ◌==◌, ◌&&◌, List, [], ◌∷◌, ◌++◌, Some, None, length, take, drop, refl, sym, subst, ap, ◌∙◌, arith}
-use Rattle.std.proofs.lemmas.List.{append-nil, append_assoc, length-append, take-append-drop}
-use Rattle.dpc_lists.specs.Lists.{push}
-use Rattle.dpc_lists.proofs.Truths.{both, le-of, lt-of, eq-of}
+use Rattle.std.proofs.Common.{◌≡◌, ◌≢◌, ℕ, ◌+◌, ◌<◌, ◌≤◌, le_trans, zero-le, max, Bool, true, false, cond, nat_lt, nat_le, ◌==◌, ◌&&◌, List, [], ◌∷◌, ◌++◌, Some, None, length, refl, sym, subst, ap, ◌∙◌, arith}
+use Rattle.std.proofs.lemmas.List.{append-nil, append_assoc, length-append}
+use Rattle.dpc_lists.specs.Lists.{push, IsPrefixOf}
+use Rattle.dpc_lists.proofs.Truths.{both, le-of, le-test, lt-of, eq-of, eq-test, true-not-false}
 use Rattle.dpc_model.specs.Reading.{Reader, empty_reader, Reading, NoReading, Skipped, Taken, reading, is_sure, Folded, fold_items, taken_first}
 use Rattle.dpc_model.specs.declared.plans.Plan.{Plan}
 use Rattle.dpc_model.specs.declared.plans.StreamRef.{StreamRef}
@@ -10,9 +10,10 @@ use Rattle.dpc_model.specs.declared.tuples.Item.{Item}
 use Rattle.dpc_model.specs.declared.tuples.Item.TheVariants.{Stable, Tentative, Passed, Boundary, Undo, RecDone}
 use Rattle.dpc_model.proofs.Folding.{first_taken}
 use Rattle.node_model.specs.Clients.{ClientState, client_stream, reader_of}
-use Rattle.world_model.specs.Safe.{AreTrueItems, IsSafeClient}
-use Rattle.live_view.specs.Telling.{GoOn, stable_tuples, greatest_bound}
+use Rattle.world_model.specs.Safe.{IsSafeClient}
+use Rattle.live_view.specs.Telling.{GoOn, stable_tuples, greatest_bound, new_tuples, new_bound}
 use Rattle.live_view.specs.Tellers.{TellerState, new_teller, told}
+use Rattle.live_view.proofs.Tellings.{new_tuples-append, new_bound-append, new_bound-from}
 
 -- ---- what an item that is taken does
 
@@ -102,27 +103,7 @@ greatest_bound-append b (Passed c ∷ xs) ys = greatest_bound-append b xs ys
 greatest_bound-append b (Undo k ∷ xs) ys = greatest_bound-append b xs ys
 greatest_bound-append b (RecDone ∷ xs) ys = greatest_bound-append b xs ys
 
--- what goes on after a first part goes on at the number that the first part ends at
-pub goes-on-behind : (n : ℕ) (xs ys : List Item) → GoOn n (xs ++ ys) → GoOn (n + length (stable_tuples xs)) ys
-goes-on-behind n [] ys g = let e : n ≡ n + 0 = omega arith in subst (λ m. GoOn m ys) e g
-goes-on-behind n (Stable k t ∷ xs) ys g =
-    let e : n + 1 + length (stable_tuples xs) ≡ n + length (t ∷ stable_tuples xs) = omega arith in subst (λ m. GoOn m ys) e (goes-on-behind (n + 1) xs ys g.1)
-goes-on-behind n (Boundary b m ∷ xs) ys g = goes-on-behind n xs ys g.1
-goes-on-behind n (Tentative t ∷ xs) ys g = goes-on-behind n xs ys g
-goes-on-behind n (Passed b ∷ xs) ys g = goes-on-behind n xs ys g
-goes-on-behind n (Undo k ∷ xs) ys g = goes-on-behind n xs ys g
-goes-on-behind n (RecDone ∷ xs) ys g = goes-on-behind n xs ys g
-
-pub goes-on-before : (n : ℕ) (xs ys : List Item) → GoOn n (xs ++ ys) → GoOn n xs
-goes-on-before n [] ys g = tt
-goes-on-before n (Stable k t ∷ xs) ys g = (g.0, goes-on-before (n + 1) xs ys g.1)
-goes-on-before n (Boundary b m ∷ xs) ys g = (g.0, goes-on-before n xs ys g.1)
-goes-on-before n (Tentative t ∷ xs) ys g = goes-on-before n xs ys g
-goes-on-before n (Passed b ∷ xs) ys g = goes-on-before n xs ys g
-goes-on-before n (Undo k ∷ xs) ys g = goes-on-before n xs ys g
-goes-on-before n (RecDone ∷ xs) ys g = goes-on-before n xs ys g
-
--- and the two parts together go on
+-- items that go on after an item go on with it
 goes-on-both : (n : ℕ) (i : Item) (ys : List Item) → GoOn n (i ∷ []) → GoOn (n + length (stable_tuples (i ∷ []))) ys → GoOn n (i ∷ ys)
 goes-on-both n (Stable k t) ys g h = (g.0, h)
 goes-on-both n (Boundary b m) ys g h = let e : n + 0 ≡ n = omega arith in (g.0, subst (λ m. GoOn m ys) e h)
@@ -134,15 +115,81 @@ goes-on-both n RecDone ys g h = let e : n + 0 ≡ n = omega arith in subst (λ m
 -- items tell the same in two parts
 pub told-append : (t : TellerState) (xs ys : List Item) → told (xs ++ ys) t ≡ told ys (told xs t)
 told-append t xs ys =
-    let tuples : t.tuples ++ stable_tuples (xs ++ ys) ≡ (t.tuples ++ stable_tuples xs) ++ stable_tuples ys =
-    ap (λ l. t.tuples ++ l) (stable_tuples-append xs ys) ∙ sym (append_assoc t.tuples (stable_tuples xs) (stable_tuples ys)) in
-    rw (tuples, greatest_bound-append t.bound xs ys) refl
+    let n = length t.tuples in
+    let count : n + length (new_tuples n xs) ≡ length (t.tuples ++ new_tuples n xs) = sym (length-append t.tuples (new_tuples n xs)) in
+    let tuples : t.tuples ++ new_tuples n (xs ++ ys) ≡ (t.tuples ++ new_tuples n xs) ++ new_tuples (length (t.tuples ++ new_tuples n xs)) ys =
+    ap (λ l. t.tuples ++ l) (new_tuples-append n xs ys) ∙ sym (append_assoc t.tuples (new_tuples n xs) (new_tuples (n + length (new_tuples n xs)) ys))
+    ∙ ap (λ m. (t.tuples ++ new_tuples n xs) ++ new_tuples m ys) count in
+    let bound : new_bound n t.bound (xs ++ ys) ≡ new_bound (length (t.tuples ++ new_tuples n xs)) (new_bound n t.bound xs) ys =
+    new_bound-append n t.bound xs ys ∙ ap (λ m. new_bound m (new_bound n t.bound xs) ys) count in
+    rw (tuples, bound) refl
 
--- a later part of true items is true
-true-behind : (plan : Plan) (s : StreamRef) (items : List Item) (mark : ℕ) → AreTrueItems plan s items → AreTrueItems plan s (drop mark items)
-true-behind plan s items zero h = h
-true-behind plan s [] (suc mark) h = tt
-true-behind plan s (i ∷ items) (suc mark) h = true-behind plan s items mark h.1
+-- ---- what is told
+
+-- items that go on are all new
+all-new : (n : ℕ) (items : List Item) → GoOn n items → new_tuples n items ≡ stable_tuples items
+all-new n [] g = refl
+all-new n (Stable k t ∷ items) g = rw (g.0, eq-test n n refl) (ap (λ l. t ∷ l) (all-new (n + 1) items g.1))
+all-new n (Boundary b m ∷ items) g = all-new n items g.1
+all-new n (Tentative t ∷ items) g = all-new n items g
+all-new n (Passed b ∷ items) g = all-new n items g
+all-new n (Undo k ∷ items) g = all-new n items g
+all-new n (RecDone ∷ items) g = all-new n items g
+
+all-counted : (n b : ℕ) (items : List Item) → GoOn n items → new_bound n b items ≡ greatest_bound b items
+all-counted n b [] g = refl
+all-counted n b (Stable k t ∷ items) g = rw (g.0, eq-test n n refl) (all-counted (n + 1) b items g.1)
+all-counted n b (Boundary c m ∷ items) g = rw (le-test m n g.0) (all-counted n (max b c) items g.1)
+all-counted n b (Tentative t ∷ items) g = all-counted n b items g
+all-counted n b (Passed c ∷ items) g = all-counted n b items g
+all-counted n b (Undo k ∷ items) g = all-counted n b items g
+all-counted n b (RecDone ∷ items) g = all-counted n b items g
+
+pub all-told : (t : TellerState) (items : List Item) → GoOn (length t.tuples) items → told items t ≡ record t { tuples = t.tuples ++ stable_tuples items; bound = greatest_bound t.bound items }
+all-told t items g = rw (all-new (length t.tuples) items g, all-counted (length t.tuples) t.bound items g) refl
+
+pub told-tuples : (t : TellerState) (items : List Item) → IsPrefixOf t.tuples (told items t).tuples
+told-tuples t items = (new_tuples (length t.tuples) items, refl)
+
+pub told-bound : (t : TellerState) (items : List Item) → t.bound ≤ (told items t).bound
+told-bound t items = let e = new_bound-from (length t.tuples) t.bound items in rw (← e) (omega arith)
+
+-- where items go on at no more than was told, all of them is told behind them
+enough : (j n : ℕ) (items : List Item) → GoOn j items → j ≤ n → j + length (stable_tuples items) ≤ n + length (new_tuples n items)
+enough j n [] g h = omega (arith, h)
+enough j n (Stable k t ∷ items) g h =
+    (elim (k == n) as (λ z. (k == n) ≡ z → j + length (t ∷ stable_tuples items) ≤ n + length (cond z (t ∷ new_tuples (n + 1) items) (new_tuples n items))) [
+      | true ↦ λ e.
+          let more : j + 1 ≤ n + 1 = omega (arith, h) in
+          let rest = enough (j + 1) (n + 1) items g.1 more in omega (arith, rest)
+      | false ↦ λ e.
+          let apart : k ≢ n = λ q. true-not-false (sym (eq-test k n q) ∙ e) in
+          let more : j + 1 ≤ n = omega (arith, h, g.0, apart) in
+          let rest = enough (j + 1) n items g.1 more in omega (arith, rest)
+    ]) refl
+enough j n (Boundary b m ∷ items) g h = enough j n items g.1 h
+enough j n (Tentative t ∷ items) g h = enough j n items g h
+enough j n (Passed b ∷ items) g h = enough j n items g h
+enough j n (Undo k ∷ items) g h = enough j n items g h
+enough j n (RecDone ∷ items) g h = enough j n items g h
+
+far-enough : (j n b c : ℕ) (items : List Item) → GoOn j items → j ≤ n → b ≤ c → greatest_bound b items ≤ new_bound n c items
+far-enough j n b c [] g h k = k
+far-enough j n b c (Stable i t ∷ items) g h k =
+    (elim (i == n) as (λ z. (i == n) ≡ z → greatest_bound b items ≤ cond z (new_bound (n + 1) c items) (new_bound n c items)) [
+      | true ↦ λ e. let more : j + 1 ≤ n + 1 = omega (arith, h) in far-enough (j + 1) (n + 1) b c items g.1 more k
+      | false ↦ λ e.
+          let apart : i ≢ n = λ q. true-not-false (sym (eq-test i n q) ∙ e) in
+          let more : j + 1 ≤ n = omega (arith, h, g.0, apart) in far-enough (j + 1) n b c items g.1 more k
+    ]) refl
+far-enough j n b c (Boundary d m ∷ items) g h k =
+    let few : m ≤ n = le_trans g.0 h in
+    let more : max b d ≤ max c d = omega (arith, k) in
+    rw (le-test m n few) (far-enough j n (max b d) (max c d) items g.1 h more)
+far-enough j n b c (Tentative t ∷ items) g h k = far-enough j n b c items g h k
+far-enough j n b c (Passed d ∷ items) g h k = far-enough j n b c items g h k
+far-enough j n b c (Undo i ∷ items) g h k = far-enough j n b c items g h k
+far-enough j n b c (RecDone ∷ items) g h k = far-enough j n b c items g h k
 
 -- ---- what a reader took
 
@@ -179,23 +226,19 @@ fold-taken r (i ∷ items) f e =
 client-taken : (plan : Plan) (s : StreamRef) (x : ClientState) → IsSafeClient plan s x → AreTaken empty_reader x.taken (reader_of x)
 client-taken plan s x h = fold-taken empty_reader x.taken (record { after = reader_of x; taken = x.taken }) h.folded
 
-pub client-true : (plan : Plan) (c : ℕ) (x : ClientState) (mark : ℕ) (t : TellerState) → AreTrueItems plan (client_stream plan c) x.taken → t ≡ told (take mark x.taken) (new_teller c)
-    → AreTrueItems plan (client_stream plan t.client) (drop mark x.taken)
-client-true plan c x mark t h e =
-    let same : c ≡ t.client = sym (ap (λ (u : TellerState). u.client) e) in
-    subst (λ n. AreTrueItems plan (client_stream plan n) (drop mark x.taken)) same (true-behind plan (client_stream plan c) x.taken mark h)
-
-pub client-goes-on : (plan : Plan) (s : StreamRef) (c : ℕ) (x : ClientState) (mark : ℕ) (t : TellerState) → IsSafeClient plan s x → t ≡ told (take mark x.taken) (new_teller c)
-    → GoOn (length t.tuples) (drop mark x.taken)
-client-goes-on plan s c x mark t h e =
-    let all : GoOn 0 (take mark x.taken ++ drop mark x.taken) = subst (λ l. GoOn 0 l) (sym (take-append-drop mark x.taken)) (client-taken plan s x h).goes_on in
-    let count : 0 + length (stable_tuples (take mark x.taken)) ≡ length t.tuples = omega (arith, ap (λ (u : TellerState). length u.tuples) e) in
-    subst (λ n. GoOn n (drop mark x.taken)) count (goes-on-behind 0 (take mark x.taken) (drop mark x.taken) all)
-
-pub client-told : (c : ℕ) (x : ClientState) (mark : ℕ) (t : TellerState) → t ≡ told (take mark x.taken) (new_teller c) → told (drop mark x.taken) t ≡ told x.taken (new_teller c)
-client-told c x mark t e =
-    ap (told (drop mark x.taken)) e ∙ sym (told-append (new_teller c) (take mark x.taken) (drop mark x.taken)) ∙ ap (λ l. told l (new_teller c)) (take-append-drop mark x.taken)
-
 pub client-held : (plan : Plan) (s : StreamRef) (c : ℕ) (x : ClientState) → IsSafeClient plan s x
     → told x.taken (new_teller c) ≡ record { client = c; tuples = (reader_of x).stable; bound = (reader_of x).bound; spent = false }
-client-held plan s c x h = let k = client-taken plan s x h in rw (k.stable, k.bound) refl
+client-held plan s c x h = let k = client-taken plan s x h in all-told (new_teller c) x.taken k.goes_on ∙ rw (k.stable, k.bound) refl
+
+pub client-counted : (plan : Plan) (s : StreamRef) (x : ClientState) (t : TellerState) → IsSafeClient plan s x → length (reader_of x).stable ≤ length (told x.taken t).tuples
+client-counted plan s x t h =
+    let k = client-taken plan s x h in
+    let n = length t.tuples in
+    let all : length (reader_of x).stable ≡ length (stable_tuples x.taken) = ap length k.stable in
+    let count : length (told x.taken t).tuples ≡ n + length (new_tuples n x.taken) = length-append t.tuples (new_tuples n x.taken) in
+    omega (arith, all, count, enough 0 n x.taken k.goes_on zero-le)
+
+pub client-bounded : (plan : Plan) (s : StreamRef) (x : ClientState) (t : TellerState) → IsSafeClient plan s x → (reader_of x).bound ≤ (told x.taken t).bound
+client-bounded plan s x t h =
+    let k = client-taken plan s x h in
+    subst (λ b. b ≤ (told x.taken t).bound) (sym k.bound) (far-enough 0 (length t.tuples) 0 t.bound x.taken k.goes_on zero-le zero-le)

@@ -14,6 +14,13 @@ pub struct Receipt<N: ViewName> {
 }
 
 impl<N: ViewName> Receipt<N> {
+    /// Whose stream was told. It takes no memory.
+    pub fn client(&self) -> u64
+        ensures { result ≡ self.now.client }
+    {
+        self.client
+    }
+
     /// How many stable tuples were told. It takes no memory.
     pub fn count(&self) -> u64
         ensures { result ≡ self.now.count }

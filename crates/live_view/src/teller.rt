@@ -1,11 +1,11 @@
 //! Tells a client's stream to its lookers.
-ghost use Rattle.std.specs.Prelude.{◌≡◌, [], true, length, drop, fold, Err, IfOk, IsOk, OnErr};
+ghost use Rattle.std.specs.Prelude.{◌≡◌, [], ◌∷◌, ◌+◌, ◌++◌, true, length, drop, fold, Err, IfOk, IsOk, OnErr};
 ghost use Rattle.left_right.specs.Sides.{view};
 ghost use Rattle.dpc_model.specs.declared.faults.StepFault.TheVariants as fault;
 ghost use Rattle.node_model.specs.Clients.{client_stream};
 ghost use Rattle.world_model.specs.Safe.{AreTrueItems};
 ghost use Rattle.live_view.specs.Showing.{IsTrueShown, with_news, sight_of};
-ghost use Rattle.live_view.specs.Telling.{stable_tuples, greatest_bound, GoOn};
+ghost use Rattle.live_view.specs.Telling.{new_tuples, new_bound, in_batches};
 ghost use Rattle.live_view.specs.Tellers.{told};
 
 use crate::names::ViewName;
@@ -15,8 +15,9 @@ use crate::shown::News;
 use core::mem::replace_with;
 use dpc_lists::exact::Exact;
 use dpc_lists::lists::Listed;
+use dpc_lists::shared::Shared;
 use dpc_model::faults::StepFault;
-use dpc_model::tuples::{Item, Items};
+use dpc_model::tuples::{Item, Tuple};
 use std::alloc::{AllocError, Global};
 use std::marker::{Model, PhantomData};
 use std::sync::Wait;
@@ -42,23 +43,63 @@ impl<N: ViewName> Model for Teller<N> {
     ghost invariant = { λ t. t.spent ≡ false → drop t.writer.behind t.writer.log.items ≡ [] };
 }
 
-/// What the items tell: the stable tuples, and the greatest boundary.
-fn news_in(alloc: Global, items: &[Item]) -> Result<News, AllocError>
-    ensures tuples { IfOk result (λ n. n.tuples ≡ stable_tuples items.now) }
-    ensures bound { IfOk result (λ n. n.bound ≡ greatest_bound 0 items.now) }
-{
-    let mut tuples = Vec::new(alloc);
-    let mut bound: u64 = 0;
-    for item in items {
+/// What is new in items, where so many stable tuples were told before them.
+#[derive(Drop)]
+struct Gathering {
+    count: u128,
+    bound: u64,
+    tuples: Vec<Tuple>,
+}
+
+impl Gathering {
+    /// What one more item tells.
+    fn add(&mut self, alloc: Global, item: &Item) -> Result<(), AllocError>
+        ensures tuples { IfOk result (λ _. self.new.tuples.items ≡ self.old.tuples.items ++ new_tuples self.old.count (item.now ∷ [])) }
+        ensures count { IfOk result (λ _. self.new.count ≡ self.old.count + length (new_tuples self.old.count (item.now ∷ []))) }
+        ensures bound { IfOk result (λ _. self.new.bound ≡ new_bound self.old.count self.old.bound (item.now ∷ [])) }
+    {
         match item {
-            Item::Stable(_, tuple) => tuples.push(tuple.copy(alloc)?)?,
-            Item::Boundary(upto, _) => bound = bound.max(*upto),
+            Item::Stable(number, tuple) if u128::from(*number) == self.count => {
+                self.tuples.push(tuple.copy(alloc)?)?;
+                self.count += 1;
+            }
+            Item::Boundary(upto, count) if u128::from(*count) <= self.count => {
+                self.bound = self.bound.max(*upto);
+            }
             _ => (),
         }
+        Ok(())
+    }
+
+    /// What the items of one more batch tell.
+    fn add_all(&mut self, alloc: Global, items: &[Item]) -> Result<(), AllocError>
+        ensures tuples { IfOk result (λ _. self.new.tuples.items ≡ self.old.tuples.items ++ new_tuples self.old.count items.now) }
+        ensures count { IfOk result (λ _. self.new.count ≡ self.old.count + length (new_tuples self.old.count items.now)) }
+        ensures bound { IfOk result (λ _. self.new.bound ≡ new_bound self.old.count self.old.bound items.now) }
+    {
+        for item in items {
+            self.add(alloc, item)?;
+        }
+        Ok(())
+    }
+}
+
+/// What is new in batches, where so many stable tuples were told before them.
+fn news_in(alloc: Global, count: u128, batches: &[Shared<Item>]) -> Result<News, AllocError>
+    ensures tuples { IfOk result (λ n. n.tuples ≡ new_tuples count (in_batches batches.now)) }
+    ensures bound { IfOk result (λ n. n.bound ≡ new_bound count 0 (in_batches batches.now)) }
+{
+    let mut gathering = Gathering {
+        count,
+        bound: 0,
+        tuples: Vec::new(alloc),
+    };
+    for batch in batches {
+        gathering.add_all(alloc, batch.as_slice())?;
     }
     Ok(News {
-        bound,
-        tuples: Listed::from_vec(tuples),
+        bound: gathering.bound,
+        tuples: Listed::from_vec(gathering.tuples),
     })
 }
 
@@ -92,19 +133,19 @@ impl<N: ViewName> Teller<N> {
         }
     }
 
-    /// Appends the stable tuples of items that are new, raises the bound to their boundaries, and shows both at once;
-    /// other items change nothing. It waits for looks that still read what the telling before replaced. Where memory is
-    /// wanted nothing is shown, and the teller is spent: it tells nothing any more.
+    /// Appends the stable tuples that go on where those told before ended, raises the bound to the boundaries that count
+    /// no more, and shows both at once; other items change nothing, so what was told already may be told again. It
+    /// waits for looks that still read what the telling before replaced. Where memory is wanted nothing is shown, and
+    /// the teller is spent: it tells nothing any more.
     pub fn tell<R: Wait>(
         &mut self,
         rt: &R,
         alloc: Global,
-        items: &Items,
+        batches: &[Shared<Item>],
     ) -> Result<Receipt<N>, StepFault>
-        requires true_items { AreTrueItems N.plan (client_stream N.plan self.old.client) items.now }
-        requires go_on { GoOn (length self.old.tuples) items.now }
+        requires { AreTrueItems N.plan (client_stream N.plan self.old.client) (in_batches batches.now) }
 
-        ensures told { IfOk result (λ _. self.new ≡ told items.now self.old) }
+        ensures told { IfOk result (λ _. self.new ≡ told (in_batches batches.now) self.old) }
         ensures receipt { IfOk result (λ r. (r.client ≡ self.new.client) × (r.count ≡ length self.new.tuples) × (r.bound ≡ self.new.bound)) }
 
         ensures spent { self.old.spent ≡ true → (result ≡ Err fault.Spent) × (self.new ≡ self.old) }
@@ -115,7 +156,8 @@ impl<N: ViewName> Teller<N> {
             return Err(StepFault::Spent);
         }
         self.spent = true;
-        let news = news_in(alloc, items.as_slice())?;
+        let told = self.writer.published().tuples.len() as u128;
+        let news = news_in(alloc, told, batches)?;
         let Ok(()) = self.writer.append(news) else {
             return Err(StepFault::NoMemory);
         };

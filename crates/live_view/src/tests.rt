@@ -9,9 +9,11 @@ use crate::names::ViewName;
 use crate::receipt::Receipt;
 use crate::teller::Teller;
 use dpc_lists::exact::Exact;
+use dpc_lists::faults::NoMemory;
 use dpc_lists::lists::Listed;
+use dpc_lists::shared::Shared;
 use dpc_model::plans::{ClientSpec, Plan, SourceSpec, StreamRef};
-use dpc_model::tuples::{Item, Items, Tuple, Vals};
+use dpc_model::tuples::{Item, Tuple, Vals};
 use std::alloc::{AllocError, Global};
 use std::marker::Brand;
 use std::sync::Wait;
@@ -50,20 +52,19 @@ fn plan(alloc: Global) -> Result<Plan, AllocError>
     })
 }
 
-fn first(alloc: Global) -> Result<Items, AllocError>
+fn first(alloc: Global) -> Result<Shared<Item>, NoMemory>
     ensures { IfOk result (λ items. items ≡ first_items) }
 {
     let stable = Item::Stable(0, tuple(alloc, 1, 10)?);
-    Ok(Listed::from_vec(vec![in alloc; stable, Item::Boundary(10, 1)]?))
+    Shared::from_vec(vec![in alloc; stable, Item::Boundary(10, 1)]?)
 }
 
-fn later(alloc: Global) -> Result<Items, AllocError>
+fn later(alloc: Global) -> Result<Shared<Item>, NoMemory>
     ensures { IfOk result (λ items. items ≡ later_items) }
 {
     let tentative = Item::Tentative(tuple(alloc, 11, 1)?);
     let stable = Item::Stable(1, tuple(alloc, 11, 11)?);
-    let items = vec![in alloc; tentative, Item::Undo(1), stable, Item::Boundary(20, 2)]?;
-    Ok(Listed::from_vec(items))
+    Shared::from_vec(vec![in alloc; tentative, Item::Undo(1), stable, Item::Boundary(20, 2)]?)
 }
 
 /// Whether one tuple was seen.
@@ -88,11 +89,11 @@ fn told_and_seen<N: ViewName, R: Wait>(
     requires teller { teller.old ≡ new_teller 0 }
     requires looker { looker.old.client ≡ 0 }
 {
-    let told = teller.tell(rt, alloc, &first(alloc)?)?;
+    let told = teller.tell(rt, alloc, &[first(alloc)?])?;
     let before = is_of(&told, 1, 10);
     let seen = looker.look(rt, alloc, 0)?;
     let before = before && is_one(&seen, 1, 10, &tuple(alloc, 1, 10)?);
-    let told = teller.tell(rt, alloc, &later(alloc)?)?;
+    let told = teller.tell(rt, alloc, &[later(alloc)?])?;
     looker.learn(&told);
     let seen = looker.look(rt, alloc, 1)?;
     Ok(before && is_of(&told, 2, 20) && is_one(&seen, 2, 20, &tuple(alloc, 11, 11)?))
@@ -114,7 +115,7 @@ fn tells<N: ViewName, R: Wait>(rt: &R, alloc: Global, teller: &mut Teller<N>) ->
     requires teller { teller.old ≡ new_teller 0 }
 {
     match first(alloc) {
-        Ok(items) => teller.tell(rt, alloc, &items).is_ok(),
+        Ok(items) => teller.tell(rt, alloc, &[items]).is_ok(),
         Err(_) => false,
     }
 }

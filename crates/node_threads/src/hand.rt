@@ -5,6 +5,7 @@ use dpc_lists::faults::NoMemory;
 use event_shares::names::RunName;
 use event_shares::share::Share;
 use std::alloc::Global;
+use std::sync::{Mutex, Wait};
 
 /// A worker, with a share of one part. It goes into a thread and comes back out of it.
 #[derive(Drop)]
@@ -47,4 +48,20 @@ pub fn gather<N: RunName>(rest: &mut Share<N>, hands: Vec<Hand<N>>)
         let Hand { worker: _, share } = hand;
         rest.join(share);
     }
+}
+
+/// A share of one part out of what is shared, where there is one to take.
+pub fn take_share<N: RunName, R: Wait>(rt: &R, shares: &Mutex<Share<N>>) -> Option<Share<N>> {
+    let mut rest = shares.lock(rt);
+    if rest.parts() < 2 {
+        return None;
+    }
+    Some(rest.split())
+}
+
+/// Gives a share back.
+pub fn give_share<N: RunName, R: Wait>(rt: &R, shares: &Mutex<Share<N>>, share: Share<N>)
+    requires { N.parts < 2 ^ 64 }
+{
+    shares.lock(rt).join(share);
 }

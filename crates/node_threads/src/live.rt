@@ -22,7 +22,7 @@ use std::thread::Threads;
 use world_core::world::World;
 
 /// How many parts the ledger of a run has.
-pub(crate) const PARTS: u64 = 64;
+pub const PARTS: u64 = 64;
 
 /// Does what is left of a run, and gives its world. The share of all parts has then counted each event.
 pub fn finish<N: RunName, R: Wait, G: Gate>(

@@ -11,7 +11,7 @@ use std::sync::Wait;
 use std::sync::ledger::Ledger;
 
 /// How a worker has ready buckets milled.
-pub(crate) trait Milling<N: RunName> {
+pub trait Milling<N: RunName> {
     /// What milling leaves as it is.
     type Kept;
 
@@ -32,7 +32,7 @@ pub(crate) trait Milling<N: RunName> {
 
 /// A worker that mills what is ready itself.
 #[derive(Drop)]
-pub(crate) struct ByHand;
+pub struct ByHand;
 
 impl<N: RunName> Milling<N> for ByHand {
     type Kept = ();

@@ -7,9 +7,11 @@ ghost use Rattle.node_threads.specs.Lives.{IsLiveRun, IsPast};
 
 use crate::faults::LiveFault;
 use crate::hall::Hall;
+use crate::hand::{give_share, take_share};
 use crate::live::{PARTS, finish};
 use crate::pooling::{PoolSeat, RunPool, RunSeat, drain};
 use crate::post::Post;
+use crate::seats::{AtSeat, at_seats};
 use crate::signals::Signals;
 use crate::worker::{Worker, act};
 use core::mem::replace_with;
@@ -21,48 +23,11 @@ use std::alloc::Global;
 use std::marker::Brand;
 use std::sync::ledger::Blank;
 use std::sync::{Mutex, Wait};
-use std::thread;
 use std::thread::Threads;
 use world_core::world::World;
 
 /// How many orders a pool of a run has room for.
 const ROOM: u64 = 64;
-
-/// What is done at each seat of a pool.
-trait AtSeat<H, P, T> {
-    ghost fits: { P → T → Type 0 };
-
-    ghost stays: { P → T → T → Type 0 };
-
-    /// Does the work of the seat at this place.
-    fn sit(&self, shared: &Mutex<H>, pool: &P, place: usize, seat: &mut T)
-        requires { fits pool.now seat.old }
-        ensures { stays pool.now seat.old seat.new };
-}
-
-/// Does the work of each seat in a thread of its own, where one can be started. All share what stands behind the lock.
-fn at_seats<H: Send, P: Sync, T: Send, R: Threads + Sync, W: AtSeat<H, P, T> + Sync>(
-    rt: &R,
-    shared: &Mutex<H>,
-    pool: &P,
-    seats: &mut [T],
-    crew: &W,
-)
-    requires { (i : ℕ) (d : T) → i < length seats.old → W.fits pool.now (slice_index_or seats.old i d) }
-    ensures long { length seats.new ≡ length seats.old }
-    ensures each { (i : ℕ) (d : T) → i < length seats.old → W.stays pool.now (slice_index_or seats.old i d) (slice_index_or seats.new i d) }
-{
-    let threads = seats.len().max(1);
-    thread::for_each_mut(
-        rt,
-        seats,
-        threads,
-        &|place: usize, seat: &mut T|
-            requires { W.fits pool.now seat.now }
-            ensures { W.stays pool.entry.now seat.entry.now seat.exit.now }
-        { crew.sit(shared, pool, place, seat) },
-    );
-}
 
 /// Those who work for a run with a pool: the first `workers` make its events, and the others mill.
 #[derive(Drop)]
@@ -77,22 +42,6 @@ struct Crew<'a, N: RunName, R, G> {
 }
 
 impl<'a, N: RunName, R: Wait, G: Gate> Crew<'a, N, R, G> {
-    /// A share of one part, where there is one to take.
-    fn take_share(&self) -> Option<Share<N>> {
-        let mut rest = self.shares.lock(self.rt);
-        if rest.parts() < 2 {
-            return None;
-        }
-        Some(rest.split())
-    }
-
-    /// Gives a share back.
-    fn give_share(&self, share: Share<N>)
-        requires { N.parts < 2 ^ 64 }
-    {
-        self.shares.lock(self.rt).join(share);
-    }
-
     /// What the one at this place needs.
     fn post<'b>(&'b self, hall: &'b Mutex<Hall<N>>, place: u64) -> Post<'b, N, G> {
         Post {
@@ -111,7 +60,7 @@ impl<'a, N: RunName, R: Wait, G: Gate> Crew<'a, N, R, G> {
         ensures { IsSameSeat seat.entry.pool.now seat.entry.seat result }
     {
         let mut seat = seat;
-        let Some(mut share) = self.take_share() else {
+        let Some(mut share) = take_share(self.rt, self.shares) else {
             return seat.seat;
         };
         let post = self.post(hall, place);
@@ -122,7 +71,7 @@ impl<'a, N: RunName, R: Wait, G: Gate> Crew<'a, N, R, G> {
         } else {
             act(self.rt, &post, &mut seat, &mut share);
         }
-        self.give_share(share);
+        give_share(self.rt, self.shares, share);
         seat.seat
     }
 
@@ -132,10 +81,10 @@ impl<'a, N: RunName, R: Wait, G: Gate> Crew<'a, N, R, G> {
         ensures { IsSameSeat seat.entry.pool.now seat.entry.seat result }
     {
         let mut seat = seat;
-        if let Some(mut share) = self.take_share() {
+        if let Some(mut share) = take_share(self.rt, self.shares) {
             let post = self.post(hall, 0);
             drain(self.rt, &post, &mut seat, &mut share);
-            self.give_share(share);
+            give_share(self.rt, self.shares, share);
         }
         seat.seat
     }

@@ -194,6 +194,8 @@ impl<'a, N: RunName> Role<N> for PoolSeat<'a, N> {
 
     ghost kept = { λ s. (s.pool, ((known s.seat).number, (known s.seat).parts)) };
 
+    ghost may_act = { λ _. Unit {0} };
+
     fn act<R: Wait, G: Gate, S: Ledger>(
         &mut self,
         rt: &R,

@@ -31,7 +31,7 @@ pub struct Post<'a, N: RunName, G> {
 }
 
 /// Memory was wanting for work: nobody goes on.
-pub(crate) fn give_up<N: RunName, R: Wait, G>(rt: &R, post: &Post<'_, N, G>) -> Turn {
+pub fn give_up<N: RunName, R: Wait, G>(rt: &R, post: &Post<'_, N, G>) -> Turn {
     post.hall.lock(rt).give_up();
     Turn::Over
 }

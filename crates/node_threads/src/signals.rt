@@ -75,12 +75,12 @@ impl Signals {
     }
 
     /// All may leave.
-    pub(crate) fn end(&self) {
+    pub fn end(&self) {
         self.over.store(true, Ordering::SeqCst);
     }
 
     /// Whether all may leave.
-    pub(crate) fn has_ended(&self) -> bool {
+    pub fn has_ended(&self) -> bool {
         self.over.load(Ordering::SeqCst)
     }
 

@@ -3,14 +3,14 @@ use std::thread;
 
 /// How often in a row somebody finds nothing to do before it leaves what is left to its caller. Where no
 /// thread can be started they run one after another, and each must leave.
-pub(crate) const MOST_IDLE: u64 = 1_000_000;
+pub const MOST_IDLE: u64 = 1_000_000;
 
 /// The most times that one yields between two looks.
 const MOST_YIELDS: u64 = 16;
 
 /// What came of a try.
 #[derive(Clone, Copy, PartialEq, Eq)]
-pub(crate) enum Turn {
+pub enum Turn {
     Done,
     Idle,
     /// Nobody did for long what this one waits for: it leaves that to its caller.
@@ -20,7 +20,7 @@ pub(crate) enum Turn {
 }
 
 /// Lets others run, the longer the less there is to do.
-pub(crate) fn pause(idle: u64) {
+pub fn pause(idle: u64) {
     for _ in 0..idle.clamp(1, MOST_YIELDS) {
         thread::yield_now();
     }

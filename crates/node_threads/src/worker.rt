@@ -21,11 +21,14 @@ use std::sync::ledger::{Blank, Ledger};
 const AT_ONCE: usize = 64;
 
 /// What somebody does again and again for a run.
-pub(crate) trait Role<N: RunName> {
+pub trait Role<N: RunName> {
     /// What acting leaves as it is.
     type Kept;
 
     ghost kept: { Self → Self.Kept };
+
+    /// What has to hold of it, and holds all the time.
+    ghost may_act: { Self → Type 0 };
 
     /// Looks for something to do, and does it.
     fn act<R: Wait, G: Gate, S: Ledger>(
@@ -35,13 +38,15 @@ pub(crate) trait Role<N: RunName> {
         share: &mut Share<N>,
         steps: &mut Steps<S>,
     ) -> Turn
+        requires { may_act self.old }
         ensures share { share.new.parts ≡ share.old.parts }
-        ensures kept { kept self.new ≡ kept self.old };
+        ensures kept { kept self.new ≡ kept self.old }
+        ensures goes_on { may_act self.new };
 }
 
 /// Who makes the events of some actors: where it stands, what it has to do in a phase, and how it has buckets milled.
 #[derive(Drop)]
-pub(crate) struct Worker<W> {
+pub struct Worker<W> {
     station: Station,
     work: Work,
     pub milling: W,
@@ -185,6 +190,8 @@ impl<N: RunName, W: Milling<N>> Role<N> for Worker<W> {
 
     ghost kept = { λ w. W.kept w.milling };
 
+    ghost may_act = { λ _. Unit {0} };
+
     fn act<R: Wait, G: Gate, S: Ledger>(
         &mut self,
         rt: &R,
@@ -223,6 +230,7 @@ fn act_counted<N: RunName, A: Role<N>, R: Wait, G: Gate, S: Ledger>(
     requires name { blank.name ≡ S.name }
     requires parts { blank.parts ≡ S.parts }
     requires some { 0 < S.parts }
+    requires may { A.may_act role.old }
     ensures share { share.new.parts ≡ share.old.parts }
     ensures kept { A.kept role.new ≡ A.kept role.old }
 {
@@ -252,12 +260,13 @@ fn act_counted<N: RunName, A: Role<N>, R: Wait, G: Gate, S: Ledger>(
 }
 
 /// Does what a role asks until the run is over, or for long there is nothing to do.
-pub(crate) fn act<N: RunName, A: Role<N>, R: Wait, G: Gate>(
+pub fn act<N: RunName, A: Role<N>, R: Wait, G: Gate>(
     rt: &R,
     post: &Post<'_, N, G>,
     role: &mut A,
     share: &mut Share<N>,
 )
+    requires { A.may_act role.old }
     ensures share { share.new.parts ≡ share.old.parts }
     ensures kept { A.kept role.new ≡ A.kept role.old }
 {

@@ -1,10 +1,12 @@
 //! Two nodes whose orders wait for one another: only who mills both at the same time goes on.
-ghost use Rattle.std.specs.Prelude.{◌≡◌, ℕ, ◌≤◌, Some};
+ghost use Rattle.std.specs.Prelude.{◌≤◌};
+ghost use Rattle.live_commands.specs.Endings.{IsFew};
 
 use dpc_edge::gate::Gate;
 use dpc_lists::faults::NoMemory;
 use input_parts::notation::Notation;
 use live_commands::answer;
+use live_commands::beside::Beside;
 use live_commands::outcome::Outcome;
 use std::alloc::Global;
 use std::sync::Wait;
@@ -21,10 +23,10 @@ const REPORT: &str =
     "journal end\nclient c\nstable 0 1 10\nboundary 10 1\nsummary c stable 1 bound 10 tentative 0 settled\nclient d\nstable 0 1 10\nboundary 10 1\nsummary d stable 1 bound 10 tentative 0 settled\n";
 
 /// More bytes than the script has.
-const MOST_BYTES: usize = 4096;
+pub(crate) const MOST_BYTES: usize = 4096;
 
 /// How often a miller looks for the other one, and yields.
-const MOST_TURNS: u64 = 1_000_000;
+pub(crate) const MOST_TURNS: u64 = 1_000_000;
 
 /// How some meetings went.
 #[derive(Clone, Copy, PartialEq, Eq)]
@@ -34,6 +36,17 @@ pub enum Meetings {
     Missed,
     /// A run ended otherwise.
     Broken,
+}
+
+/// Waits until another one came: false where it did not come meanwhile.
+pub(crate) fn comes(other: &AtomicBool) -> bool {
+    for _ in 0..MOST_TURNS {
+        if other.load(Ordering::SeqCst) {
+            return true;
+        }
+        thread::yield_now();
+    }
+    false
 }
 
 /// Where the millers of the two nodes wait for one another.
@@ -56,13 +69,9 @@ impl Meeting {
     /// Comes, and waits until the other one came.
     fn wait(&self, own: &AtomicBool, other: &AtomicBool) {
         own.store(true, Ordering::SeqCst);
-        for _ in 0..MOST_TURNS {
-            if other.load(Ordering::SeqCst) {
-                return;
-            }
-            thread::yield_now();
+        if !comes(other) {
+            self.missed.store(true, Ordering::SeqCst);
         }
-        self.missed.store(true, Ordering::SeqCst);
     }
 }
 
@@ -85,17 +94,17 @@ fn meet<R: Threads + Wait + Sync>(
     rt: &R,
     alloc: Global,
     workers: u64,
-    millers: Option<u64>,
+    beside: Beside,
 ) -> Result<Meetings, NoMemory>
     requires workers { (1 ≤ workers) × (workers ≤ 16) }
-    requires millers { (m : ℕ) → millers ≡ Some m → (1 ≤ m) × (m ≤ 16) }
+    requires beside { IsFew beside }
 {
     let gate = Meeting::new();
     let script = SCRIPT.as_bytes().to_vec(alloc)?;
     if script.len() > MOST_BYTES {
         return Ok(Meetings::Broken);
     }
-    let Outcome::Text(text) = answer(rt, alloc, Notation::Lines, script, workers, millers, &gate)?
+    let Outcome::Text(text) = answer(rt, alloc, Notation::Lines, script, workers, beside, &gate)?
     else {
         return Ok(Meetings::Broken);
     };
@@ -113,14 +122,14 @@ pub fn meet_often<R: Threads + Wait + Sync>(
     rt: &R,
     alloc: Global,
     workers: u64,
-    millers: Option<u64>,
+    beside: Beside,
     rounds: u64,
 ) -> Meetings
     requires workers { (1 ≤ workers) × (workers ≤ 16) }
-    requires millers { (m : ℕ) → millers ≡ Some m → (1 ≤ m) × (m ≤ 16) }
+    requires beside { IsFew beside }
 {
     for _ in 0..rounds {
-        match meet(rt, alloc, workers, millers) {
+        match meet(rt, alloc, workers, beside) {
             Ok(Meetings::All) => {}
             Ok(other) => return other,
             Err(_) => return Meetings::Broken,

@@ -17,6 +17,6 @@ pub returns-in-Ok-fault_line-clause-ok : goal.returns-in-Ok-fault_line-clause-ok
 returns-in-Ok-fault_line-clause-ok g c =
     let long = c.in-Err-TooLong.ensures.long (ap Err c.in-Err-TooLong.field-0-is) in (
       Refused (record { line = 0; reason = PastLimit }),
-      long-LiveComesTo (g.S.Source.edge c.args.input.now) (g.S.Source.edge c.read_whole.new.input) long.0 long.1 (omega (arith, long.2)),
+      long-LiveComesTo c.args.command (g.S.Source.edge c.args.input.now) (g.S.Source.edge c.read_whole.new.input) long.0 long.1 (omega (arith, long.2)),
       c.in-Ok-fault_line.ensures,
     )

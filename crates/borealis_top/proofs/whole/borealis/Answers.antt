@@ -11,8 +11,8 @@ run_live-requires-clause-some g c κs within = (live-range (map string_bytes c.a
 pub run_live-requires-clause-few : goal.run_live-requires-clause-few
 run_live-requires-clause-few g c κs within = (live-range (map string_bytes c.args.words.now) c.in-Some.command (sym c.live_in.ensures ∙ c.in-Some.is)).workers.1
 
-pub run_live-requires-clause-millers : goal.run_live-requires-clause-millers
-run_live-requires-clause-millers g c κs within = (live-range (map string_bytes c.args.words.now) c.in-Some.command (sym c.live_in.ensures ∙ c.in-Some.is)).millers
+pub run_live-requires-clause-beside : goal.run_live-requires-clause-beside
+run_live-requires-clause-beside g c κs within = (live-range (map string_bytes c.args.words.now) c.in-Some.command (sym c.live_in.ensures ∙ c.in-Some.is)).beside
 
 pub returns-in-None : goal.returns-in-None
 returns-in-None g c =
