@@ -164,13 +164,31 @@ fn looks_in<N: RunName + ViewName + Send + Sync, R: Threads + Wait + Sync>(
     crew.both.load(Ordering::SeqCst)
 }
 
-/// The same of the run of a script, and of its clients. None: there was no memory.
+/// The same of the run of a script.
+fn looks_at<N: RunName + ViewName + Send + Sync, R: Threads + Wait + Sync>(
+    rt: &R,
+    alloc: Global,
+    script: Script,
+    blank: Blank,
+    seats: &mut [Seat<N>],
+) -> Result<bool, NoMemory>
+    requires can { CanRun script.plan }
+    requires script { N.script ≡ script }
+    requires name { blank.name ≡ N.name }
+    requires parts { blank.parts ≡ N.parts }
+    requires cut { blank.parts ≡ 64 }
+{
+    let (hall, _share) = Hall::<N>::new(alloc, script, blank)?;
+    Ok(looks_in(rt, alloc, hall, seats))
+}
+
+/// The same with seats at its clients.
 fn looks_of<N: RunName + ViewName + Send + Sync, R: Threads + Wait + Sync>(
     rt: &R,
     alloc: Global,
     script: Script,
     blank: Blank,
-) -> Option<bool>
+) -> Result<bool, NoMemory>
     requires can { CanRun script.plan }
     requires script { N.script ≡ script }
     requires plan { N.plan ≡ script.plan }
@@ -178,13 +196,8 @@ fn looks_of<N: RunName + ViewName + Send + Sync, R: Threads + Wait + Sync>(
     requires parts { blank.parts ≡ N.parts }
     requires cut { blank.parts ≡ 64 }
 {
-    let Ok(mut seats) = open::<N, R>(rt, alloc, &script.plan, CLIENT, 1, 1) else {
-        return None;
-    };
-    let looks = match Hall::<N>::new(alloc, script, blank) {
-        Ok((hall, _)) => Some(looks_in(rt, alloc, hall, seats.as_mut_slice())),
-        Err(_) => None,
-    };
+    let mut seats = open::<N, R>(rt, alloc, &script.plan, CLIENT, 1, 1)?;
+    let looks = looks_at(rt, alloc, script, blank, seats.as_mut_slice());
     close(rt, seats);
     looks
 }
@@ -194,5 +207,5 @@ pub fn looks_beside_lock<R: Threads + Wait + Sync>(rt: &R, alloc: Global) -> Opt
     let Ok(script) = read_script(alloc, SCRIPT.as_bytes()) else {
         return None;
     };
-    looks_of::<Brand, R>(rt, alloc, script, Blank::new(64))
+    looks_of::<Brand, R>(rt, alloc, script, Blank::new(64)).ok()
 }
