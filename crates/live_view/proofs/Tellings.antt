@@ -195,8 +195,7 @@ pub gathered-batch : (n b : ℕ) (before : List Tuple) (all : List Tuple) (bound
     → (tuples ++ new_tuples count (in_batches (drop (i + 1) batches)) ≡ all) × (new_bound count after (in_batches (drop (i + 1) batches)) ≡ bound)
 gathered-batch n b before all bound count after tuples i batches items read l e same ts ns bs h =
     let rest = in_batches (drop (i + 1) batches) in
-    let next : in_batches (drop i batches) ≡ read ++ rest = next-batch i batches items l e ∙ ap (λ xs. xs ++ rest) (sym same) in
-    (
+    let next : in_batches (drop i batches) ≡ read ++ rest = next-batch i batches items l e ∙ ap (λ xs. xs ++ rest) (sym same) in (
       gathered-tuples n all before count tuples read rest ns ts (ap (λ xs. before ++ new_tuples n xs) (sym next) ∙ h.0),
       gathered-bound n bound b count after read rest ns bs (ap (λ xs. new_bound n b xs) (sym next) ∙ h.1),
     )
