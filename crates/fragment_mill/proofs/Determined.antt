@@ -8,14 +8,17 @@ use Rattle.dpc_model.specs.declared.operators.OpSpec.{OpSpec}
 use Rattle.dpc_model.specs.declared.operators.OpKind.{OpKind}
 use Rattle.dpc_model.specs.declared.operators.OpKind.TheVariants as kind
 use Rattle.dpc_model.specs.declared.operators.Wire.{Wire}
-use Rattle.ops_stateless.proofs.Standing.{filter_before, filter-is, map_before, map-is, union_before, union-is}
+use Rattle.ops_stateless.specs.FilterOp.{filter_before}
+use Rattle.ops_stateless.specs.MapOps.{map_before}
+use Rattle.ops_stateless.specs.Unions.{union_before}
+use Rattle.ops_stateless.proofs.Standing.{filter-is, map-is, union-is}
 use Rattle.ops_join.proofs.Standing.{join_before, join-is}
 use Rattle.ops_window.proofs.Standing.{aggregate_before, aggregate-is}
 use Rattle.fragment_mill.specs.declared.operator.Operator.{Operator}
 use Rattle.fragment_mill.specs.declared.operator.Operator.TheVariants.{Filter, Map, Union, Join, Aggregate}
 use Rattle.fragment_mill.specs.declared.mill.Stage.{Stage}
 use Rattle.fragment_mill.specs.Mills.{kind_of, port_count, width_of, next_of, spent_of, operators_of, OperatorAfter, MillState, spec_of, specs_of, inputs_of, MillAfter}
-use Rattle.fragment_mill.specs.Milling.{ports_for, IsFit, IsMill}
+use Rattle.fragment_mill.specs.Milling.{ports_for, IsFit, IsMill, IsReady}
 use Rattle.fragment_mill.specs.Sameness.{InputsDetermineMills}
 use Rattle.fragment_mill.proofs.Operators.{kind-stays, ports-stay, next-after}
 use Rattle.fragment_mill.proofs.Running.{specs-length}
@@ -103,8 +106,9 @@ mill_of width stages next spent = record { width = width; stages = stages; next 
 same-parts : (w v : ℕ) (ss ts : List Stage) (k j : ℕ) (b c : Bool) → w ≡ v → ss ≡ ts → k ≡ j → b ≡ c → mill_of w ss k b ≡ mill_of v ts j c
 same-parts w v ss ts k j b c width stages next spent = rw (width, stages, next, spent) refl
 
-pub same-mills : InputsDetermineMills
-same-mills m n xs k mill mill' width specs idle idle' after after' =
+same-ready : (m n : MillState) (xs : List Tagged) (k : ℕ) → IsReady m → IsReady n → m.width ≡ n.width → specs_of m.stages ≡ specs_of n.stages →
+    m.spent ≡ false → n.spent ≡ false → MillAfter m xs k → MillAfter n xs k → m ≡ n
+same-ready m n xs k mill mill' width specs idle idle' after after' =
     let long : length m.stages ≡ length n.stages = sym (specs-length m.stages n.stages (sym specs)) in
     let stages : m.stages ≡ n.stages =
     same_lists m.stages n.stages long (λ i d low.
@@ -117,8 +121,15 @@ same-mills m n xs k mill mill' width specs idle idle' after after' =
     in
     same-parts m.width n.width m.stages n.stages m.next n.next m.spent n.spent width stages (after.next ∙ sym after'.next) (idle ∙ sym idle')
 
+-- a mill that took some inputs is ready for the next bucket
+pub ready-mill : (m : MillState) → IsMill m → IsReady m
+ready-mill m mill = record { fits = mill.fits; idle = mill.idle; waits = stages-next m mill }
+
+pub same-mills : InputsDetermineMills
+same-mills m n xs k mill mill' = same-ready m n xs k (ready-mill m mill) (ready-mill n mill')
+
 -- .. and so they are as engines
-pub mills-determined : (m n : MillState) (xs : List Tagged) (k : ℕ) → IsMill m → IsMill n → Some m.width ≡ Some n.width → specs_of m.stages ≡ specs_of n.stages →
+pub mills-determined : (m n : MillState) (xs : List Tagged) (k : ℕ) → IsReady m → IsReady n → Some m.width ≡ Some n.width → specs_of m.stages ≡ specs_of n.stages →
     (m.spent ≡ false) × (n.spent ≡ false) → MillAfter m xs k × MillAfter n xs k → m ≡ n
 mills-determined m n xs k mill mill' wide specs idle after =
-    let width : m.width ≡ n.width = cc in same-mills m n xs k mill mill' width specs idle.0 idle.1 after.0 after.1
+    let width : m.width ≡ n.width = cc in same-ready m n xs k mill mill' width specs idle.0 idle.1 after.0 after.1

@@ -1,7 +1,10 @@
 pub mod Operators
 pub mod Gathering
+pub mod Places
 pub mod Stepping
 pub mod Running
 pub mod Starts
 pub mod Determined
 pub mod Straight
+pub mod Resumes
+pub mod Shown

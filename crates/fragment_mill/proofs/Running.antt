@@ -2,12 +2,12 @@
 use Rattle.std.proofs.Common.{◌≡◌, ℕ, zero, suc, ◌+◌, ◌*◌, ◌<◌, ◌≤◌, true, false, List, [], ◌∷◌, ◌++◌, map, length, take, get_or, set, Option, None, Some, unwrap_or, refl, sym, ◌∙◌, ap, subst, ⊎_elim, arith, All}
 use Rattle.std.proofs.lemmas.Bool.{cases_lt}
 use Rattle.std.proofs.lemmas.List.{map-append, take_more, take_all, length-map, get_or-set_same, get_or-set_other}
-use Rattle.std.proofs.lemmas.List.Elements.{All-set, recursion_from_All}
+use Rattle.std.proofs.lemmas.List.Elements.{All-set, All-nil, recursion_from_All}
 use Rattle.std.proofs.Math.ListN.{get_or-map}
 use Rattle.std.proofs.Math.Seq.{map-set_same}
 use Rattle.std.specs.List.{AllByRecursion, last_or}
 use Rattle.dpc_lists.specs.Lists.{push}
-use Rattle.dpc_model.specs.Engines.{FitsBucket, Accepts, from_time, engine_value, added_output}
+use Rattle.dpc_model.specs.Engines.{FitsBucket, LiesIn, Accepts, from_time, engine_value, added_output}
 use Rattle.dpc_model.specs.Operators.{output_of}
 use Rattle.dpc_model.specs.Fragments.{read_wire, outputs_after, AreSoundOps}
 use Rattle.dpc_model.specs.declared.tuples.Tuple.{Tuple}
@@ -18,11 +18,13 @@ use Rattle.dpc_model.proofs.IdealCausality.{cut-fragment_value}
 use Rattle.dpc_model.proofs.FragmentValues.{outputs-more}
 use Rattle.dpc_model.proofs.Order.{fragment-InOrder}
 use Rattle.dpc_model.proofs.Kept.{last-mapped}
+use Rattle.dpc_model.proofs.Serial.{serial-is, serial-adjacent}
 use Rattle.fragment_mill.specs.Mills.{kind_of, width_of, next_of, spent_of, OperatorAfter, MillState, spec_of, specs_of, inputs_of, MillAfter, mill_added}
-use Rattle.fragment_mill.specs.Milling.{added_of, IsFit, IsMill}
+use Rattle.fragment_mill.specs.Milling.{added_of, IsOfBucket, AreOfBucket, IsFit, IsReady}
 use Rattle.fragment_mill.specs.declared.mill.Stage.{Stage}
-use Rattle.fragment_mill.proofs.Operators.{Accepts-from, next-after}
-use Rattle.fragment_mill.proofs.Stepping.{inputs-split, added-bucket, added-output}
+use Rattle.fragment_mill.proofs.Operators.{Accepts-from}
+use Rattle.fragment_mill.proofs.Places.{inputs-lie}
+use Rattle.fragment_mill.proofs.Stepping.{inputs-split, added-output}
 
 -- ---- lists of stages
 
@@ -98,6 +100,7 @@ last-pushed d (us ∷ xss) ts = last-pushed (Some us) xss ts
 pub record Stood (m : MillState) (inputs : List Tagged) (k i : ℕ) (news : List Stage) : Type 0 where
   pub renewed : Renewed m.width i m.stages news
   pub idle : (j : ℕ) (d : Stage) → j < i → spent_of (get_or news j d).operator ≡ false
+  pub waits : (j : ℕ) (d : Stage) → j < i → next_of (get_or news j d).operator ≡ k + 1
   pub took : (before : List Tagged) → MillAfter m before k → (j : ℕ) (d : Stage) → j < i →
       OperatorAfter (get_or news j d).operator (inputs_of (before ++ inputs) (outputs_of (specs_of m.stages) j (before ++ inputs) ((k + 1) * m.width)) (get_or m.stages j d).reads) (k + 1)
 
@@ -106,23 +109,22 @@ pub record Running (m : MillState) (inputs : List Tagged) (k i : ℕ) (news : Li
   pub stood : Stood m inputs k i news
   pub gave : (before : List Tagged) → MillAfter m before k →
       outs ≡ map (λ (ts : List Tuple). from_time (k * m.width) ts) (outputs_of (specs_of m.stages) i (before ++ inputs) ((k + 1) * m.width))
+  pub lies : AreOfBucket m.width k outs
 
 pub Running-none : (m : MillState) (inputs : List Tagged) (k : ℕ) → All (IsFit m.width) m.stages → Running m inputs k 0 m.stages []
 Running-none m inputs k fits = record {
   stood = record {
     renewed = Renewed-none m.width m.stages fits;
     idle = λ j d l. absurd (omega (arith, l));
+    waits = λ j d l. absurd (omega (arith, l));
     took = λ before h j d l. absurd (omega (arith, l));
   };
   gave = λ before h. refl;
+  lies = All-nil (λ (ts : List Tuple). All (IsOfBucket m.width k) ts);
 }
 
--- what the mill took
-took-before : (m : MillState) (k : ℕ) → IsMill m → m.spent ≡ false → k ≡ m.next → (before : List Tagged) × MillAfter m before k
-took-before m k h s e = rw e (h.took s)
-
 -- the next stage of a mill takes what it reads of the bucket
-module _ (m : MillState) (inputs : List Tagged) (k i : ℕ) (s : Stage) (news : List Stage) (outs : List (List Tuple)) (mill : IsMill m) (idle : m.spent ≡ false) (next : k ≡ m.next)
+module _ (m : MillState) (inputs : List Tagged) (k i : ℕ) (s : Stage) (news : List Stage) (outs : List (List Tuple)) (mill : IsReady m) (idle : m.spent ≡ false) (next : k ≡ m.next)
     (bucket : FitsBucket m.width k inputs) (r : Running m inputs k i news outs) (l : i < length m.stages) (at : s ≡ get_or news i s) where
   abbrev ops : List OpSpec
   ops = specs_of m.stages
@@ -142,14 +144,17 @@ module _ (m : MillState) (inputs : List Tagged) (k i : ℕ) (s : Stage) (news : 
 
   -- its operator waits for this bucket
   pub Running-next : k ≡ next_of s.operator
-  Running-next = let t = took-before m k mill idle next in sym (next-after s.operator _ k (ready t.0 t.1))
+  Running-next = next ∙ sym (subst (λ (u : Stage). next_of u.operator ≡ m.next) (sym here) (mill.waits idle i s l))
 
-  -- and can take what it reads of it
+  -- what it reads lies in the bucket
+  reads-lie : All (LiesIn m.width k) (inputs_of inputs outs s.reads)
+  reads-lie = inputs-lie m.width k inputs outs s.reads bucket.bucket.inside r.lies
+
+  -- and it can take it
   pub Running-accepts : Accepts (width_of s.operator) k (inputs_of inputs outs s.reads)
   Running-accepts =
-      let t = took-before m k mill idle next in
-      let lies = added-bucket m.width k t.0 inputs (take i ops) s t.1.below t.1.ordered bucket.bucket sound in
-      rw (r.gave t.0 t.1) (Accepts-from m.width k (width_of s.operator) _ fit.width (record { bucket = lies; end = bucket.end }))
+      Accepts-from m.width k (width_of s.operator) (inputs_of inputs outs s.reads) fit.width
+      (record { bucket = record { inside = reads-lie; ordered = serial-adjacent (inputs_of inputs outs s.reads) (serial-is (map (read_wire inputs outs) s.reads)) }; end = bucket.end })
 
   pub Running-renewed : (t : Stage) → spec_of t ≡ spec_of s → ((w : ℕ) → IsFit w s → IsFit w t) → Renewed m.width (i + 1) m.stages (set news i t)
   Running-renewed t spec fits = Renewed-more m.width i s t m.stages news r.stood.renewed at spec (fits m.width fit)
@@ -157,12 +162,13 @@ module _ (m : MillState) (inputs : List Tagged) (k i : ℕ) (s : Stage) (news : 
   -- what the stages took, with this one
   pub Stood-more : (t : Stage) →
       ((before : List Tagged) → OperatorAfter s.operator before k → OperatorAfter t.operator (before ++ inputs_of inputs outs s.reads) (k + 1)) →
-      spent_of t.operator ≡ false → spec_of t ≡ spec_of s → ((w : ℕ) → IsFit w s → IsFit w t) → Stood m inputs k (i + 1) (set news i t)
-  Stood-more t after rested spec fits =
+      spent_of t.operator ≡ false → next_of t.operator ≡ k + 1 → spec_of t ≡ spec_of s → ((w : ℕ) → IsFit w s → IsFit w t) → Stood m inputs k (i + 1) (set news i t)
+  Stood-more t after rested waited spec fits =
       let end = (k + 1) * m.width in
       record {
         renewed = Running-renewed t spec fits;
         idle = below-more (λ (u : Stage). spent_of u.operator ≡ false) i t news (omega (arith, l, specs-length m.stages news r.stood.renewed.specs)) r.stood.idle rested;
+        waits = below-more (λ (u : Stage). next_of u.operator ≡ k + 1) i t news (omega (arith, l, specs-length m.stages news r.stood.renewed.specs)) r.stood.waits waited;
         took = λ before h j e low. ⊎_elim
             (λ (below : j < i).
             subst (λ (u : Stage). OperatorAfter u.operator (inputs_of (before ++ inputs) (outputs_of ops j (before ++ inputs) end) (get_or m.stages j e).reads) (k + 1))
@@ -200,13 +206,15 @@ module _ (m : MillState) (inputs : List Tagged) (k i : ℕ) (s : Stage) (news : 
   pub Running-more : (t : Stage) (more : List (List Tuple)) →
       ((before : List Tagged) → OperatorAfter s.operator before k → more ≡ push outs (added_of s.operator before (inputs_of inputs outs s.reads) k)) →
       ((before : List Tagged) → OperatorAfter s.operator before k → OperatorAfter t.operator (before ++ inputs_of inputs outs s.reads) (k + 1)) →
-      spent_of t.operator ≡ false → spec_of t ≡ spec_of s → ((w : ℕ) → IsFit w s → IsFit w t) → Running m inputs k (i + 1) (set news i t) more
-  Running-more t more answer after rested spec fits =
+      spent_of t.operator ≡ false → next_of t.operator ≡ k + 1 → spec_of t ≡ spec_of s → ((w : ℕ) → IsFit w s → IsFit w t) →
+      ((w : ℕ) → unwrap_or (width_of s.operator) w ≡ w → All (LiesIn w k) (inputs_of inputs outs s.reads) → AreOfBucket w k outs → AreOfBucket w k more) → Running m inputs k (i + 1) (set news i t) more
+  Running-more t more answer after rested waited spec fits lie =
       record {
-        stood = Stood-more t after rested spec fits;
+        stood = Stood-more t after rested waited spec fits;
         gave = λ before h.
             answer (stood_of before) (ready before h) ∙ ap (λ (ts : List Tuple). push outs ts) (adds before h)
             ∙ rw (r.gave before h, outputs-are before) (sym (map-append (λ (ts : List Tuple). from_time (k * m.width) ts) (outputs_of ops i (before ++ inputs) ((k + 1) * m.width)) (whole_of before ∷ [])));
+        lies = lie m.width fit.width reads-lie r.lies;
       }
 
   -- what the last stage adds is what the mill does
@@ -226,7 +234,7 @@ module _ (m : MillState) (inputs : List Tagged) (k i : ℕ) (s : Stage) (news : 
       (fragment-InOrder ops (before ++ inputs) end ordered) h.below bucket.bucket.inside)
 
 -- all stages of a mill took the bucket
-module _ (m : MillState) (inputs : List Tagged) (k i : ℕ) (news : List Stage) (outs : List (List Tuple)) (mill : IsMill m) (bucket : FitsBucket m.width k inputs)
+module _ (m : MillState) (inputs : List Tagged) (k i : ℕ) (news : List Stage) (outs : List (List Tuple)) (mill : IsReady m) (bucket : FitsBucket m.width k inputs)
     (r : Running m inputs k i news outs) (l : length m.stages ≤ i) where
   -- the last output is what the bucket adds
   pub Running-answer : (before : List Tagged) → MillAfter m before k → unwrap_or (last_or None outs) [] ≡ added_output (engine_value (specs_of m.stages)) m.width before inputs k
@@ -243,7 +251,7 @@ module _ (m : MillState) (inputs : List Tagged) (k i : ℕ) (news : List Stage) 
       (fragment-InOrder ops (before ++ inputs) end ordered) h.below bucket.bucket.inside)
 
 -- all stages took it
-module _ (m : MillState) (inputs : List Tagged) (k i : ℕ) (news : List Stage) (mill : IsMill m) (bucket : FitsBucket m.width k inputs)
+module _ (m : MillState) (inputs : List Tagged) (k i : ℕ) (news : List Stage) (mill : IsReady m) (bucket : FitsBucket m.width k inputs)
     (r : Stood m inputs k i news) (l : length m.stages ≤ i) where
   -- the mill before the next bucket
   abbrev pub milled : ℕ → MillState
@@ -260,15 +268,13 @@ module _ (m : MillState) (inputs : List Tagged) (k i : ℕ) (news : List Stage) 
         rw (r.renewed.specs, reads-stay j d m.stages news r.renewed.specs) (r.took before h j d (omega (arith, inside, l)));
   })
 
-  pub Stood-done : (w : ℕ) → w ≡ m.width → m.spent ≡ false → k ≡ m.next → IsMill (milled w)
-  Stood-done w e idle next =
-      let t = took-before m k mill idle next in
-      record {
-        fits = rw e r.renewed.fits;
-        idle = λ _ j d low. r.idle j d (omega (arith, low, l, specs-length m.stages news r.renewed.specs));
-        took = λ _. (t.0 ++ inputs, Stood-after w e t.0 t.1);
-      }
+  pub Stood-done : (w : ℕ) → w ≡ m.width → IsReady (milled w)
+  Stood-done w e = record {
+    fits = rw e r.renewed.fits;
+    idle = λ _ j d low. r.idle j d (omega (arith, low, l, specs-length m.stages news r.renewed.specs));
+    waits = λ _ j d low. r.waits j d (omega (arith, low, l, specs-length m.stages news r.renewed.specs));
+  }
 
 -- a mill whose stages fit, where memory ran out
-pub IsMill-spent : (w : ℕ) (n : MillState) → n.width ≡ w → n.spent ≡ true → All (IsFit w) n.stages → IsMill n
-IsMill-spent w n e s fits = record { fits = rw e fits; idle = λ h. absurd (cc); took = λ h. absurd (cc) }
+pub IsReady-spent : (w : ℕ) (n : MillState) → n.width ≡ w → n.spent ≡ true → All (IsFit w) n.stages → IsReady n
+IsReady-spent w n e s fits = record { fits = rw e fits; idle = λ h. absurd (cc); waits = λ h. absurd (cc) }

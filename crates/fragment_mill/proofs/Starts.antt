@@ -14,9 +14,9 @@ use Rattle.dpc_model.proofs.Cuts.{none-below, none_below-zero}
 use Rattle.dpc_model.proofs.Order.{tagged_time}
 use Rattle.dpc_model.proofs.FragmentValues.{frag-is}
 use Rattle.fragment_mill.specs.Mills.{spent_of, OperatorAfter, MillState, specs_of, new_stage, new_mill, inputs_of, MillAfter}
-use Rattle.fragment_mill.specs.Milling.{IsFit, IsMill}
+use Rattle.fragment_mill.specs.Milling.{IsFit, IsReady}
 use Rattle.fragment_mill.specs.declared.mill.Stage.{Stage}
-use Rattle.fragment_mill.proofs.Operators.{kind-new, IsFit-new, idle-new, after-new}
+use Rattle.fragment_mill.proofs.Operators.{kind-new, IsFit-new, idle-new, after-new, next-after}
 use Rattle.fragment_mill.proofs.Running.{sound-take}
 use Rattle.fragment_mill.proofs.Stepping.{inputs-kept}
 
@@ -39,8 +39,8 @@ MillAfter-none m fits after e = record {
 }
 
 -- a mill of these stages before bucket 0
-pub IsMill-none : (w : ℕ) (ss : List Stage) → All (IsFit w) ss → All (λ s. spent_of s.operator ≡ false) ss → All (λ s. OperatorAfter s.operator [] 0) ss → IsMill (record { width = w; stages = ss; next = 0; spent = false })
-IsMill-none w ss fits idle after = record { fits = fits; idle = λ e. idle; took = λ e. ([], MillAfter-none _ fits after refl) }
+pub IsReady-none : (w : ℕ) (ss : List Stage) → All (IsFit w) ss → All (λ s. spent_of s.operator ≡ false) ss → All (λ s. OperatorAfter s.operator [] 0) ss → IsReady (record { width = w; stages = ss; next = 0; spent = false })
+IsReady-none w ss fits idle after = record { fits = fits; idle = λ e. idle; waits = λ e i d low. next-after (get_or ss i d).operator [] 0 (after i d low) }
 
 -- ---- a new mill
 

@@ -1,5 +1,5 @@
 -- What is true of every mill.
-use Rattle.std.specs.Prelude.{◌≡◌, ℕ, false, unwrap_or, List, length, All}
+use Rattle.std.specs.Prelude.{◌≡◌, ℕ, ◌+◌, ◌*◌, ◌<◌, ◌≤◌, false, unwrap_or, List, length, All}
 use Rattle.dpc_model.specs.Streams.{AllInOrder}
 use Rattle.dpc_model.specs.Engines.{engine_value, added_output}
 use Rattle.dpc_model.specs.Fragments.{serial, IsSoundKind}
@@ -10,7 +10,7 @@ use Rattle.dpc_model.specs.declared.operators.OpKind.{OpKind}
 use Rattle.dpc_model.specs.declared.operators.OpKind.TheVariants.{Filter, Map, Union, Join, Aggregate}
 use Rattle.fragment_mill.specs.declared.operator.Operator.{Operator}
 use Rattle.fragment_mill.specs.declared.mill.Stage.{Stage}
-use Rattle.fragment_mill.specs.Mills.{kind_of, operators_of, port_count, width_of, spent_of, MillState, MillAfter}
+use Rattle.fragment_mill.specs.Mills.{kind_of, operators_of, port_count, width_of, next_of, spent_of, MillState, MillAfter}
 
 -- an operator of n inputs makes of them, in serial order, what its kind does
 abbrev pub MakesOutput : ℕ → Operator → Type 0
@@ -28,6 +28,14 @@ ports_for Union n = n
 ports_for (Join within keys) n = 2
 ports_for (Aggregate size step group aggs) n = 1
 
+-- a tuple lies in bucket k
+abbrev pub IsOfBucket : ℕ → ℕ → Tuple → Type 0
+IsOfBucket w k t = (k * w ≤ t.stime) × (t.stime < (k + 1) * w)
+
+-- each tuple of these outputs does
+abbrev pub AreOfBucket : ℕ → ℕ → List (List Tuple) → Type 0
+AreOfBucket w k outputs = All (λ (ts : List Tuple). All (IsOfBucket w k) ts) outputs
+
 -- a stage has the mill's width, and a sound operator for as many inputs as it reads
 pub record IsFit (w : ℕ) (s : Stage) : Type 0 where
   -- where its operator's buckets have a width, it is the mill's
@@ -36,6 +44,13 @@ pub record IsFit (w : ℕ) (s : Stage) : Type 0 where
   pub ports : port_count s.operator ≡ ports_for (kind_of s.operator) (length s.reads)
   pub sound : IsSoundKind (kind_of s.operator)
   pub makes : MakesOutput (length s.reads) s.operator
+
+-- what is true of every mill: its stages fit, and unless it wanted memory none of them did, and each waits for the
+-- mill's next bucket
+pub record IsReady (m : MillState) : Type 0 where
+  pub fits : All (IsFit m.width) m.stages
+  pub idle : m.spent ≡ false → All (λ (s : Stage). spent_of s.operator ≡ false) m.stages
+  pub waits : m.spent ≡ false → All (λ (s : Stage). next_of s.operator ≡ m.next) m.stages
 
 -- its stages fit, and unless it wanted memory it took some inputs
 pub record IsMill (m : MillState) : Type 0 where

@@ -5,3 +5,5 @@ pub mod laws;
 pub mod mill;
 pub mod operator;
 mod stage;
+pub mod states;
+pub mod views;

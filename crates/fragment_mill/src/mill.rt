@@ -1,15 +1,20 @@
 //! The mill of a fragment.
-ghost use Rattle.std.specs.Prelude.{◌≡◌, ◌+◌, ◌^◌, ◌<◌, ◌↔◌, ◌++◌, ℕ, List, [], map, length, slice_get, unwrap_or, false, Some, None, IfOk, OnOk, OnErr, IsTrue, All};
+ghost use Rattle.std.specs.Prelude.{◌≡◌, ◌+◌, ◌*◌, ◌^◌, ◌<◌, ◌↔◌, ◌++◌, ℕ, List, [], map, length, slice_get, unwrap_or, true, false, Some, None, IfOk, OnOk, OnErr, IsTrue, All};
 ghost use Rattle.dpc_lists.specs.Lists.{last_or};
 ghost use Rattle.dpc_model.specs.Engines.{nameless, FitsBucket};
 ghost use Rattle.dpc_model.specs.Fragments.{AreSoundFrags, AreSoundOps};
 ghost use Rattle.dpc_model.specs.declared.plans.FragSpec.{FragSpec};
+ghost use Rattle.dpc_model.specs.declared.plans.Plan.{Plan};
 ghost use Rattle.dpc_model.specs.declared.tuples.Tagged.{Tagged};
 ghost use Rattle.fragment_mill.specs.Mills.{OperatorAfter, MillAfter, spent_of, specs_of, new_mill, new_stage, mill_added};
-ghost use Rattle.fragment_mill.specs.Milling.{IsFit};
+ghost use Rattle.fragment_mill.specs.Milling.{IsFit, IsReady};
+ghost use Rattle.fragment_mill.specs.States.{parts_of, mill_of, ops_at, state_fault, IsOf, ComesBack};
+ghost use Rattle.fragment_mill.specs.Views.{shown};
 ghost use Rattle.ops_join.specs.RowsOut.{Takes, TakesFirst};
 
 use crate::operator::Operator;
+use crate::states::{MillParts, PartsFault, all_parts, resumed_stages};
+use crate::views::KeptView;
 use dpc_lists::exact::Exact;
 use dpc_lists::faults::NoMemory;
 use dpc_lists::lists::Listed;
@@ -43,7 +48,7 @@ impl Model for FragMill {
     ghost use Rattle.std.specs.Coded.{codes};
     ghost use Rattle.dpc_model.specs.FormulaCode.{coded_formula};
     ghost use Rattle.fragment_mill.specs.Mills.{MillState};
-    ghost use Rattle.fragment_mill.specs.Milling.{IsMill};
+    ghost use Rattle.fragment_mill.specs.Milling.{IsReady};
 
     ghost Value = { MillState };
 
@@ -51,7 +56,7 @@ impl Model for FragMill {
 
     ghost view = { λ m. record { width = m.width; stages = m.stages.items; next = m.next; spent = m.spent } };
 
-    ghost invariant = { λ m. IsMill (record { width = m.width; stages = m.stages.items; next = m.next; spent = m.spent }) };
+    ghost invariant = { λ m. IsReady (record { width = m.width; stages = m.stages.items; next = m.next; spent = m.spent }) };
 }
 
 /// The operators of a fragment as stages, before bucket 0.
@@ -134,6 +139,105 @@ impl FragMill {
             next: 0,
             spent: false,
         })
+    }
+
+    /// The engine of fragment `frag` of a plan with this state. `BadShape(i)` says that operator `i` is the
+    /// first that can't have kept what it is given before bucket `parts.next` (`state_fault`): data of
+    /// another kind; tuples of a join, or cells of an aggregate, that are out of order, at or past the
+    /// bucket's begin, or of no use any more; a cell with a group where the plan has no group column, or
+    /// with another number of totals than the plan has aggregates. Where there are more operators than
+    /// parts, or fewer, it is the lesser count. `parts.next` may be any number: where `parts.next *
+    /// plan.width` passes 2^64 no bucket can follow, and what is kept is tested against that begin all the
+    /// same. Not tested is how many values the tuples of a join have, since a join is defined for any
+    /// number, nor what the values and the totals are. The tuples are moved, the cells copied; the time is
+    /// about as that of a walk over the tuples, and of putting the cells into ordered maps.
+    pub fn from_parts(
+        alloc: Global,
+        plan: &Plan,
+        frag: u64,
+        parts: MillParts,
+    ) -> Result<FragMill, PartsFault>
+        requires known { frag < length plan.now.frags }
+        requires sound { AreSoundFrags plan.now.frags }
+        ensures made { IfOk result (λ m. m ≡ mill_of plan.now.width (ops_at plan.now frag) parts) }
+        ensures whole { OnOk result (state_fault plan.now frag parts ≡ None) }
+        ensures fault { (i : ℕ) → result ≡ Err (PartsFault.BadShape i) → state_fault plan.now frag parts ≡ Some i }
+        ensures operators { IfOk result (λ m. specs_of m.stages ≡ nameless (ops_at plan.now frag)) }
+    {
+        let spec = &plan.frags.as_slice()[frag as usize];
+        let MillParts { next, operators } = parts;
+        match resumed_stages(alloc, spec.ops.as_slice(), plan.width, next, operators) {
+            Ok(stages) => Ok(FragMill {
+                width: plan.width,
+                stages,
+                next,
+                spent: false,
+            }),
+            Err(fault) => Err(fault),
+        }
+    }
+
+    /// What it keeps, copied. The mill of a plan's fragment comes back of it, by `from_parts` for that plan
+    /// and fragment, whatever state it was made with before.
+    pub fn parts(&self, alloc: Global) -> Result<MillParts, StepFault>
+        ensures parts { IfOk result (λ parts. parts ≡ parts_of self.now) }
+        ensures spent { result ≡ Err StepFault.Spent ↔ self.now.spent ≡ true }
+        ensures back { IfOk result (λ parts. (plan : Plan) (frag : ℕ) → IsOf plan frag self.now → ComesBack plan frag self.now parts) }
+    {
+        if self.spent {
+            return Err(StepFault::Spent);
+        }
+        let Ok(operators) = all_parts(alloc, self.stages.as_slice()) else {
+            return Err(StepFault::NoMemory);
+        };
+        Ok(MillParts {
+            next: self.next,
+            operators,
+        })
+    }
+
+    /// The next bucket.
+    pub fn next_bucket(&self) -> u64
+        ensures { result ≡ self.now.next }
+    {
+        self.next
+    }
+
+    /// How wide its buckets are; and contracts learn here what is so of every mill.
+    pub fn width(&self) -> u64
+        ensures width { result ≡ self.now.width }
+        ensures ready { IsReady self.now }
+    {
+        self.width
+    }
+
+    /// Whether a call wanted memory, and there was no reset since.
+    pub fn is_spent(&self) -> bool
+        ensures { result ≡ self.now.spent }
+    {
+        self.spent
+    }
+
+    /// How many operators there are.
+    pub fn operator_count(&self) -> usize
+        ensures { result ≡ length (parts_of self.now).operators }
+    {
+        self.stages.len()
+    }
+
+    /// What operator `number` keeps, lent: what `parts` has of it, without a copy.
+    pub fn kept(&self, number: usize) -> KeptView<'_>
+        requires { number < length (parts_of self.now).operators }
+        ensures { slice_get (parts_of self.now).operators number ≡ Some (shown result) }
+    {
+        self.stages[number].operator.kept()
+    }
+
+    /// Each operator with what it reads, in order.
+    pub fn stages(&self) -> &[Stage]
+        ensures { result.now ≡ self.now.stages }
+    {
+        self.stages.as_slice()
     }
 
     /// Takes the inputs of the next bucket, as `bucket` does, and gives the rows that they add one behind

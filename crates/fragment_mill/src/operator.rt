@@ -1,10 +1,10 @@
 //! Any operator as a part of a mill.
-ghost use Rattle.std.specs.Prelude.{◌≡◌, ◌+◌, ◌^◌, ◌<◌, ◌++◌, List, false, IfOk, OnOk, OnErr};
-ghost use Rattle.dpc_model.specs.Engines.{Accepts};
+ghost use Rattle.std.specs.Prelude.{◌≡◌, ◌+◌, ◌^◌, ◌<◌, ◌++◌, ◌↔◌, ℕ, List, true, false, unwrap_or, All, IfOk, OnOk, OnErr, is_err, IsTrue};
+ghost use Rattle.dpc_model.specs.Engines.{Accepts, LiesIn};
 ghost use Rattle.dpc_model.specs.declared.tuples.Tagged.{Tagged};
 ghost use Rattle.dpc_model.specs.Fragments.{IsSoundKind};
 ghost use Rattle.fragment_mill.specs.Mills.{new_operator, operators_of, width_of, next_of, spent_of, OperatorAfter};
-ghost use Rattle.fragment_mill.specs.Milling.{added_of};
+ghost use Rattle.fragment_mill.specs.Milling.{IsOfBucket, added_of};
 ghost use Rattle.ops_join.specs.RowsOut.{Takes, TakesFirst};
 
 use dpc_lists::exact::Exact;
@@ -71,6 +71,7 @@ impl Operator {
         ensures after { OnOk result ((before : List Tagged) → OperatorAfter self.old before k
             → OperatorAfter self.new (before ++ inputs.now) (k + 1)) }
         ensures idle { OnOk result (spent_of self.new ≡ false) }
+        ensures next { OnOk result (next_of self.new ≡ k + 1) }
         ensures operators { operators_of self.new ≡ operators_of self.old }
         ensures width { width_of self.new ≡ width_of self.old }
     {
@@ -97,7 +98,25 @@ impl Engine for Operator {
 
     ghost after = { λ o xs k. OperatorAfter o xs k };
 
-    fn bucket(&mut self, alloc: Global, inputs: &[Tagged], k: u64) -> Result<Tuples, StepFault> {
+    /// The rows lie in the bucket, whatever came before: so it is of an operator with any state that it can
+    /// be made with.
+    fn bucket(&mut self, alloc: Global, inputs: &[Tagged], k: u64) -> Result<Tuples, StepFault>
+        requires next { k ≡ next_of self.old }
+        requires range { k + 1 < 2 ^ 64 }
+        requires accepts { Accepts (width_of self.old) k inputs.now }
+        ensures answer { IfOk result (λ out. (before : List Tagged) → OperatorAfter self.old before k
+            → out ≡ added_of self.old before inputs.now k) }
+        ensures inside { IfOk result (λ out. (w : ℕ) → unwrap_or (width_of self.old) w ≡ w → All (LiesIn w k) inputs.now
+            → All (IsOfBucket w k) out) }
+        ensures after { OnOk result ((before : List Tagged) → OperatorAfter self.old before k
+            → OperatorAfter self.new (before ++ inputs.now) (k + 1)) }
+        ensures next { OnOk result (next_of self.new ≡ k + 1) }
+        ensures kept { OnErr result (next_of self.new ≡ next_of self.old) }
+        ensures spent { result ≡ Err StepFault.Spent ↔ spent_of self.old ≡ true }
+        ensures stays { IsTrue (spent_of self.new) ↔ IsTrue (is_err result) }
+        ensures operators { operators_of self.new ≡ operators_of self.old }
+        ensures width { width_of self.new ≡ width_of self.old }
+    {
         match self {
             Operator::Filter(filter) => filter.bucket(alloc, inputs, k),
             Operator::Map(map) => map.bucket(alloc, inputs, k),

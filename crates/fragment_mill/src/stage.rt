@@ -1,11 +1,11 @@
 //! A stage of a mill: an operator with what it reads.
-ghost use Rattle.std.specs.Prelude.{◌≡◌, ◌+◌, ◌^◌, ◌<◌, ◌++◌, ◌↔◌, ℕ, true, false, List, [], map, IfOk, OnOk, OnErr, IsTrue};
+ghost use Rattle.std.specs.Prelude.{◌≡◌, ◌+◌, ◌^◌, ◌<◌, ◌++◌, ◌↔◌, ℕ, true, false, List, [], map, unwrap_or, All, IfOk, OnOk, OnErr, IsTrue};
 ghost use Rattle.dpc_lists.specs.Lists.{push};
-ghost use Rattle.dpc_model.specs.Engines.{Accepts, is_serial};
+ghost use Rattle.dpc_model.specs.Engines.{Accepts, LiesIn, is_serial};
 ghost use Rattle.dpc_model.specs.Fragments.{serial, tag, read_wire, at_port, IsSoundKind};
 ghost use Rattle.dpc_model.specs.declared.tuples.Tagged.{Tagged};
 ghost use Rattle.fragment_mill.specs.Mills.{OperatorAfter, operators_of, next_of, width_of, spent_of, inputs_of, spec_of, new_stage};
-ghost use Rattle.fragment_mill.specs.Milling.{IsFit, added_of};
+ghost use Rattle.fragment_mill.specs.Milling.{IsFit, AreOfBucket, added_of};
 ghost use Rattle.fragment_mill.specs.Reads.{AreStraight, AreAmong};
 ghost use Rattle.ops_join.specs.RowsOut.{Takes, TakesFirst};
 
@@ -129,7 +129,10 @@ fn take(
         → outputs.new.items ≡ push outputs.old.items (added_of operator.old before read.now k)) }
     ensures after { OnOk result ((before : List Tagged) → OperatorAfter operator.old before k
         → OperatorAfter operator.new (before ++ read.now) (k + 1)) }
+    ensures lies { OnOk result ((w : ℕ) → unwrap_or (width_of operator.old) w ≡ w → All (LiesIn w k) read.now
+        → AreOfBucket w k outputs.old.items → AreOfBucket w k outputs.new.items) }
     ensures idle { OnOk result (spent_of operator.new ≡ false) }
+    ensures next { OnOk result (next_of operator.new ≡ k + 1) }
     ensures operators { operators_of operator.new ≡ operators_of operator.old }
     ensures width { width_of operator.new ≡ width_of operator.old }
 {
@@ -168,7 +171,11 @@ impl Stage {
             (added_of self.old.operator before (inputs_of inputs.now outputs.old.items self.old.reads) k)) }
         ensures after { OnOk result ((before : List Tagged) → OperatorAfter self.old.operator before k
             → OperatorAfter self.new.operator (before ++ inputs_of inputs.now outputs.old.items self.old.reads) (k + 1)) }
+        ensures lies { OnOk result ((w : ℕ) → unwrap_or (width_of self.old.operator) w ≡ w
+            → All (LiesIn w k) (inputs_of inputs.now outputs.old.items self.old.reads)
+            → AreOfBucket w k outputs.old.items → AreOfBucket w k outputs.new.items) }
         ensures idle { OnOk result (spent_of self.new.operator ≡ false) }
+        ensures next { OnOk result (next_of self.new.operator ≡ k + 1) }
         ensures spec { spec_of self.new ≡ spec_of self.old }
         ensures fits { (width : ℕ) → IsFit width self.old → IsFit width self.new }
     {
@@ -204,6 +211,7 @@ impl Stage {
         ensures after { OnOk result ((before : List Tagged) → OperatorAfter self.old.operator before k
             → OperatorAfter self.new.operator (before ++ inputs_of inputs.now outputs.now self.old.reads) (k + 1)) }
         ensures idle { OnOk result (spent_of self.new.operator ≡ false) }
+        ensures next { OnOk result (next_of self.new.operator ≡ k + 1) }
         ensures spec { spec_of self.new ≡ spec_of self.old }
         ensures fits { (width : ℕ) → IsFit width self.old → IsFit width self.new }
     {

@@ -8,3 +8,5 @@ pub mod Standing
 pub mod Givings
 pub mod Groups
 pub mod Giving
+pub mod Resumes
+pub mod Inside

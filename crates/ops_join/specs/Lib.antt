@@ -3,3 +3,4 @@ pub mod Sides
 pub mod Keeping
 pub mod RowsOut
 pub mod Groups
+pub mod Saving

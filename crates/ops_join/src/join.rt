@@ -1,10 +1,12 @@
 //! The join of two streams.
-ghost use Rattle.std.specs.Prelude.{◌≡◌, ◌+◌, ◌^◌, ◌<◌, ◌++◌, List, Some, true, false, OnOk, OnErr};
-ghost use Rattle.dpc_model.specs.Engines.{lone_operator, FitsBucket};
+ghost use Rattle.std.specs.Prelude.{◌≡◌, ◌+◌, ◌*◌, ◌^◌, ◌<◌, ◌≤◌, ◌↔◌, ◌++◌, List, Some, true, false, All, IfOk, OnOk, OnErr, is_err, IsTrue};
+ghost use Rattle.dpc_model.specs.Engines.{lone_operator, Accepts, FitsBucket};
+ghost use Rattle.dpc_model.specs.declared.tuples.Tuple.{Tuple};
 ghost use Rattle.dpc_model.specs.declared.tuples.Tagged.{Tagged};
 ghost use Rattle.dpc_model.specs.declared.operators.OpKind.TheVariants as kind;
 ghost use Rattle.ops_join.specs.Joins.{new_join, JoinAfter, join_added};
 ghost use Rattle.ops_join.specs.RowsOut.{Takes, TakesFirst};
+ghost use Rattle.ops_join.specs.Saving.{can_all_wait, resumed_join};
 
 use crate::rows_out::{Ended, RowSink};
 use crate::sides::Sides;
@@ -29,9 +31,9 @@ pub struct Join {
 }
 
 impl Model for Join {
-    ghost use Rattle.std.specs.Prelude.{◌*◌};
+    ghost use Rattle.std.specs.Prelude.{◌≡◌, ◌*◌, true};
     ghost use Rattle.ops_join.specs.Joins.{JoinState};
-    ghost use Rattle.ops_join.specs.Keeping.{IsKept};
+    ghost use Rattle.ops_join.specs.Saving.{can_all_wait};
 
     ghost Value = { JoinState };
 
@@ -45,7 +47,8 @@ impl Model for Join {
       spent = j.spent;
     } };
 
-    ghost invariant = { λ j. IsKept (j.next * j.width) j.sides.left × IsKept (j.next * j.width) j.sides.right };
+    ghost invariant = { λ j. (can_all_wait j.within (j.next * j.width) j.sides.left ≡ true)
+        × (can_all_wait j.within (j.next * j.width) j.sides.right ≡ true) };
 }
 
 impl Join {
@@ -62,6 +65,36 @@ impl Join {
             next: 0,
             spent: false,
         }
+    }
+
+    /// The join with these tuples on its sides in place of its own, before bucket `next`, as a saved one had
+    /// them. The tuples are moved; the time is about as that of a walk over them. `next` may be any number,
+    /// and `next * width` any product: what each side may hold is asked for at that begin.
+    pub fn from_sides(
+        alloc: Global,
+        join: Join,
+        next: u64,
+        left: Tuples,
+        right: Tuples,
+    ) -> Result<Join, NoMemory>
+        requires left { can_all_wait join.within (next * join.width) left ≡ true }
+        requires right { can_all_wait join.within (next * join.width) right ≡ true }
+        ensures { IfOk result (λ j. j ≡ resumed_join join next left right) }
+    {
+        let Join {
+            within,
+            width,
+            sides,
+            ..
+        } = join;
+        let sides = sides.with_tuples(alloc, left.into_vec(), right.into_vec())?;
+        Ok(Join {
+            within,
+            width,
+            sides,
+            next,
+            spent: false,
+        })
     }
 
     /// Takes the inputs of the next bucket, as `bucket` does, and gives the rows that they add one behind
@@ -85,6 +118,7 @@ impl Join {
         ensures after { OnOk result ((before : List Tagged) → JoinAfter self.old before k
             → JoinAfter self.new (before ++ inputs.now) (k + 1)) }
         ensures idle { OnOk result (self.new.spent ≡ false) }
+        ensures next { OnOk result (self.new.next ≡ k + 1) }
         ensures spent { OnErr result (self.new.spent ≡ true) }
         ensures within { self.new.within ≡ self.old.within }
         ensures keys { self.new.keys ≡ self.old.keys }
@@ -108,6 +142,16 @@ impl Join {
                 Err(Ended)
             }
         }
+    }
+
+    /// The left and the right tuples that it keeps, in order of time. They may wait for the next bucket.
+    pub fn sides(&self) -> (&VecDeque<Tuple>, &VecDeque<Tuple>)
+        ensures left { result.0.now.items ≡ self.now.left }
+        ensures right { result.1.now.items ≡ self.now.right }
+        ensures left_waits { can_all_wait self.now.within (self.now.next * self.now.width) self.now.left ≡ true }
+        ensures right_waits { can_all_wait self.now.within (self.now.next * self.now.width) self.now.right ≡ true }
+    {
+        (self.sides.left(), self.sides.right())
     }
 
     /// The left tuples that it keeps, in order of place.
@@ -136,7 +180,22 @@ impl Engine for Join {
 
     ghost after = { λ j xs k. JoinAfter j xs k };
 
-    fn bucket(&mut self, alloc: Global, inputs: &[Tagged], k: u64) -> Result<Tuples, StepFault> {
+    fn bucket(&mut self, alloc: Global, inputs: &[Tagged], k: u64) -> Result<Tuples, StepFault>
+        requires next { k ≡ self.old.next }
+        requires range { k + 1 < 2 ^ 64 }
+        requires accepts { Accepts (Some self.old.width) k inputs.now }
+        ensures answer { IfOk result (λ out. (before : List Tagged) → JoinAfter self.old before k
+            → out ≡ join_added self.old before inputs.now k) }
+        ensures inside { IfOk result (λ out. All (λ (t : Tuple). (k * self.old.width ≤ t.stime) × (t.stime < (k + 1) * self.old.width)) out) }
+        ensures after { OnOk result ((before : List Tagged) → JoinAfter self.old before k
+            → JoinAfter self.new (before ++ inputs.now) (k + 1)) }
+        ensures next { OnOk result (self.new.next ≡ k + 1) }
+        ensures kept { OnErr result (self.new.next ≡ self.old.next) }
+        ensures spent { result ≡ Err StepFault.Spent ↔ self.old.spent ≡ true }
+        ensures stays { IsTrue self.new.spent ↔ IsTrue (is_err result) }
+        ensures operators { lone_operator (kind.Join self.new.within self.new.keys) 2 ≡ lone_operator (kind.Join self.old.within self.old.keys) 2 }
+        ensures width { Some self.new.width ≡ Some self.old.width }
+    {
         if self.spent {
             return Err(StepFault::Spent);
         }

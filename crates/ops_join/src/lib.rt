@@ -8,5 +8,6 @@ mod partners;
 mod rows;
 mod rows_given;
 pub mod rows_out;
+pub mod saved;
 mod side;
 mod sides;

@@ -27,6 +27,14 @@ pub struct Side {
     ghost fits: { first + length tuples.items < 2 ^ 64 },
 }
 
+/// How many slots this many tuples have from the start: a power of two, and more than there are tuples.
+fn slots_for(count: usize) -> usize
+    ensures { 0 < result }
+{
+    let most = 1 << 62;
+    count.min(most).next_power_of_two().max(FEWEST_SLOTS)
+}
+
 /// The same tuples again.
 fn copied_tuples(alloc: Global, tuples: &VecDeque<Tuple>) -> Result<VecDeque<Tuple>, AllocError>
     ensures { IfOk result (λ other. other.items ≡ tuples.now.items) }
@@ -85,6 +93,26 @@ impl Side {
             chains.push(code, self.first + i as u64 + 1)?;
         }
         Ok(chains)
+    }
+
+    /// A side with these tuples, which are moved.
+    pub fn of(
+        alloc: Global,
+        end: End,
+        keys: &[(u64, u64)],
+        tuples: Vec<Tuple>,
+    ) -> Result<Side, AllocError>
+        ensures tuples { IfOk result (λ side. side.tuples.items ≡ tuples.items) }
+        ensures indexed { IfOk result (λ side. IsIndexed end keys.now side) }
+    {
+        let mut side = Side {
+            tuples: VecDeque::from_vec(tuples),
+            first: 0,
+            chains: Chains::new(alloc),
+        };
+        let slots = slots_for(side.tuples.len());
+        side.chains = side.linked(alloc, end, keys, slots)?;
+        Ok(side)
     }
 
     /// Makes more slots where there are as many tuples. After an error nothing changed.

@@ -55,6 +55,21 @@ impl Sides {
         Ok(Sides::new(alloc, self.keys.copy(alloc)?))
     }
 
+    /// The sides with these tuples in place of their own. The tuples are moved.
+    pub fn with_tuples(
+        self,
+        alloc: Global,
+        left: Vec<Tuple>,
+        right: Vec<Tuple>,
+    ) -> Result<Sides, NoMemory>
+        ensures { IfOk result (λ other. other ≡ record self { left = left.items; right = right.items }) }
+    {
+        let Sides { keys, .. } = self;
+        let left = Side::of(alloc, End::Left, keys.as_slice(), left)?;
+        let right = Side::of(alloc, End::Right, keys.as_slice(), right)?;
+        Ok(Sides { keys, left, right })
+    }
+
     /// Lets all tuples go.
     pub fn clear(&mut self)
         ensures { self.new ≡ new_sides self.old.keys }

@@ -18,3 +18,7 @@ pub record FilterState : Type 0 where
 -- a filter before bucket 0
 abbrev pub new_filter : Formula → FilterState
 new_filter e = record { expr = e; next = 0; spent = false }
+
+-- a filter before bucket k, whatever came in the buckets below
+abbrev pub filter_before : Formula → ℕ → FilterState
+filter_before e k = record { expr = e; next = k; spent = false }

@@ -18,3 +18,7 @@ pub record MapState : Type 0 where
 -- a map before bucket 0
 abbrev pub new_map : List Formula → MapState
 new_map es = record { exprs = es; next = 0; spent = false }
+
+-- a map before bucket k, whatever came in the buckets below
+abbrev pub map_before : List Formula → ℕ → MapState
+map_before es k = record { exprs = es; next = k; spent = false }

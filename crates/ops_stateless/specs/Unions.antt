@@ -20,6 +20,10 @@ pub record UnionState : Type 0 where
 abbrev pub new_union : ℕ → ℕ → UnionState
 new_union ports width = record { ports = ports; width = width; next = 0; spent = false }
 
+-- a union before bucket k, whatever came in the buckets below
+abbrev pub union_before : ℕ → ℕ → ℕ → UnionState
+union_before ports width k = record { ports = ports; width = width; next = k; spent = false }
+
 -- it took these inputs, those below bucket k: it keeps nothing of them
 pub record UnionAfter (u : UnionState) (xs : List Tagged) (k : ℕ) : Type 0 where
   pub next : u.next ≡ k

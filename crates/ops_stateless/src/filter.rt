@@ -4,7 +4,7 @@ ghost use Rattle.dpc_model.specs.Operators.{filtered};
 ghost use Rattle.dpc_model.specs.Fragments.{at_port};
 ghost use Rattle.dpc_model.specs.Engines.{lone_operator};
 ghost use Rattle.dpc_model.specs.declared.operators.OpKind.TheVariants as kind;
-ghost use Rattle.ops_stateless.specs.FilterOp.{new_filter};
+ghost use Rattle.ops_stateless.specs.FilterOp.{new_filter, filter_before};
 
 use crate::eval;
 use dpc_lists::exact::Exact;
@@ -41,9 +41,17 @@ impl Filter {
     pub fn new(expr: Expr) -> Filter
         ensures { result ≡ new_filter expr }
     {
+        Filter::before(expr, 0)
+    }
+
+    /// The filter by this expression before bucket `next`: as it is after the buckets below, whatever
+    /// came in them, since it keeps none of it. `next` may be any number.
+    pub fn before(expr: Expr, next: u64) -> Filter
+        ensures { result ≡ filter_before expr next }
+    {
         Filter {
             expr,
-            next: 0,
+            next,
             spent: false,
         }
     }

@@ -4,7 +4,7 @@ ghost use Rattle.dpc_model.specs.Operators.{mapped, mapped_tuple};
 ghost use Rattle.dpc_model.specs.Fragments.{at_port};
 ghost use Rattle.dpc_model.specs.Engines.{lone_operator};
 ghost use Rattle.dpc_model.specs.declared.operators.OpKind.TheVariants as kind;
-ghost use Rattle.ops_stateless.specs.MapOps.{new_map};
+ghost use Rattle.ops_stateless.specs.MapOps.{new_map, map_before};
 
 use crate::eval;
 use dpc_lists::exact::Exact;
@@ -42,9 +42,17 @@ impl MapOp {
     pub fn new(exprs: Listed<Expr>) -> MapOp
         ensures { result ≡ new_map exprs }
     {
+        MapOp::before(exprs, 0)
+    }
+
+    /// The map by these expressions before bucket `next`: as it is after the buckets below, whatever came
+    /// in them, since it keeps none of it. `next` may be any number. It takes no memory.
+    pub fn before(exprs: Listed<Expr>, next: u64) -> MapOp
+        ensures { result ≡ map_before exprs next }
+    {
         MapOp {
             exprs,
-            next: 0,
+            next,
             spent: false,
         }
     }

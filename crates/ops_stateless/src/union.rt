@@ -1,9 +1,9 @@
 //! The union.
-ghost use Rattle.std.specs.Prelude.{◌≡◌, nat_lt, filter, map, Some, IfOk};
-ghost use Rattle.dpc_model.specs.Engines.{lone_operator};
+ghost use Rattle.std.specs.Prelude.{◌≡◌, ◌*◌, nat_lt, List, filter, map, Some, IfOk, All};
+ghost use Rattle.dpc_model.specs.Engines.{lone_operator, LiesBelow};
 ghost use Rattle.dpc_model.specs.declared.operators.OpKind.TheVariants as kind;
 ghost use Rattle.dpc_model.specs.declared.tuples.Tagged.{Tagged};
-ghost use Rattle.ops_stateless.specs.Unions.{new_union, UnionAfter};
+ghost use Rattle.ops_stateless.specs.Unions.{new_union, union_before, UnionAfter};
 
 use dpc_lists::exact::Exact;
 use dpc_lists::lists::Listed;
@@ -36,10 +36,20 @@ impl Union {
     pub fn new(ports: u64, width: u64) -> Union
         ensures { result ≡ new_union ports width }
     {
+        Union::before(ports, width, 0)
+    }
+
+    /// The union of so many ports over buckets of this width before bucket `next`: as it is after the
+    /// buckets below, whatever came in them, since it keeps none of it. `next` may be any number, and
+    /// `next * width` any product. It takes no memory.
+    pub fn before(ports: u64, width: u64, next: u64) -> Union
+        ensures made { result ≡ union_before ports width next }
+        ensures took { (xs : List Tagged) → All (LiesBelow (next * width)) xs → UnionAfter result xs next }
+    {
         Union {
             ports,
             width,
-            next: 0,
+            next,
             spent: false,
         }
     }

@@ -14,3 +14,5 @@ pub mod Standing
 mod Flat
 mod Kept
 pub mod Walk
+pub mod Resumes
+pub mod Orderly

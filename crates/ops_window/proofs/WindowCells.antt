@@ -52,7 +52,7 @@ int_more x y e f = by (int_cmp x y) refl
     by Equal c = let same : int_eq x y ≡ true = ap is_eq c in absurd (cc)
     by Greater c = int_cmp_total.antisymm y x ∙ ap ordering_reverse c
 
-insert_value-all : (P : ℤ → Type 0) (y : ℤ) (ys : List ℤ) → P y → AllByRecursion P ys → AllByRecursion P (insert_value y ys)
+pub insert_value-all : (P : ℤ → Type 0) (y : ℤ) (ys : List ℤ) → P y → AllByRecursion P ys → AllByRecursion P (insert_value y ys)
 insert_value-all P y [] p h = (p, tt)
 insert_value-all P y (x ∷ xs) p h =
     elim (int_eq y x) as (λ b. AllByRecursion P (cond b (x ∷ xs) (cond (int_lt y x) (y ∷ x ∷ xs) (x ∷ insert_value y xs)))) [

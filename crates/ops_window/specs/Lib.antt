@@ -1,2 +1,3 @@
 pub mod Windows
 pub mod Feeding
+pub mod Saving

@@ -5,7 +5,9 @@ use Rattle.dpc_lists.specs.Lists.{range_with_len}
 use Rattle.dpc_model.specs.Values.{column}
 use Rattle.dpc_model.specs.Operators.{aggregated, between, window_count, distinct_values, sum_of, least_value, greatest_value}
 use Rattle.dpc_model.specs.Fragments.{at_port}
-use Rattle.dpc_model.specs.Engines.{Value, LiesBelow}
+use Rattle.dpc_model.specs.Engines.{Value, LiesBelow, engine_value, lone_operator, added_output}
+use Rattle.dpc_model.specs.declared.operators.OpKind.TheVariants as kind
+use Rattle.dpc_model.specs.declared.operators.OpSpec.{OpSpec}
 use Rattle.dpc_model.specs.declared.tuples.Tuple.{Tuple}
 use Rattle.dpc_model.specs.declared.tuples.Tagged.{Tagged}
 use Rattle.dpc_model.specs.declared.operators.Agg.{Agg}
@@ -92,3 +94,11 @@ pub record AggregateAfter (a : AggregateState) (xs : List Tagged) (k : ℕ) : Ty
   pub next : a.next ≡ k
   pub below : All (LiesBelow (k * a.width)) xs
   pub cells : a.cells ≡ open_cells a.size a.step a.group a.aggs (at_port 0 xs) (k * a.width)
+
+-- itself as the operators of an engine
+abbrev pub aggregate_operators : AggregateState → List OpSpec
+aggregate_operators a = lone_operator (kind.Aggregate a.size a.step a.group a.aggs) 1
+
+-- the rows that bucket k adds, where it took the inputs before it
+abbrev pub aggregate_added : AggregateState → List Tagged → List Tagged → ℕ → List Tuple
+aggregate_added a before bucket k = added_output (engine_value (aggregate_operators a)) a.width before bucket k

@@ -32,7 +32,7 @@ impl Model for Cells {
 
 /// The cells in order of begin and group, seen as the list of those that are left.
 #[derive(Drop)]
-pub(crate) struct Iter<'a> {
+pub struct Iter<'a> {
     panes: btree_map::Iter<'a, u64, Pane>,
     /// The begin of the pane in which the walk stands.
     begin: u64,
@@ -81,7 +81,7 @@ impl Cells {
     }
 
     /// The cells in order.
-    pub(crate) fn iter(&self) -> Iter<'_>
+    pub fn iter(&self) -> Iter<'_>
         ensures { result ≡ self.now }
     {
         Iter {

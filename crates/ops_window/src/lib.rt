@@ -6,4 +6,5 @@ pub mod cell_map;
 mod cells;
 mod joining;
 mod pane;
-mod totals;
+pub mod saved;
+pub mod totals;

@@ -11,7 +11,7 @@ use std::marker::Model;
 
 /// A total for each aggregate.
 #[derive(Drop)]
-pub(crate) struct Totals {
+pub struct Totals {
     numbers: Vec<i128>,
 }
 
@@ -44,7 +44,7 @@ impl Totals {
     }
 
     /// The totals as a slice.
-    pub(crate) fn as_slice(&self) -> &[i128]
+    pub fn as_slice(&self) -> &[i128]
         ensures { result.now ≡ self.now }
     {
         self.numbers.as_slice()

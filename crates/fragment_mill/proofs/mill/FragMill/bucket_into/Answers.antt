@@ -6,14 +6,14 @@ use Rattle.ops_join.proofs.Givings.{takes-as, first-as, on-err}
 use Rattle.dpc_model.specs.declared.tuples.Tagged.{Tagged}
 use Rattle.ops_join.specs.RowsOut.{TakesFirst}
 use Rattle.fragment_mill.specs.Mills.{MillState, MillAfter, mill_added}
-use Rattle.fragment_mill.specs.Milling.{IsMill}
+use Rattle.fragment_mill.specs.Milling.{IsReady}
 use Rattle.fragment_mill.specs.declared.mill.Stage.{Stage}
 use Rattle.fragment_mill.proofs.mill.FragMill.bucket_into.Goals as goal
-use Rattle.fragment_mill.proofs.Running.{Running, Running-none, Running-accepts, Running-next, Running-ready, Running-renewed, Running-more, Running-adds, Stood-more, Stood-after, Stood-done, IsMill-spent}
+use Rattle.fragment_mill.proofs.Running.{Running, Running-none, Running-accepts, Running-next, Running-ready, Running-renewed, Running-more, Running-adds, Stood-more, Stood-after, Stood-done, IsReady-spent}
 
 pub loop-i-init : goal.loop-i-init
 loop-i-init g c =
-    let mill = subst (λ (n : MillState). IsMill n) c.self.view_is c.self.invariant in
+    let mill = subst (λ (n : MillState). IsReady n) c.self.view_is c.self.invariant in
     let some : c.in-Some.last + 1 ≡ length c.self.inside.stages.items = grind (arith, common_steps) in
     let stages = ap (λ (n : MillState). n.stages) c.self.view_is in
     record {
@@ -28,7 +28,7 @@ loop-i-init g c =
 
 pub bucket-requires-clause-next : goal.bucket-requires-clause-next
 bucket-requires-clause-next g c =
-    let mill = subst (λ (n : MillState). IsMill n) c.self.view_is c.self.invariant in
+    let mill = subst (λ (n : MillState). IsReady n) c.self.view_is c.self.invariant in
     let idle = ap (λ (n : MillState). n.spent) (sym c.self.view_is) ∙ c.if-self.false in
     let inside : c.loop-i.i < length c.args.self.now.stages = omega (arith, c.loop-i.invariant.end) in
     Running-next _ _ c.args.k c.loop-i.i c.index_mut.result.now _ _ mill idle c.requires.next c.requires.accepts c.loop-i.invariant.running inside c.index_mut.ensures.value
@@ -39,23 +39,23 @@ bucket-requires-clause-serial g c =
 
 pub bucket-requires-clause-accepts : goal.bucket-requires-clause-accepts
 bucket-requires-clause-accepts g c =
-    let mill = subst (λ (n : MillState). IsMill n) c.self.view_is c.self.invariant in
+    let mill = subst (λ (n : MillState). IsReady n) c.self.view_is c.self.invariant in
     let idle = ap (λ (n : MillState). n.spent) (sym c.self.view_is) ∙ c.if-self.false in
     let inside : c.loop-i.i < length c.args.self.now.stages = omega (arith, c.loop-i.invariant.end) in
     Running-accepts _ _ c.args.k c.loop-i.i c.index_mut.result.now _ _ mill idle c.requires.next c.requires.accepts c.loop-i.invariant.running inside c.index_mut.ensures.value
 
 pub invariant_of-self-in_default-bucket : goal.invariant_of-self-in_default-bucket
 invariant_of-self-in_default-bucket g c =
-    let mill = subst (λ (n : MillState). IsMill n) c.self.view_is c.self.invariant in
+    let mill = subst (λ (n : MillState). IsReady n) c.self.view_is c.self.invariant in
     let idle = ap (λ (n : MillState). n.spent) (sym c.self.view_is) ∙ c.if-self.false in
     let inside : c.loop-i.i < length c.args.self.now.stages = omega (arith, c.loop-i.invariant.end) in
     let h = c.loop-i.invariant in
     let renewed = Running-renewed _ _ c.args.k c.loop-i.i c.index_mut.result.now _ _ mill idle c.requires.next c.requires.accepts c.loop-i.invariant.running inside c.index_mut.ensures.value c.bucket.new.self c.bucket.ensures.spec c.bucket.ensures.fits in
-    IsMill-spent c.args.self.now.width _ h.width h.spent renewed.fits
+    IsReady-spent c.args.self.now.width _ h.width h.spent renewed.fits
 
 pub returns-in_default-bucket-clause-operators : goal.returns-in_default-bucket-clause-operators
 returns-in_default-bucket-clause-operators g c =
-    let mill = subst (λ (n : MillState). IsMill n) c.self.view_is c.self.invariant in
+    let mill = subst (λ (n : MillState). IsReady n) c.self.view_is c.self.invariant in
     let idle = ap (λ (n : MillState). n.spent) (sym c.self.view_is) ∙ c.if-self.false in
     let inside : c.loop-i.i < length c.args.self.now.stages = omega (arith, c.loop-i.invariant.end) in
     let renewed = Running-renewed _ _ c.args.k c.loop-i.i c.index_mut.result.now _ _ mill idle c.requires.next c.requires.accepts c.loop-i.invariant.running inside c.index_mut.ensures.value c.bucket.new.self c.bucket.ensures.spec c.bucket.ensures.fits in
@@ -63,7 +63,7 @@ returns-in_default-bucket-clause-operators g c =
 
 pub loop-i-preserved : goal.loop-i-preserved
 loop-i-preserved g c =
-    let mill = subst (λ (n : MillState). IsMill n) c.self.view_is c.self.invariant in
+    let mill = subst (λ (n : MillState). IsReady n) c.self.view_is c.self.invariant in
     let idle = ap (λ (n : MillState). n.spent) (sym c.self.view_is) ∙ c.if-self.false in
     let inside : c.loop-i.i < length c.args.self.now.stages = omega (arith, c.loop-i.invariant.end) in
     let h = c.loop-i.invariant in
@@ -72,12 +72,12 @@ loop-i-preserved g c =
       next = h.next;
       spent = h.spent;
       end = h.end;
-      running = Running-more _ _ c.args.k c.loop-i.i c.index_mut.result.now _ _ mill idle c.requires.next c.requires.accepts c.loop-i.invariant.running inside c.index_mut.ensures.value c.bucket.new.self c.bucket.new.outputs.items c.in-Ok.ensures.added c.in-Ok.ensures.after c.in-Ok.ensures.idle c.bucket.ensures.spec c.bucket.ensures.fits;
+      running = Running-more _ _ c.args.k c.loop-i.i c.index_mut.result.now _ _ mill idle c.requires.next c.requires.accepts c.loop-i.invariant.running inside c.index_mut.ensures.value c.bucket.new.self c.bucket.new.outputs.items c.in-Ok.ensures.added c.in-Ok.ensures.after c.in-Ok.ensures.idle c.in-Ok.ensures.next c.bucket.ensures.spec c.bucket.ensures.fits c.in-Ok.ensures.lies;
     }
 
 pub bucket_into-requires-clause-next : goal.bucket_into-requires-clause-next
 bucket_into-requires-clause-next g c =
-    let mill = subst (λ (n : MillState). IsMill n) c.self.view_is c.self.invariant in
+    let mill = subst (λ (n : MillState). IsReady n) c.self.view_is c.self.invariant in
     let idle = ap (λ (n : MillState). n.spent) (sym c.self.view_is) ∙ c.if-self.false in
     let h = c.loop-i.invariant in
     let at_last : c.loop-i.i ≡ c.in-Some.last = omega (arith, c.loop-i-test.false, c.loop-i.auto.i-end) in
@@ -92,7 +92,7 @@ bucket_into-requires-clause-serial g c =
 
 pub bucket_into-requires-clause-accepts : goal.bucket_into-requires-clause-accepts
 bucket_into-requires-clause-accepts g c =
-    let mill = subst (λ (n : MillState). IsMill n) c.self.view_is c.self.invariant in
+    let mill = subst (λ (n : MillState). IsReady n) c.self.view_is c.self.invariant in
     let idle = ap (λ (n : MillState). n.spent) (sym c.self.view_is) ∙ c.if-self.false in
     let h = c.loop-i.invariant in
     let at_last : c.loop-i.i ≡ c.in-Some.last = omega (arith, c.loop-i-test.false, c.loop-i.auto.i-end) in
@@ -103,7 +103,7 @@ bucket_into-requires-clause-accepts g c =
 
 pub invariant_of-self-in_err-bucket_into : goal.invariant_of-self-in_err-bucket_into
 invariant_of-self-in_err-bucket_into g c =
-    let mill = subst (λ (n : MillState). IsMill n) c.self.view_is c.self.invariant in
+    let mill = subst (λ (n : MillState). IsReady n) c.self.view_is c.self.invariant in
     let idle = ap (λ (n : MillState). n.spent) (sym c.self.view_is) ∙ c.if-self.false in
     let h = c.loop-i.invariant in
     let at_last : c.loop-i.i ≡ c.in-Some.last = omega (arith, c.loop-i-test.false, c.loop-i.auto.i-end) in
@@ -111,11 +111,11 @@ invariant_of-self-in_err-bucket_into g c =
     let all : c.loop-i.i + 1 ≡ length c.args.self.now.stages = omega (arith, h.end, at_last) in
     let here = rw (← at_last) at c.index_mut-2.ensures.value in
     let renewed = Running-renewed c.args.self.now c.args.inputs.now c.args.k c.loop-i.i c.index_mut-2.result.now c.loop-i.self-inside.stages.items c.loop-i.outputs.items mill idle c.requires.next c.requires.accepts h.running inside here c.bucket_into.new.self c.bucket_into.ensures.spec c.bucket_into.ensures.fits in
-    IsMill-spent c.args.self.now.width _ h.width h.spent (rw at_last at renewed.fits)
+    IsReady-spent c.args.self.now.width _ h.width h.spent (rw at_last at renewed.fits)
 
 pub returns-in_err-bucket_into-clause-first : goal.returns-in_err-bucket_into-clause-first
 returns-in_err-bucket_into-clause-first g c =
-    let mill = subst (λ (n : MillState). IsMill n) c.self.view_is c.self.invariant in
+    let mill = subst (λ (n : MillState). IsReady n) c.self.view_is c.self.invariant in
     let idle = ap (λ (n : MillState). n.spent) (sym c.self.view_is) ∙ c.if-self.false in
     let h = c.loop-i.invariant in
     let at_last : c.loop-i.i ≡ c.in-Some.last = omega (arith, c.loop-i-test.false, c.loop-i.auto.i-end) in
@@ -130,7 +130,7 @@ returns-in_err-bucket_into-clause-first g c =
 
 pub returns-in_err-bucket_into-clause-operators : goal.returns-in_err-bucket_into-clause-operators
 returns-in_err-bucket_into-clause-operators g c =
-    let mill = subst (λ (n : MillState). IsMill n) c.self.view_is c.self.invariant in
+    let mill = subst (λ (n : MillState). IsReady n) c.self.view_is c.self.invariant in
     let idle = ap (λ (n : MillState). n.spent) (sym c.self.view_is) ∙ c.if-self.false in
     let h = c.loop-i.invariant in
     let at_last : c.loop-i.i ≡ c.in-Some.last = omega (arith, c.loop-i-test.false, c.loop-i.auto.i-end) in
@@ -142,20 +142,20 @@ returns-in_err-bucket_into-clause-operators g c =
 
 pub invariant_of-self-2 : goal.invariant_of-self-2
 invariant_of-self-2 g c =
-    let mill = subst (λ (n : MillState). IsMill n) c.self.view_is c.self.invariant in
+    let mill = subst (λ (n : MillState). IsReady n) c.self.view_is c.self.invariant in
     let idle = ap (λ (n : MillState). n.spent) (sym c.self.view_is) ∙ c.if-self.false in
     let h = c.loop-i.invariant in
     let at_last : c.loop-i.i ≡ c.in-Some.last = omega (arith, c.loop-i-test.false, c.loop-i.auto.i-end) in
     let inside : c.loop-i.i < length c.args.self.now.stages = omega (arith, h.end, at_last) in
     let all : c.loop-i.i + 1 ≡ length c.args.self.now.stages = omega (arith, h.end, at_last) in
     let here = rw (← at_last) at c.index_mut-2.ensures.value in
-    let stood = rw at_last at (Stood-more c.args.self.now c.args.inputs.now c.args.k c.loop-i.i c.index_mut-2.result.now c.loop-i.self-inside.stages.items c.loop-i.outputs.items mill idle c.requires.next c.requires.accepts h.running inside here c.bucket_into.new.self (rw c.as_slice.ensures.value at c.in_ok-bucket_into.ensures.after) c.in_ok-bucket_into.ensures.idle c.bucket_into.ensures.spec c.bucket_into.ensures.fits) in
+    let stood = rw at_last at (Stood-more c.args.self.now c.args.inputs.now c.args.k c.loop-i.i c.index_mut-2.result.now c.loop-i.self-inside.stages.items c.loop-i.outputs.items mill idle c.requires.next c.requires.accepts h.running inside here c.bucket_into.new.self (rw c.as_slice.ensures.value at c.in_ok-bucket_into.ensures.after) c.in_ok-bucket_into.ensures.idle c.in_ok-bucket_into.ensures.next c.bucket_into.ensures.spec c.bucket_into.ensures.fits) in
     let done : length c.args.self.now.stages ≤ c.in-Some.last + 1 = omega (arith, all, at_last) in
-    Stood-done _ _ c.args.k _ _ mill c.requires.accepts stood done _ h.width idle c.requires.next
+    Stood-done _ _ c.args.k _ _ mill c.requires.accepts stood done _ h.width
 
 pub returns-clause-rows : goal.returns-clause-rows
 returns-clause-rows g c =
-    let mill = subst (λ (n : MillState). IsMill n) c.self.view_is c.self.invariant in
+    let mill = subst (λ (n : MillState). IsReady n) c.self.view_is c.self.invariant in
     let idle = ap (λ (n : MillState). n.spent) (sym c.self.view_is) ∙ c.if-self.false in
     let h = c.loop-i.invariant in
     let at_last : c.loop-i.i ≡ c.in-Some.last = omega (arith, c.loop-i-test.false, c.loop-i.auto.i-end) in
@@ -168,33 +168,33 @@ returns-clause-rows g c =
 
 pub returns-clause-after : goal.returns-clause-after
 returns-clause-after g c =
-    let mill = subst (λ (n : MillState). IsMill n) c.self.view_is c.self.invariant in
+    let mill = subst (λ (n : MillState). IsReady n) c.self.view_is c.self.invariant in
     let idle = ap (λ (n : MillState). n.spent) (sym c.self.view_is) ∙ c.if-self.false in
     let h = c.loop-i.invariant in
     let at_last : c.loop-i.i ≡ c.in-Some.last = omega (arith, c.loop-i-test.false, c.loop-i.auto.i-end) in
     let inside : c.loop-i.i < length c.args.self.now.stages = omega (arith, h.end, at_last) in
     let all : c.loop-i.i + 1 ≡ length c.args.self.now.stages = omega (arith, h.end, at_last) in
     let here = rw (← at_last) at c.index_mut-2.ensures.value in
-    let stood = rw at_last at (Stood-more c.args.self.now c.args.inputs.now c.args.k c.loop-i.i c.index_mut-2.result.now c.loop-i.self-inside.stages.items c.loop-i.outputs.items mill idle c.requires.next c.requires.accepts h.running inside here c.bucket_into.new.self (rw c.as_slice.ensures.value at c.in_ok-bucket_into.ensures.after) c.in_ok-bucket_into.ensures.idle c.bucket_into.ensures.spec c.bucket_into.ensures.fits) in
+    let stood = rw at_last at (Stood-more c.args.self.now c.args.inputs.now c.args.k c.loop-i.i c.index_mut-2.result.now c.loop-i.self-inside.stages.items c.loop-i.outputs.items mill idle c.requires.next c.requires.accepts h.running inside here c.bucket_into.new.self (rw c.as_slice.ensures.value at c.in_ok-bucket_into.ensures.after) c.in_ok-bucket_into.ensures.idle c.in_ok-bucket_into.ensures.next c.bucket_into.ensures.spec c.bucket_into.ensures.fits) in
     let done : length c.args.self.now.stages ≤ c.in-Some.last + 1 = omega (arith, all, at_last) in
     Stood-after _ _ c.args.k _ _ mill c.requires.accepts stood done _ h.width
 
 pub returns-clause-operators : goal.returns-clause-operators
 returns-clause-operators g c =
-    let mill = subst (λ (n : MillState). IsMill n) c.self.view_is c.self.invariant in
+    let mill = subst (λ (n : MillState). IsReady n) c.self.view_is c.self.invariant in
     let idle = ap (λ (n : MillState). n.spent) (sym c.self.view_is) ∙ c.if-self.false in
     let h = c.loop-i.invariant in
     let at_last : c.loop-i.i ≡ c.in-Some.last = omega (arith, c.loop-i-test.false, c.loop-i.auto.i-end) in
     let inside : c.loop-i.i < length c.args.self.now.stages = omega (arith, h.end, at_last) in
     let all : c.loop-i.i + 1 ≡ length c.args.self.now.stages = omega (arith, h.end, at_last) in
     let here = rw (← at_last) at c.index_mut-2.ensures.value in
-    let stood = rw at_last at (Stood-more c.args.self.now c.args.inputs.now c.args.k c.loop-i.i c.index_mut-2.result.now c.loop-i.self-inside.stages.items c.loop-i.outputs.items mill idle c.requires.next c.requires.accepts h.running inside here c.bucket_into.new.self (rw c.as_slice.ensures.value at c.in_ok-bucket_into.ensures.after) c.in_ok-bucket_into.ensures.idle c.bucket_into.ensures.spec c.bucket_into.ensures.fits) in
+    let stood = rw at_last at (Stood-more c.args.self.now c.args.inputs.now c.args.k c.loop-i.i c.index_mut-2.result.now c.loop-i.self-inside.stages.items c.loop-i.outputs.items mill idle c.requires.next c.requires.accepts h.running inside here c.bucket_into.new.self (rw c.as_slice.ensures.value at c.in_ok-bucket_into.ensures.after) c.in_ok-bucket_into.ensures.idle c.in_ok-bucket_into.ensures.next c.bucket_into.ensures.spec c.bucket_into.ensures.fits) in
     let done : length c.args.self.now.stages ≤ c.in-Some.last + 1 = omega (arith, all, at_last) in
     stood.renewed.specs
 
 pub returns-in_default-clause-after : goal.returns-in_default-clause-after
 returns-in_default-clause-after g c = λ before after.
-    let mill = subst (λ (n : MillState). IsMill n) c.self.view_is c.self.invariant in
+    let mill = subst (λ (n : MillState). IsReady n) c.self.view_is c.self.invariant in
     let m = c.args.self.now in
     let few : length c.self.inside.stages.items ≤ 0 = grind (arith, common_steps) in
     let none : length m.stages ≤ 0 = subst (λ (n : MillState). length n.stages ≤ 0) c.self.view_is few in

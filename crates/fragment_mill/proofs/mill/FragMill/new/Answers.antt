@@ -1,6 +1,6 @@
 use Rattle.std.proofs.Common.{refl}
 use Rattle.fragment_mill.proofs.mill.FragMill.new.Goals as goal
-use Rattle.fragment_mill.proofs.Starts.{frag-sound, new-all-fit, new-all-idle, new-all-after, IsMill-none, MillAfter-none, made-of, operators-of}
+use Rattle.fragment_mill.proofs.Starts.{frag-sound, new-all-fit, new-all-idle, new-all-after, IsReady-none, MillAfter-none, made-of, operators-of}
 
 pub new_stages-requires : goal.new_stages-requires
 new_stages-requires c =
@@ -14,7 +14,7 @@ invariant_of-result c =
     let e = rw c.as_slice-2.ensures at c.in_ok-stages.ensures in
     let w = c.args.plan.now.width in
     let ops = c.index-as_slice-frag.result.ops in
-    rw e (IsMill-none w _ (new-all-fit w ops sound) (new-all-idle w ops) (new-all-after w ops))
+    rw e (IsReady-none w _ (new-all-fit w ops sound) (new-all-idle w ops) (new-all-after w ops))
 
 pub returns-clause-made : goal.returns-clause-made
 returns-clause-made c f is =

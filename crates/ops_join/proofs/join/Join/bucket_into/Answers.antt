@@ -1,10 +1,12 @@
-use Rattle.std.proofs.Common.{◌*◌, refl}
+use Rattle.std.proofs.Common.{◌≡◌, ◌*◌, true, refl}
 use Rattle.ops_join.specs.Sides.{bucket_rows}
-use Rattle.ops_join.specs.Keeping.{IsKept}
+use Rattle.ops_join.specs.Saving.{can_all_wait}
 use Rattle.dpc_model.specs.Fragments.{at_port}
 use Rattle.dpc_model.proofs.Buckets.{LiesBelow-next, bucket-from}
 use Rattle.dpc_model.proofs.Serial.{adjacent-ordered}
-use Rattle.ops_join.proofs.Joining.{IsKept-next, taken-ordered, answer-is, kept-next}
+use Rattle.ops_join.proofs.Joining.{taken-ordered, answer-is, kept-next}
+use Rattle.ops_join.proofs.Resumes.{IsKept-wait}
+use Rattle.ops_join.proofs.Inside.{wait-next}
 use Rattle.ops_join.proofs.Givings.{takes-as, first-as}
 use Rattle.ops_join.proofs.join.Join.bucket_into.Goals as goal
 
@@ -13,8 +15,8 @@ advance_giving-requires-clause-after g c =
     let accepts = rw (← c.self.view_is) at c.requires.accepts in
     let next = rw (← c.self.view_is) at c.requires.next in
     let j = c.self.inside in
-    let left : IsKept (c.args.k * j.width) j.sides.left = rw next c.self.invariant.0 in
-    let right : IsKept (c.args.k * j.width) j.sides.right = rw next c.self.invariant.1 in
+    let left = IsKept-wait j.within (c.args.k * j.width) j.sides.left (rw next c.self.invariant.0) in
+    let right = IsKept-wait j.within (c.args.k * j.width) j.sides.right (rw next c.self.invariant.1) in
     record {
       begin = c.args.k * j.width;
       left = left.below;
@@ -28,7 +30,7 @@ advance_giving-requires-clause-left g c =
     let accepts = rw (← c.self.view_is) at c.requires.accepts in
     let next = rw (← c.self.view_is) at c.requires.next in
     let j = c.self.inside in
-    let kept : IsKept (c.args.k * j.width) j.sides.left = rw next c.self.invariant.0 in
+    let kept = IsKept-wait j.within (c.args.k * j.width) j.sides.left (rw next c.self.invariant.0) in
     taken-ordered j.width c.args.k 0 j.sides.left c.args.inputs.now kept.order kept.below accepts.bucket
 
 pub advance_giving-requires-clause-right : goal.advance_giving-requires-clause-right
@@ -36,7 +38,7 @@ advance_giving-requires-clause-right g c =
     let accepts = rw (← c.self.view_is) at c.requires.accepts in
     let next = rw (← c.self.view_is) at c.requires.next in
     let j = c.self.inside in
-    let kept : IsKept (c.args.k * j.width) j.sides.right = rw next c.self.invariant.1 in
+    let kept = IsKept-wait j.within (c.args.k * j.width) j.sides.right (rw next c.self.invariant.1) in
     taken-ordered j.width c.args.k 1 j.sides.right c.args.inputs.now kept.order kept.below accepts.bucket
 
 pub invariant_of-self : goal.invariant_of-self
@@ -45,10 +47,10 @@ invariant_of-self g c =
     let next = rw (← c.self.view_is) at c.requires.next in
     let j = c.self.inside in
     let k = c.args.k in
-    let left : IsKept (k * j.width) j.sides.left = rw next c.self.invariant.0 in
-    let right : IsKept (k * j.width) j.sides.right = rw next c.self.invariant.1 in (
-      IsKept-next j.within j.width k 0 j.sides.left c.advance_giving.new.self.left c.args.inputs.now left accepts.bucket c.in-Ok.ensures.left,
-      IsKept-next j.within j.width k 1 j.sides.right c.advance_giving.new.self.right c.args.inputs.now right accepts.bucket c.in-Ok.ensures.right,
+    let left : can_all_wait j.within (k * j.width) j.sides.left ≡ true = rw next c.self.invariant.0 in
+    let right : can_all_wait j.within (k * j.width) j.sides.right ≡ true = rw next c.self.invariant.1 in (
+      wait-next j.within j.width k 0 j.sides.left c.advance_giving.new.self.left c.args.inputs.now left accepts.bucket c.in-Ok.ensures.left,
+      wait-next j.within j.width k 1 j.sides.right c.advance_giving.new.self.right c.args.inputs.now right accepts.bucket c.in-Ok.ensures.right,
     )
 
 pub returns-in-Ok-clause-rows : goal.returns-in-Ok-clause-rows

@@ -1,7 +1,9 @@
-use Rattle.std.proofs.Common.{◌*◌, ◌∙◌, refl}
-use Rattle.ops_join.specs.Keeping.{IsKept}
+use Rattle.std.proofs.Common.{◌≡◌, ◌*◌, ◌∙◌, true, refl}
+use Rattle.ops_join.specs.Saving.{can_all_wait}
 use Rattle.dpc_model.proofs.Buckets.{LiesBelow-next}
-use Rattle.ops_join.proofs.Joining.{IsKept-next, taken-ordered, answer-is, kept-next}
+use Rattle.ops_join.proofs.Joining.{taken-ordered, answer-is, kept-next}
+use Rattle.ops_join.proofs.Resumes.{IsKept-wait}
+use Rattle.ops_join.proofs.Inside.{answer-inside, wait-next}
 use Rattle.ops_join.proofs.join.JoinEngine.bucket.Goals as goal
 
 pub advance-requires-clause-left : goal.advance-requires-clause-left
@@ -9,7 +11,7 @@ advance-requires-clause-left c =
     let accepts = rw (← c.self.view_is) at c.requires.accepts in
     let next = rw (← c.self.view_is) at c.requires.next in
     let j = c.self.inside in
-    let kept : IsKept (c.args.k * j.width) j.sides.left = rw next c.self.invariant.0 in
+    let kept = IsKept-wait j.within (c.args.k * j.width) j.sides.left (rw next c.self.invariant.0) in
     taken-ordered j.width c.args.k 0 j.sides.left c.args.inputs.now kept.order kept.below accepts.bucket
 
 pub advance-requires-clause-right : goal.advance-requires-clause-right
@@ -17,7 +19,7 @@ advance-requires-clause-right c =
     let accepts = rw (← c.self.view_is) at c.requires.accepts in
     let next = rw (← c.self.view_is) at c.requires.next in
     let j = c.self.inside in
-    let kept : IsKept (c.args.k * j.width) j.sides.right = rw next c.self.invariant.1 in
+    let kept = IsKept-wait j.within (c.args.k * j.width) j.sides.right (rw next c.self.invariant.1) in
     taken-ordered j.width c.args.k 1 j.sides.right c.args.inputs.now kept.order kept.below accepts.bucket
 
 pub invariant_of-self : goal.invariant_of-self
@@ -26,10 +28,10 @@ invariant_of-self c =
     let next = rw (← c.self.view_is) at c.requires.next in
     let j = c.self.inside in
     let k = c.args.k in
-    let left : IsKept (k * j.width) j.sides.left = rw next c.self.invariant.0 in
-    let right : IsKept (k * j.width) j.sides.right = rw next c.self.invariant.1 in (
-      IsKept-next j.within j.width k 0 j.sides.left c.advance.new.self.left c.args.inputs.now left accepts.bucket c.in-Ok.ensures.left,
-      IsKept-next j.within j.width k 1 j.sides.right c.advance.new.self.right c.args.inputs.now right accepts.bucket c.in-Ok.ensures.right,
+    let left : can_all_wait j.within (k * j.width) j.sides.left ≡ true = rw next c.self.invariant.0 in
+    let right : can_all_wait j.within (k * j.width) j.sides.right ≡ true = rw next c.self.invariant.1 in (
+      wait-next j.within j.width k 0 j.sides.left c.advance.new.self.left c.args.inputs.now left accepts.bucket c.in-Ok.ensures.left,
+      wait-next j.within j.width k 1 j.sides.right c.advance.new.self.right c.args.inputs.now right accepts.bucket c.in-Ok.ensures.right,
     )
 
 pub returns-in-Ok-clause-answer : goal.returns-in-Ok-clause-answer
@@ -40,6 +42,16 @@ returns-in-Ok-clause-answer c =
     (λ before a.
     c.from_vec.ensures
     ∙ answer-is j.within j.sides.keys j.width c.args.k before c.args.inputs.now j.sides.left j.sides.right c.in-Ok.rows.items a.below accepts.bucket a.left a.right c.in-Ok.ensures.rows)
+
+pub returns-in-Ok-clause-inside : goal.returns-in-Ok-clause-inside
+returns-in-Ok-clause-inside c =
+    let accepts = rw (← c.self.view_is) at c.requires.accepts in
+    let next = rw (← c.self.view_is) at c.requires.next in
+    let j = c.self.inside in
+    let k = c.args.k in
+    let left : can_all_wait j.within (k * j.width) j.sides.left ≡ true = rw next c.self.invariant.0 in
+    let right : can_all_wait j.within (k * j.width) j.sides.right ≡ true = rw next c.self.invariant.1 in
+    rw (← c.self.view_is, c.from_vec.ensures) (answer-inside j.within j.sides.keys j.width k c.args.inputs.now j.sides.left j.sides.right c.in-Ok.rows.items left right accepts.bucket c.in-Ok.ensures.rows)
 
 pub returns-in-Ok-clause-after : goal.returns-in-Ok-clause-after
 returns-in-Ok-clause-after c =
