@@ -26,3 +26,4 @@ pub mod Presently
 pub mod Entries
 pub mod Stems
 pub mod Recovering
+pub mod Choosing

@@ -179,3 +179,9 @@ NoneStartsAfresh script =
     CanSettle script → OpensWell script (lockstep_journal script) → (x g b a r now : ℕ) (n m : PlainNode) (done rest : List Event) → role_of script.plan x ≡ IsNode g b → is_spared script x ≡ true → role_of script.plan a ≡ IsNode g r →
     lockstep_journal script ≡ done ++ Tick a now ∷ rest → length script.phases + 1 < (progress script done).phase → (slot_of (run script.plan done) a).node ≡ Some n → n.recovering ≡ true →
     (slot_of (happens (run script.plan done) (Tick a now)) a).node ≡ Some m → m.recovering ≡ true
+
+-- of each fragment of such a script one and the same replica stays whole, whatever comes
+abbrev pub KeepsOneWhole : Script → Type 0
+KeepsOneWhole script =
+    CanSettle script → keeps_one script ≡ true → (f : ℕ) → f < length script.plan.frags → (x : ℕ) × (r : ℕ) × (role_of script.plan x ≡ IsNode f r) × (is_spared script x ≡ true)
+    × ((events : List Event) → IsTrue (is_live_so_far script events) → StandsWhole (run script.plan events) x)

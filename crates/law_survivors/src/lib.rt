@@ -4,12 +4,17 @@
 ghost use Rattle.std.specs.Prelude.{List};
 ghost use Rattle.dpc_model.specs.declared.messages.Event.{Event};
 ghost use Rattle.dpc_model.specs.declared.scripts.Script.{Script};
-ghost use Rattle.law_survivors.specs.Spared.{SparedStandWhole, SendersKeepForSpared, SnapshotsSuffice, SparedAreNotRefused, HearWhole, RefusedAreNotAnswered, AckedIsDone, KnowsPresently, KnowNoMore, KeptWhileRecovering, NoneStartsAfresh};
+ghost use Rattle.law_survivors.specs.Spared.{SparedStandWhole, KeepsOneWhole, SendersKeepForSpared, SnapshotsSuffice, SparedAreNotRefused, HearWhole, RefusedAreNotAnswered, AckedIsDone, KnowsPresently, KnowNoMore, KeptWhileRecovering, NoneStartsAfresh};
 
 /// In every live run a replica that the script never crashes is up at each point, and does not recover, whichever others are crashed, of
 /// its own fragment and of those that it reads.
 pub fn the_spared_never_recover()
     ensures { (script : Script) (events : List Event) → SparedStandWhole script events }
+{}
+
+/// So where a script keeps one replica of each fragment, which one reads off it, each fragment has one that stays up and never recovers.
+pub fn each_fragment_keeps_a_whole_one()
+    ensures { (script : Script) → KeepsOneWhole script }
 {}
 
 /// What the replicas of a fragment may forget, and what was acknowledged to them by such a reader, is at most what the reader holds, in
