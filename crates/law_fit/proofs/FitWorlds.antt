@@ -35,7 +35,7 @@ envelope-fits home most e p checked role fits truth safe orderly =
 
 -- ---- a world
 
-node-good : (w : World) (most a f r : ℕ) (p : PlainNode) → IsFineWorld w most → role_of w.plan a ≡ IsNode f r → (slot_of w a).node ≡ Some p → IsGood (home_of w.plan (f, r)) most p
+pub node-good : (w : World) (most a f r : ℕ) (p : PlainNode) → IsFineWorld w most → role_of w.plan a ≡ IsNode f r → (slot_of w a).node ≡ Some p → IsGood (home_of w.plan (f, r)) most p
 node-good w most a f r p fine role up =
     let good = slots-both w.plan most (nodes_of w.plan) w.nodes fine.safe.nodes_hold fine.orderly.nodes_up in
     let found = slots-at w.plan most (node_place w.plan a) (f, r) (nodes_of w.plan) w.nodes (node-at w.plan a f r role) good in

@@ -39,7 +39,7 @@ nth-columns (c ∷ cs) [] i h = absurd h
 nth-columns (c ∷ cs) (ts ∷ tss) zero h = h.0
 nth-columns (c ∷ cs) (ts ∷ tss) (suc i) h = nth-columns cs tss i h.1
 
-push-columns : (cs : List ℕ) (tss : List (List Tuple)) (c : ℕ) (ts : List Tuple) → AllColumns cs tss → list_all (has_columns c) ts ≡ true → AllColumns (push cs c) (push tss ts)
+pub push-columns : (cs : List ℕ) (tss : List (List Tuple)) (c : ℕ) (ts : List Tuple) → AllColumns cs tss → list_all (has_columns c) ts ≡ true → AllColumns (push cs c) (push tss ts)
 push-columns [] [] c ts h k = (k, tt)
 push-columns [] (us ∷ tss) c ts h k = absurd h
 push-columns (d ∷ cs) [] c ts h k = absurd h
@@ -105,7 +105,7 @@ output-columns (Aggregate size step group aggs) cs ins b even h = windows-column
 
 -- ---- a fragment
 
-tagged-columns : (ports : List ℕ) (p : ℕ) (xs : List Tagged) → list_all (fits_port ports) xs ≡ true → list_all (has_columns (nth 0 ports p)) (at_port p xs) ≡ true
+pub tagged-columns : (ports : List ℕ) (p : ℕ) (xs : List Tagged) → list_all (fits_port ports) xs ≡ true → list_all (has_columns (nth 0 ports p)) (at_port p xs) ≡ true
 tagged-columns ports p [] h = refl
 tagged-columns ports p (x ∷ xs) h =
     let k = both (fits_port ports x) (list_all (fits_port ports) xs) h in
@@ -117,17 +117,17 @@ tagged-columns ports p (x ∷ xs) h =
       | false ↦ λ e. tagged-columns ports p xs k.1
     ]) refl
 
-wire-columns : (ports outcols : List ℕ) (xs : List Tagged) (outs : List (List Tuple)) (w : Wire) → list_all (fits_port ports) xs ≡ true → AllColumns outcols outs →
+pub wire-columns : (ports outcols : List ℕ) (xs : List Tagged) (outs : List (List Tuple)) (w : Wire) → list_all (fits_port ports) xs ≡ true → AllColumns outcols outs →
     list_all (has_columns (wire_columns ports outcols w)) (read_wire xs outs w) ≡ true
 wire-columns ports outcols xs outs (Port p) h k = tagged-columns ports p xs h
 wire-columns ports outcols xs outs (Op i) h k = nth-columns outcols outs i k
 
-reads-columns : (ports outcols : List ℕ) (xs : List Tagged) (outs : List (List Tuple)) (ws : List Wire) → list_all (fits_port ports) xs ≡ true → AllColumns outcols outs →
+pub reads-columns : (ports outcols : List ℕ) (xs : List Tagged) (outs : List (List Tuple)) (ws : List Wire) → list_all (fits_port ports) xs ≡ true → AllColumns outcols outs →
     AllColumns (map (wire_columns ports outcols) ws) (map (read_wire xs outs) ws)
 reads-columns ports outcols xs outs [] h k = tt
 reads-columns ports outcols xs outs (w ∷ ws) h k = (wire-columns ports outcols xs outs w h k, reads-columns ports outcols xs outs ws h k)
 
-outputs-columns : (ports outcols : List ℕ) (ops : List OpSpec) (xs : List Tagged) (outs : List (List Tuple)) (b : ℕ) → list_all (fits_port ports) xs ≡ true →
+pub outputs-columns : (ports outcols : List ℕ) (ops : List OpSpec) (xs : List Tagged) (outs : List (List Tuple)) (b : ℕ) → list_all (fits_port ports) xs ≡ true →
     are_even_ops ports outcols ops ≡ true → AllColumns outcols outs → AllColumns (columns_after ports outcols ops) (outputs_after outs ops xs b)
 outputs-columns ports outcols [] xs outs b h even k = k
 outputs-columns ports outcols (op ∷ ops) xs outs b h even k =
@@ -220,7 +220,7 @@ ideal_upto-below plan s b checked =
     let same = cut-ideal_upto plan s b b checked.sound.ops (omega arith) in
     rw same at (all-filter (is_below b) (is_below b) (ideal_upto plan s b) (λ t h. h))
 
-all-both : {X : Type 0} (p q : X → Bool) (xs : List X) → list_all p xs ≡ true → list_all q xs ≡ true → list_all (λ x. p x && q x) xs ≡ true
+pub all-both : {X : Type 0} (p q : X → Bool) (xs : List X) → list_all p xs ≡ true → list_all q xs ≡ true → list_all (λ x. p x && q x) xs ≡ true
 all-both p q [] h k = refl
 all-both p q (x ∷ xs) h k =
     let a = both (p x) (list_all p xs) h in

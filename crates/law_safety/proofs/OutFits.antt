@@ -72,7 +72,7 @@ fragment-at plan done (f ∷ rest) d (suc i) h r even =
     let e = both (are_even_ops ports [] f.ops) (are_even_frags plan (push done c) rest) even in
     rw one (fragment-at plan (push done c) rest d i (omega (arith, h)) (rw (length-push done c) r.1) e.1)
 
-home-fragment : (home : Home) → IsPlace home → HasFragment home.plan (frags_columns home.plan [] home.plan.frags) home.frag (spec_of home)
+pub home-fragment : (home : Home) → IsPlace home → HasFragment home.plan (frags_columns home.plan [] home.plan.frags) home.frag (spec_of home)
 home-fragment home place =
     let one : 0 + home.frag ≡ home.frag = omega arith in
     rw one at (fragment-at home.plan [] home.plan.frags no_fragment home.frag place.there place.checked.sound.inputs place.checked.even)
@@ -119,7 +119,7 @@ inputs-below b c p (q ∷ ports) h =
     (tags-below b p (cut q.inlet.held.stable c) (all-filter (is_below b) (is_below c) q.inlet.held.stable (λ t k. lt-test t.stime b (let less = lt-of t.stime c k in omega (arith, less, h)))))
     (inputs-below b c (p + 1) ports h)
 
-inputs-columns : (c : ℕ) (cs : List ℕ) (ports : List Port) → AreColumns cs (map held_at ports) → AllColumns cs (map (λ (q : Port). cut q.inlet.held.stable c) ports)
+pub inputs-columns : (c : ℕ) (cs : List ℕ) (ports : List Port) → AreColumns cs (map held_at ports) → AllColumns cs (map (λ (q : Port). cut q.inlet.held.stable c) ports)
 inputs-columns c [] [] h = tt
 inputs-columns c [] (q ∷ ports) h = absurd h
 inputs-columns c (d ∷ cs) [] h = absurd h

@@ -1,5 +1,5 @@
 -- What stands of a `SavedSlots`, in words that crates above cite.
-use Rattle.std.specs.Prelude.{◌≡◌, ℕ, Bool, false, List}
+use Rattle.std.specs.Prelude.{◌≡◌, ℕ, Bool, false, Option, List}
 use Rattle.disk_model.specs.Disk.{Image, History, LeavesOnly}
 use Rattle.disk_model.specs.Synced.{IsSynced}
 use Rattle.disk_model.specs.declared.disk.Disk.{Ghosts}
@@ -27,6 +27,10 @@ module _ {D : Type 0} {g : Ghosts D} where
   -- how many bytes a slot has
   abbrev pub room_in : SavedSlots D g → ℕ
   room_in slots = slots.room
+
+  -- the slot that was saved to or given last, whether it is the second one
+  abbrev pub slot_in : SavedSlots D g → Option Bool
+  slot_in slots = slots.last
 
   -- the number of the payload that was saved or given last, 0 where there is none
   abbrev pub number_in : SavedSlots D g → ℕ

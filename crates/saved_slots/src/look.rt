@@ -45,6 +45,7 @@ pub(crate) fn look<D: Disk>(alloc: Global, disk: &mut D, room: u64) -> Result<Fo
     ensures reading { D.is_honest disk.old → IfOk result (λ found. reading_of found.payload ≡ read_of room (D.seen disk.old)) }
     ensures broken { D.is_honest disk.old → IfErr result (λ fault. (slot : ℕ) → fault ≡ Broken slot → IsBroken room (D.seen disk.old) slot) }
     ensures disk_fault { IsErrOf result DiskFault → D.faults disk.old < D.faults disk.new }
+    ensures faults { D.faults disk.old ≤ D.faults disk.new }
 {
     // Each place on the disk is a u64.
     let _size = disk.size();

@@ -69,7 +69,7 @@ impl<D: Disk> SavedSlots<D> {
     ghost use Rattle.saved_slots.specs.Slots.{number_of, read_of, Nothing, Holding, IsBroken};
     ghost use Rattle.saved_slots.specs.Looking.{reading_of};
     ghost use Rattle.saved_slots.specs.Standing.{IsOldOrNew};
-    ghost use Rattle.saved_slots.specs.Resting.{disk_in, seen_in, history_in, faults_in, room_in, number_in, must_reopen, kept_in, IsResting, IsUnchanged, SavesOver};
+    ghost use Rattle.saved_slots.specs.Resting.{disk_in, seen_in, history_in, faults_in, room_in, slot_in, number_in, must_reopen, kept_in, IsResting, IsUnchanged, SavesOver};
     ghost use Rattle.saved_slots.specs.Faults.{refusal_of, IsStop};
     ghost use Rattle.saved_slots.specs.declared.fault.SaveFault.TheVariants.{NoMemory, DiskFault, Full, Broken, Reopen};
 
@@ -87,6 +87,8 @@ impl<D: Disk> SavedSlots<D> {
         ensures extent { IfOk result (λ slots. D.extent (disk_in slots) ≡ D.extent disk) }
         ensures extent_err { IfErr result (λ refused. D.extent refused.1 ≡ D.extent disk) }
         ensures disk_fault { IfErr result (λ refused. refused.0 ≡ DiskFault → D.faults disk < D.faults refused.1) }
+        ensures faults { IfOk result (λ slots. D.faults disk ≤ faults_in slots) }
+        ensures faults_err { IfErr result (λ refused. D.faults disk ≤ D.faults refused.1) }
         ensures stop { IfErr result (λ refused. IsStop refused.0) }
         ensures honest { D.is_honest disk → IfErr result (λ refused. D.is_honest refused.1) }
     {
@@ -118,6 +120,7 @@ impl<D: Disk> SavedSlots<D> {
         ensures kept { D.is_honest disk → IfOk result (λ opened. kept_in opened.0 ≡ read_of room (D.seen disk)) }
         ensures room { IfOk result (λ opened. room_in opened.0 ≡ room) }
         ensures number { D.is_honest disk → IfOk result (λ opened. number_in opened.0 ≡ number_of room (D.seen disk) (given room (D.seen disk))) }
+        ensures slot { D.is_honest disk → IfOk result (λ opened. slot_in opened.0 ≡ given room (D.seen disk)) }
         ensures fresh { IfOk result (λ opened. must_reopen opened.0 ≡ false) }
         ensures extent { IfOk result (λ opened. D.extent (disk_in opened.0) ≡ D.extent disk) }
         ensures extent_err { IfErr result (λ refused. D.extent refused.1 ≡ D.extent disk) }
@@ -126,6 +129,8 @@ impl<D: Disk> SavedSlots<D> {
         ensures honest { D.is_honest disk → IfErr result (λ refused. D.is_honest refused.1) }
         ensures broken { D.is_honest disk → IfErr result (λ refused. (slot : ℕ) → refused.0 ≡ Broken slot → IsBroken room (D.seen disk) slot) }
         ensures disk_fault { IfErr result (λ refused. refused.0 ≡ DiskFault → D.faults disk < D.faults refused.1) }
+        ensures faults { IfOk result (λ opened. D.faults disk ≤ faults_in opened.0) }
+        ensures faults_err { IfErr result (λ refused. D.faults disk ≤ D.faults refused.1) }
     {
         match look(alloc, &mut disk, room) {
             Ok(found) => {
@@ -172,6 +177,7 @@ impl<D: Disk> SavedSlots<D> {
         ensures whatever { IsResting self.old → IsOldOrNew (room_in self.old) (kept_in self.old) (P.bytes payload.now) (seen_in self.new) }
         ensures honest { IsResting self.old → D.is_honest (disk_in self.new) }
         ensures disk_fault { IsErrOf result DiskFault → faults_in self.old < faults_in self.new }
+        ensures faults { faults_in self.old ≤ faults_in self.new }
         ensures refused { (why : _) → refusal_of (must_reopen self.old) (room_in self.old) (length (P.bytes payload.now)) ≡ Some why → (result ≡ Err why) × IsUnchanged self.old self.new }
         ensures reopen { IsErrOf result Reopen → must_reopen self.old ≡ true }
         ensures full { (need room : ℕ) → result ≡ Err (Full need room) → (must_reopen self.old ≡ false) × (room_in self.old < length (P.bytes payload.now) + 32) }
@@ -214,6 +220,13 @@ impl<D: Disk> SavedSlots<D> {
         ensures { result ≡ number_in self.now }
     {
         self.number
+    }
+
+    /// The slot that was saved to or given last, whether it is the second one; `None` where there is none.
+    pub fn last_slot(&self) -> Option<bool>
+        ensures { result ≡ slot_in self.now }
+    {
+        self.last
     }
 
     /// Whether a save was stopped, so that the disk is to be opened again.

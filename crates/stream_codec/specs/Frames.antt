@@ -8,6 +8,7 @@ use Rattle.dpc_model.specs.declared.messages.Event.{Event}
 use Rattle.dpc_model.specs.declared.messages.Event.TheVariants as entry
 use Rattle.dpc_model.specs.declared.tuples.Item.{Item}
 use Rattle.dpc_model.specs.declared.tuples.Item.TheVariants as item
+use Rattle.dpc_model.specs.declared.tuples.Tuple.{Tuple}
 use Rattle.stream_codec.specs.Kinds.{width, holds, byte_of, kind_of, fields, has_columns}
 use Rattle.stream_codec.specs.declared.faults.DecodeFault.{DecodeFault}
 use Rattle.stream_codec.specs.declared.faults.DecodeFault.TheVariants.{NoMemory, Short, BadKind, BadLength, BadValue}
@@ -118,6 +119,10 @@ bytes_of_parts k ns vs = byte_of k ∷ big_bytes 4 (length (body_of k ns vs)) ++
 
 unfoldable pub frame_bytes : Frame → List ℕ
 frame_bytes f = bytes_of_parts (kind_in f) (numbers_in f) (values_in f)
+
+-- those of a tuple alone, as of a tentative item
+abbrev pub tuple_bytes : Tuple → List ℕ
+tuple_bytes t = frame_bytes (frame.Item (item.Tentative t))
 
 -- ---- the frames that can be told by bytes
 

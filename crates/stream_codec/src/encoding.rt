@@ -11,7 +11,7 @@ use crate::kinds::{Field, Kind, VALUE_WIDTH};
 use byteorder::{BigEndian, ByteOrder};
 use dpc_lists::faults::NoMemory;
 use dpc_model::messages::Event;
-use dpc_model::tuples::Item;
+use dpc_model::tuples::{Item, Tuple};
 use std::alloc::Global;
 
 /// The lowest bytes of a number, so many of them.
@@ -84,6 +84,23 @@ fn put_pair(bytes: &mut Vec<u8>, kind: Kind, actor: u32, number: u64) -> Result<
     put_parts(bytes, kind, &[u64::from(actor), number], &[])
 }
 
+/// The frame of a tuple alone, which is that of the tuple as a tentative item.
+#[tactic(auto, unfolding(crate::specs::Frames::frame_bytes))]
+pub fn put_tuple(bytes: &mut Vec<u8>, tuple: &Tuple) -> Result<(), NoMemory>
+    ensures { OnOk result (bytes.new.items ≡ bytes.old.items ++ spec.tuple_bytes tuple.now) }
+{
+    let values = tuple.vals.as_slice();
+    put_parts(bytes, Kind::Tentative, &[tuple.stime], values)
+}
+
+/// How many bytes the frame of a tuple alone has.
+#[tactic(auto, unfolding(crate::specs::Frames::frame_bytes))]
+pub fn tuple_length(tuple: &Tuple) -> u64
+    ensures { result ≡ length (spec.tuple_bytes tuple.now) }
+{
+    5 + body_length(Kind::Tentative, tuple.vals.as_slice())
+}
+
 /// An item's frame. A number that is wider than its field leaves its lowest bytes there.
 #[tactic(auto, unfolding(crate::specs::Frames::frame_bytes))]
 pub fn put_item(bytes: &mut Vec<u8>, item: &Item) -> Result<(), NoMemory>
@@ -94,10 +111,7 @@ pub fn put_item(bytes: &mut Vec<u8>, item: &Item) -> Result<(), NoMemory>
             let values = tuple.vals.as_slice();
             put_parts(bytes, Kind::Stable, &[*number, tuple.stime], values)
         }
-        Item::Tentative(tuple) => {
-            let values = tuple.vals.as_slice();
-            put_parts(bytes, Kind::Tentative, &[tuple.stime], values)
-        }
+        Item::Tentative(tuple) => put_tuple(bytes, tuple),
         Item::Passed(upto) => put_parts(bytes, Kind::Passed, &[*upto], &[]),
         Item::Boundary(bound, count) => put_parts(bytes, Kind::Boundary, &[*bound, *count], &[]),
         Item::Undo(number) => put_parts(bytes, Kind::Undo, &[*number], &[]),

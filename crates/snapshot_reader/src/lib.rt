@@ -1,0 +1,11 @@
+//! Snapshots that were saved as bytes, read again.
+#![tactic(auto)]
+
+mod bytes;
+pub mod faults;
+mod forms;
+mod operators;
+mod plain;
+pub mod snapshot;
+#[cfg(test)]
+mod tests;

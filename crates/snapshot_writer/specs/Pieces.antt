@@ -1,0 +1,65 @@
+-- The pieces in which a snapshot is saved.
+use Rattle.std.specs.Prelude.{◌≡◌, ℕ, zero, suc, ◌-◌, ◌/◌, List, [], ◌∷◌, ◌++◌, length, take, drop, map, flat_map}
+use Rattle.std.specs.List.{concat}
+use Rattle.std.proofs.Common.{refl, sym, ap, ◌∙◌, append_assoc, append-nil}
+use Rattle.std.proofs.lemmas.List.{take-append-drop}
+use Rattle.std.proofs.lemmas.List.Concat.{flat_map-append}
+use Rattle.std.proofs.lemmas.List.Folds.{concat-append}
+use Rattle.byteorder.specs.Endian.{big_bytes}
+use Rattle.dpc_model.specs.declared.tuples.Tuple.{Tuple}
+use Rattle.node_model.specs.Stands.{SnapValue}
+use Rattle.fragment_mill.specs.Mills.{MillState}
+use Rattle.fragment_mill.specs.States.{parts_of}
+use Rattle.stream_codec.specs.Frames.{tuple_bytes}
+use Rattle.snapshot_form.specs.Bytes.{tuples_bytes, part_bytes, parts_bytes, head_bytes, snapshot_bytes}
+
+-- a list in n parts of k elements each, and one of those that are left
+abbrev pub split_in : {T : Type 0} → ℕ → ℕ → List T → List (List T)
+split_in k zero xs = xs ∷ []
+split_in k (suc n) xs = take k xs ∷ split_in k n (drop k xs)
+
+-- how many kept tuples stand in a piece
+abbrev pub piece_size : ℕ
+piece_size = 512
+
+-- how many parts of so many tuples stand in front of the last one, which has at least one tuple where there is any
+abbrev pub parts_before_last : ℕ → ℕ
+parts_before_last n = (n - 1) / piece_size
+
+-- the kept tuples, part by part
+abbrev pub kept_parts : List Tuple → List (List Tuple)
+kept_parts ts = split_in piece_size (parts_before_last (length ts)) ts
+
+-- the head with the count of the kept tuples, the kept tuples, and what each operator keeps
+unfoldable pub pieces_of : SnapValue MillState → List (List ℕ)
+pieces_of s = (head_bytes s ++ big_bytes 4 (length s.kept)) ∷ map tuples_bytes (kept_parts s.kept) ++ map part_bytes (parts_of s.mill).operators
+
+-- ---- the pieces, one behind another, are the bytes
+
+-- a list's bytes are those of its parts
+split-joined : {T : Type 0} (f : T → List ℕ) (k n : ℕ) (xs : List T) → concat (map (flat_map f) (split_in k n xs)) ≡ flat_map f xs
+split-joined f k zero xs = append-nil (flat_map f xs)
+split-joined f k (suc n) xs =
+    ap (λ (rest : List ℕ). flat_map f (take k xs) ++ rest) (split-joined f k n (drop k xs))
+    ∙ sym (flat_map-append f (take k xs) (drop k xs))
+    ∙ ap (flat_map f) (take-append-drop k xs)
+
+map-joined : {T : Type 0} (f : T → List ℕ) (xs : List T) → concat (map f xs) ≡ flat_map f xs
+map-joined f [] = refl
+map-joined f (x ∷ xs) = ap (λ (rest : List ℕ). f x ++ rest) (map-joined f xs)
+
+-- a first piece in two parts, and the pieces of two lists behind it
+joined : (h c t q : List ℕ) (ks ps : List (List ℕ)) → concat ks ≡ t → concat ps ≡ q → concat ((h ++ c) ∷ (ks ++ ps)) ≡ (h ++ (c ++ t)) ++ q
+joined h c t q ks ps a b =
+    ap (λ (rest : List ℕ). (h ++ c) ++ rest) (concat-append ks ps)
+    ∙ ap (λ (rest : List ℕ). (h ++ c) ++ (rest ++ concat ps)) a
+    ∙ ap (λ (rest : List ℕ). (h ++ c) ++ (t ++ rest)) b
+    ∙ sym (append_assoc (h ++ c) t q)
+    ∙ ap (λ (front : List ℕ). front ++ q) (append_assoc h c t)
+
+pub pieces-joined : (s : SnapValue MillState) → concat (pieces_of s) ≡ snapshot_bytes s
+unfolding pieces_of snapshot_bytes
+pieces-joined s =
+    joined (head_bytes s) (big_bytes 4 (length s.kept)) (tuples_bytes s.kept) (parts_bytes (parts_of s.mill).operators)
+    (map tuples_bytes (kept_parts s.kept)) (map part_bytes (parts_of s.mill).operators)
+    (split-joined tuple_bytes piece_size (parts_before_last (length s.kept)) s.kept) (map-joined part_bytes (parts_of s.mill).operators)
