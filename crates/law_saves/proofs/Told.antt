@@ -52,10 +52,10 @@ port-small c p b xs width within below columns =
     let early : list_all (λ (t : Tuple). nat_lt t.stime b) (at_port p xs) ≡ true = port-below p b xs below in
     all-weaker is_small (λ (t : Tuple). nat_lt t.stime b && has_columns c t) (at_port p xs)
     (λ t h.
-        let k = both (nat_lt t.stime b) (has_columns c t) h in
-        let low = lt-of t.stime b k.0 in
-        both-of (nat_lt t.stime (2 ^ 62)) (is_width (length t.vals)) (lt-test t.stime (2 ^ 62) (omega (arith, low, within)))
-        (subst (λ n. is_width n ≡ true) (sym (eq-of (length t.vals) c k.1)) width))
+    let k = both (nat_lt t.stime b) (has_columns c t) h in
+    let low = lt-of t.stime b k.0 in
+    both-of (nat_lt t.stime (2 ^ 62)) (is_width (length t.vals)) (lt-test t.stime (2 ^ 62) (omega (arith, low, within)))
+    (subst (λ n. is_width n ≡ true) (sym (eq-of (length t.vals) c k.1)) width))
     (all-both (λ (t : Tuple). nat_lt t.stime b) (has_columns c) (at_port p xs) early columns)
 
 side-small : (cs : List ℕ) (tss : List (List Tuple)) (within b p : ℕ) → p < length cs → list_all is_width cs ≡ true → AllColumns cs tss → b ≤ 2 ^ 62
@@ -68,6 +68,7 @@ side-small cs tss within b p there widths columns fits below =
 pub sides-small : (j : JoinState) (cs : List ℕ) (tss : List (List Tuple)) (k : ℕ) → JoinAfter j (serial tss) k → length cs ≡ 2 → list_all is_width cs ≡ true → AllColumns cs tss
     → k * j.width ≤ 2 ^ 62 → (list_all is_small j.left ≡ true) × (list_all is_small j.right ≡ true)
 sides-small j cs tss k after two widths columns fits =
-    let below = below-list (k * j.width) (serial tss) after.below in
-    (rw after.left (side-small cs tss j.within (k * j.width) 0 (omega (arith, two)) widths columns fits below),
-    rw after.right (side-small cs tss j.within (k * j.width) 1 (omega (arith, two)) widths columns fits below))
+    let below = below-list (k * j.width) (serial tss) after.below in (
+      rw after.left (side-small cs tss j.within (k * j.width) 0 (omega (arith, two)) widths columns fits below),
+      rw after.right (side-small cs tss j.within (k * j.width) 1 (omega (arith, two)) widths columns fits below),
+    )

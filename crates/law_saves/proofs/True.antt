@@ -78,9 +78,9 @@ is-true plan events a f r s checked role is =
     let w = run plan at.0 in
     let same : w.plan ≡ plan = run-plan plan at.0 in
     let here : snap_in (home_of w.plan (f, r)) (slot_of w a).node ≡ Some s
-        = subst (λ (x : Role). role_snap w a x ≡ Some s) (ap (λ (q : Plan). role_of q a) same ∙ role) at.1 in
+    = subst (λ (x : Role). role_snap w a x ≡ Some s) (ap (λ (q : Plan). role_of q a) same ∙ role) at.1 in
     let known : snap_in (home_of plan (f, r)) (slot_of w a).node ≡ Some s
-        = subst (λ (q : Plan). snap_in (home_of q (f, r)) (slot_of w a).node ≡ Some s) same here in
+    = subst (λ (q : Plan). snap_in (home_of q (f, r)) (slot_of w a).node ≡ Some s) same here in
     let h = hands (home_of plan (f, r)) (slot_of w a).node s known in
     let right = outputs-right plan at.0 checked a f r h.node_is role h.up h.well in
     subst (λ (x : Snap). snap_output (home_of plan (f, r)) x ≡ ideal_upto plan (Frag f) (x.cursor * plan.width)) (sym h.snap) right

@@ -106,8 +106,8 @@ stage-kept plan f r xs m k i d fed ready wide same took low typed =
     let t = takes plan ports [] ops xs [] b i e there n.widths.stand flow in
     let here : nth e (nameless ops) i ≡ stage_spec s = ap (λ (x : List OpSpec). nth e x i) (sym same) ∙ nth-spec m.stages i d e low in
     let u : Takes (stage_spec s) xs (outputs_after [] (take i (specs_of m.stages)) xs b)
-        = subst (λ (x : List OpSpec). Takes (stage_spec s) xs (outputs_after [] (take i x) xs b)) (sym same)
-        (subst (λ (op : OpSpec). Takes op xs (outputs_after [] (take i (nameless ops)) xs b)) here t) in
+    = subst (λ (x : List OpSpec). Takes (stage_spec s) xs (outputs_after [] (take i x) xs b)) (sym same)
+    (subst (λ (op : OpSpec). Takes op xs (outputs_after [] (take i (nameless ops)) xs b)) here t) in
     let fit = ready.fits i d low in
     let fits : k * m.width ≤ 2 ^ 62 = rw wide (omega (arith, fed.within, fed.known.end)) in
     operator-kept s.operator u.columns (map (read_wire xs (outputs_after [] (take i (specs_of m.stages)) xs b)) s.reads) k m.width (took.stages i d low) fit.width fits u.many u.widths u.inputs typed
@@ -154,9 +154,9 @@ handed plan f r most p v known place good well stands typed short =
       numbers = typed.numbers;
       kept = all-told v.kept (rw stands.kept (all-weaker is_small (fits_stream plan (Frag f)) (drop p.base (out_stable home p))
           (λ t h.
-              let k = both _ _ h in
-              let early = lt-of t.stime plan.end k.0 in
-              both-of _ _ (lt-test t.stime (2 ^ 62) (omega (arith, early, end))) (subst (λ c. is_width c ≡ true) (sym (eq-of (length t.vals) (stream_columns plan (Frag f)) k.1)) n.stream))
+          let k = both _ _ h in
+          let early = lt-of t.stime plan.end k.0 in
+          both-of _ _ (lt-test t.stime (2 ^ 62) (omega (arith, early, end))) (subst (λ c. is_width c ≡ true) (sym (eq-of (length t.vals) (stream_columns plan (Frag f)) k.1)) n.stream))
           (all-drop (fits_stream plan (Frag f)) p.base (out_stable home p) fits))) typed.kept;
       operators = parts-kept plan f r xs v.mill p.cursor fed typed.ready stands.of.wide stands.of.operators stands.mill typed.operators;
       short = short;
