@@ -1,5 +1,5 @@
 -- What stands at a place of the pieces, and how many there are.
-use Rattle.std.proofs.Common.{◌≡◌, ◌<◌, ◌≤◌, min, nat_le, leb-true, leb-false, Bool, true, false, ℕ, zero, suc, ◌+◌, ◌-◌, ◌*◌, ◌^◌, List, [], ◌∷◌, ◌++◌, length, take, drop, map, get_or, Some, slice_get, refl, sym, ap, ◌∙◌, length-append, arith}
+use Rattle.std.proofs.Common.{◌≡◌, ◌<◌, ◌≤◌, min, nat_le, leb-true, leb-false, Bool, true, false, ℕ, zero, suc, ◌+◌, ◌*◌, ◌^◌, List, [], ◌∷◌, ◌++◌, length, take, drop, map, get_or, Some, slice_get, refl, sym, ap, ◌∙◌, length-append, arith}
 use Rattle.std.proofs.lemmas.List.{take_all, length-map, get_or-map, get_or_append_left, get_or-append-add, length-drop, drop-drop}
 use Rattle.byteorder.specs.Endian.{big_bytes}
 use Rattle.dpc_model.specs.declared.tuples.Tuple.{Tuple}

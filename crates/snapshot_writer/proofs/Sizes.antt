@@ -1,5 +1,5 @@
 -- How many bytes parts of a snapshot have.
-use Rattle.std.proofs.Common.{◌≡◌, ◌<◌, ◌≤◌, ◌^◌, min, ℕ, zero, suc, ◌+◌, ◌-◌, ◌*◌, ℤ, List, [], ◌∷◌, ◌++◌, length, take, Some, slice_get, refl, ap, ◌∙◌, length-append, append-nil, arith}
+use Rattle.std.proofs.Common.{◌≡◌, ◌<◌, ◌≤◌, ◌^◌, min, ℕ, ◌+◌, ◌-◌, ◌*◌, ℤ, List, [], ◌∷◌, ◌++◌, length, take, Some, slice_get, refl, ap, ◌∙◌, length-append, append-nil, arith}
 use Rattle.std.specs.Prelude.{flat_map}
 use Rattle.std.specs.Int.{w64, cast_unsigned}
 use Rattle.std.proofs.lemmas.List.{length-map}
@@ -12,7 +12,7 @@ use Rattle.ops_window.specs.declared.saved.Cell.{Cell}
 use Rattle.fragment_mill.specs.Mills.{MillState}
 use Rattle.fragment_mill.specs.States.{parts_of}
 use Rattle.fragment_mill.specs.declared.states.OperatorParts.{OperatorParts}
-use Rattle.fragment_mill.specs.declared.states.OperatorParts.TheVariants.{Plain, Join, Aggregate}
+use Rattle.fragment_mill.specs.declared.states.OperatorParts.TheVariants.{Aggregate}
 use Rattle.fragment_mill.proofs.Shown.{part-more}
 use Rattle.snapshot_form.specs.Bytes.{tuples_bytes, list_bytes, total_bytes, cell_bytes, part_bytes, parts_bytes, head_bytes, snapshot_bytes}
 

@@ -1,4 +1,4 @@
-use Rattle.std.proofs.Common.{◌≡◌, ◌<◌, ◌^◌, ℕ, ◌++◌, length, sym, subst}
+use Rattle.std.proofs.Common.{◌≡◌, ◌<◌, ◌^◌, ◌++◌, length, sym, subst}
 use Rattle.fragment_mill.specs.Views.{shown}
 use Rattle.fragment_mill.specs.declared.views.KeptView.{KeptView}
 use Rattle.snapshot_form.specs.Bytes.{part_bytes}

@@ -1,4 +1,4 @@
-use Rattle.std.proofs.Common.{◌≡◌, ◌<◌, ◌+◌, ◌-◌, ◌*◌, ℕ, List, ◌++◌, length, take, drop, get_or, Some, slice_get, sym, ap, subst, ◌∙◌, append_assoc, arith}
+use Rattle.std.proofs.Common.{◌≡◌, ◌+◌, ◌-◌, ◌*◌, ℕ, List, ◌++◌, length, take, drop, get_or, Some, slice_get, sym, ap, subst, ◌∙◌, append_assoc, arith}
 use Rattle.byteorder.specs.Endian.{big_bytes}
 use Rattle.dpc_model.specs.declared.tuples.Tuple.{Tuple}
 use Rattle.fragment_mill.specs.Mills.{MillState}

@@ -1,4 +1,3 @@
-use Rattle.std.proofs.Common.{ℕ, List, ◌++◌, ap, ◌∙◌}
 use Rattle.snapshot_form.specs.Bytes.{total_bytes}
 use Rattle.snapshot_writer.proofs.Appended.{one-more}
 use Rattle.snapshot_writer.proofs.writing.put_totals.Goals as goal

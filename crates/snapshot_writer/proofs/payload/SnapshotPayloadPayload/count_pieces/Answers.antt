@@ -1,4 +1,4 @@
-use Rattle.std.proofs.Common.{◌≡◌, ◌<◌, ◌^◌, ◌+◌, ℕ, List, length, ap, ◌∙◌, arith}
+use Rattle.std.proofs.Common.{◌≡◌, ◌<◌, ◌^◌, ◌+◌, ℕ, length, ap, ◌∙◌, arith}
 use Rattle.node_model.specs.Stands.{SnapValue}
 use Rattle.fragment_mill.specs.Mills.{MillState}
 use Rattle.fragment_mill.specs.States.{parts_of}
