@@ -1,7 +1,7 @@
 -- What is kept as bytes, as a snapshot.
-use Rattle.std.proofs.Common.{◌≡◌, ℕ, ◌+◌, ◌<◌, Bool, true, false, nat_lt, nat_le, if◌then◌else◌, List, Option, None, Result, Ok, Err, Some, inl, inr, refl, sym, ap, subst, ◌∙◌, arith}
+use Rattle.std.proofs.Common.{◌≡◌, ℕ, ◌+◌, ◌<◌, ◌≤◌, Bool, true, false, nat_lt, nat_le, if◌then◌else◌, List, Option, None, Result, Ok, Err, Some, inl, inr, refl, sym, ap, subst, ◌∙◌, arith}
 use Rattle.std.specs.Prelude.{OnOk, IsErrAnd, IfErr}
-use Rattle.dpc_lists.proofs.Truths.{lt-test}
+use Rattle.dpc_lists.proofs.Truths.{lt-of, lt-test, not-lt}
 use Rattle.dpc_model.specs.declared.plans.Plan.{Plan}
 use Rattle.node_model.specs.Stands.{SnapValue}
 use Rattle.fragment_mill.specs.Mills.{MillState}
@@ -75,6 +75,22 @@ tells b room n m result refused same need at is fresh long =
     let needs : need ≡ m + 32 = ap needed both in
     let rooms : at ≡ room = ap roomed both in
     (needs, rooms, omega (arith, needs, rooms, longer), fresh, known.1)
+
+on-ok : {P : Type 0} (result : Result Unit SaveFault) → P → OnOk result P
+on-ok (Ok u) h = h
+on-ok (Err e) h = tt
+
+refused-so : (P : Type 0) (result : Result Unit SaveFault) (why : SaveFault) → result ≡ Err why → OnOk result P
+refused-so P result why is = subst (λ (r : Result Unit SaveFault). OnOk r P) (sym is) tt
+
+-- where it is saved, it has its length
+pub fits : {Same : Type 0} (b : Bool) (room n m : ℕ) (result : Result Unit SaveFault) → ((why : SaveFault) → refusal_of b room n ≡ Some why → (result ≡ Err why) × Same)
+    → n ≡ m → b ≡ false → OnOk result (m + 32 ≤ room)
+fits b room n m result refused same fresh =
+    (elim (nat_lt room (m + 32)) as (λ (c : Bool). nat_lt room (m + 32) ≡ c → OnOk result (m + 32 ≤ room)) [
+      | true ↦ λ e. refused-so (m + 32 ≤ room) result (Full (m + 32) room) (refuses b room n m result refused same fresh (lt-of room (m + 32) e)).0
+      | false ↦ λ e. on-ok result (not-lt room (m + 32) e)
+    ]) refl
 
 -- ---- a slot without a reading
 

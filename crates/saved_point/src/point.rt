@@ -127,6 +127,7 @@ impl<D: Disk> SavedPoint<D> {
         ensures reopen { IsErrOf result Reopen → must_reopen self.old ≡ true }
         ensures full { (need room : ℕ) → result ≡ Err (Full need room) → (need ≡ length (snapshot_bytes snapshot.now) + 32) × (room ≡ room_in self.old) × (room < need)
             × (must_reopen self.old ≡ false) × IsUnchanged self.old self.new }
+        ensures fits { OnOk result (length (snapshot_bytes snapshot.now) + 32 ≤ room_in self.old) }
         ensures stopped { IsErrOf result DiskFault ⊎ IsErrOf result NoMemory → (must_reopen self.new ≡ true) ⊎ IsUnchanged self.old self.new }
         ensures number { OnOk result ((number_in self.new ≡ number_in self.old + 1) × (must_reopen self.new ≡ false)) }
         ensures never_broken { (slot : ℕ) → IsErrOf result (Broken slot) → ⊥ }
@@ -140,6 +141,13 @@ impl<D: Disk> SavedPoint<D> {
             return Err(SaveFault::NoMemory);
         };
         self.slots.save(alloc, &payload)
+    }
+
+    /// How many bytes a slot has.
+    pub fn room(&self) -> u64
+        ensures { result ≡ room_in self.now }
+    {
+        self.slots.room()
     }
 
     /// The number of the last save, 0 where there was none. A save asks that it is no more than 2^64 - 2.

@@ -1,6 +1,6 @@
-use Rattle.std.proofs.Common.{length, ap}
+use Rattle.std.proofs.Common.{length, sym, ap, ◌∙◌}
 use Rattle.snapshot_form.specs.Bytes.{snapshot_bytes}
-use Rattle.saved_point.proofs.Keeping.{old-or-new, at-each-moment, kept-now, refuses, tells}
+use Rattle.saved_point.proofs.Keeping.{old-or-new, at-each-moment, kept-now, refuses, tells, fits}
 use Rattle.saved_point.proofs.point.SavedPoint.save.Goals as goal
 
 pub returns-clause-any_moment : goal.returns-clause-any_moment
@@ -23,3 +23,7 @@ pub returns-clause-full : goal.returns-clause-full
 returns-clause-full g c need room is =
     let why = c.save.ensures.full need room is in
     tells _ _ _ _ c.save.result c.save.ensures.refused (ap (λ s. length (snapshot_bytes s)) c.in-Ok.ensures.holds) need room is why.0 why.1
+
+pub returns-clause-fits : goal.returns-clause-fits
+returns-clause-fits g c =
+    fits _ _ _ _ c.save.result c.save.ensures.refused (ap (λ s. length (snapshot_bytes s)) c.in-Ok.ensures.holds) (sym c.must_reopen.ensures ∙ c.if-must_reopen.false)
