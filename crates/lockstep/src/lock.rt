@@ -4,7 +4,7 @@ ghost use Rattle.world_model.specs.Schedules.{lockstep_journal};
 ghost use Rattle.law_fit.specs.Fits.{CanRun};
 ghost use Rattle.world_model.specs.Worlds.{excess};
 ghost use Rattle.lockstep.specs.Locking.{SettlesWhere};
-ghost use Rattle.run_watchers.specs.Watching.{unstarted};
+ghost use Rattle.run_watchers.specs.Watching.{unstarted, StaysOn};
 ghost use Rattle.lockstep.specs.declared.faults.RunFault.TheVariants as fault;
 
 use crate::faults::RunFault;
@@ -38,6 +38,7 @@ pub fn run_watched<W: Watcher>(
     requires { CanRun script.plan }
     ensures ok { IfOk result (λ w. w ≡ record { plan = script.plan; events = lockstep_journal script; spent = false }) }
     ensures saw { W.saw watcher.old (unstarted script.plan) watcher.old → IfOk result (λ w. W.saw watcher.old w watcher.new) }
+    ensures stays { StaysOn W.stays watcher.old watcher.new }
     ensures within { IfOk result (λ w. excess script.plan (lockstep_journal script) ≡ None) }
     ensures settles { IfOk result (λ w. SettlesWhere script w) }
     ensures long { (envelopes items : ℕ) → result ≡ Err (fault.TooLong envelopes items)

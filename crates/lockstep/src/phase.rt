@@ -3,7 +3,7 @@ ghost use Rattle.std.specs.Prelude.{◌≡◌, ◌+◌, true, false, [], fold, l
 ghost use Rattle.dpc_model.specs.declared.scripts.Script.{Script};
 ghost use Rattle.world_model.specs.Schedules.{quiet_limit, tell_phase, tell_phases, tell_quiet, Told};
 ghost use Rattle.world_core.specs.Runs.{world_of};
-ghost use Rattle.run_watchers.specs.Watching.{StillSaw};
+ghost use Rattle.run_watchers.specs.Watching.{StillSaw, StaysOn};
 ghost use Rattle.lockstep.specs.Locking.{IsAt, Follows, Exceeds, StandsBehind, IsWhole};
 
 use crate::events::phase_events;
@@ -72,6 +72,7 @@ impl RunSoFar {
         requires { self.old.world.spent ≡ false }
         ensures ok { OnOk result (Follows (tell_phase self.old.phase self.old.first directives.now now) self.old.world self.new.world) }
         ensures saw { OnOk result (StillSaw W.saw self.old.world watcher.old self.new.world watcher.new) }
+        ensures stays { StaysOn W.stays watcher.old watcher.new }
         ensures phase { OnOk result (self.new.phase ≡ self.old.phase + 1) }
         ensures first { OnOk result (self.new.first ≡ length (world_of self.old.world).envelopes) }
         ensures clock { OnOk result (self.new.now ≡ now) }
@@ -99,6 +100,7 @@ impl RunSoFar {
         requires { self.old.world.spent ≡ false }
         ensures ok { OnOk result (Follows (λ x. (tell_phases self.old.phase self.old.first phases.now x).1) self.old.world self.new.world) }
         ensures saw { OnOk result (StillSaw W.saw self.old.world watcher.old self.new.world watcher.new) }
+        ensures stays { StaysOn W.stays watcher.old watcher.new }
         ensures phase { OnOk result (self.new.phase ≡ self.old.phase + length phases.now) }
         ensures first { OnOk result ((x : Told) → IsAt self.old.world x
             → (tell_phases self.old.phase self.old.first phases.now x).0 ≡ self.new.first) }
@@ -121,6 +123,7 @@ impl RunSoFar {
         requires { self.world.spent ≡ false }
         ensures ok { IfOk result (λ w. Follows (tell_quiet most self.phase self.first (self.now + 1)) self.world w) }
         ensures saw { IfOk result (λ w. StillSaw W.saw self.world watcher.old w watcher.new) }
+        ensures stays { StaysOn W.stays watcher.old watcher.new }
         ensures long { IfErr result (Exceeds (tell_quiet most self.phase self.first (self.now + 1)) self.world) }
     {
         for _ in 0..most {
@@ -140,6 +143,7 @@ impl RunSoFar {
         ensures ok { IfOk result (λ w. Follows (tell_quiet (quiet_limit self.world.plan) self.phase self.first
             (self.now + 1)) self.world w) }
         ensures saw { IfOk result (λ w. StillSaw W.saw self.world watcher.old w watcher.new) }
+        ensures stays { StaysOn W.stays watcher.old watcher.new }
         ensures whole { IfOk result (λ w. (script : Script) → script.settle ≡ true → StandsBehind script self → IsWhole script w) }
         ensures long { IfErr result (Exceeds (tell_quiet (quiet_limit self.world.plan) self.phase self.first (self.now + 1)) self.world) }
     {

@@ -1,7 +1,7 @@
 //! Events that happen one after another in the world of a run, each seen by who watches it.
 ghost use Rattle.std.specs.Prelude.{◌≡◌, false, fold, OnOk, IfErr};
 ghost use Rattle.world_model.specs.Schedules.{tell, tell_all, tell_directive};
-ghost use Rattle.run_watchers.specs.Watching.{StillSaw};
+ghost use Rattle.run_watchers.specs.Watching.{StillSaw, StaysOn};
 ghost use Rattle.lockstep.specs.Locking.{Follows, Exceeds};
 
 use crate::faults::RunFault;
@@ -21,6 +21,7 @@ pub fn tell<W: Watcher>(
 ) -> Result<(), RunFault>
     ensures ok { OnOk result (Follows (λ x. tell x event) world.old world.new) }
     ensures saw { OnOk result (StillSaw W.saw world.old watcher.old world.new watcher.new) }
+    ensures stays { StaysOn W.stays watcher.old watcher.new }
     ensures long { IfErr result (Exceeds (λ x. tell x event) world.old) }
 {
     world.apply(alloc, event)?;
@@ -37,6 +38,7 @@ pub fn tell_all<W: Watcher>(
 ) -> Result<(), RunFault>
     ensures ok { OnOk result (Follows (λ x. tell_all x events.now) world.old world.new) }
     ensures saw { OnOk result (StillSaw W.saw world.old watcher.old world.new watcher.new) }
+    ensures stays { StaysOn W.stays watcher.old watcher.new }
     ensures long { IfErr result (Exceeds (λ x. tell_all x events.now) world.old) }
 {
     for event in events {
@@ -55,6 +57,7 @@ fn direct<W: Watcher>(
     requires { world.old.spent ≡ false }
     ensures ok { OnOk result (Follows (λ x. tell_directive x directive) world.old world.new) }
     ensures saw { OnOk result (StillSaw W.saw world.old watcher.old world.new watcher.new) }
+    ensures stays { StaysOn W.stays watcher.old watcher.new }
     ensures long { IfErr result (Exceeds (λ x. tell_directive x directive) world.old) }
 {
     if let Some(event) = event_of(world, directive)? {
@@ -73,6 +76,7 @@ pub fn direct_all<W: Watcher>(
     requires { world.old.spent ≡ false }
     ensures ok { OnOk result (Follows (λ x. fold tell_directive x directives.now) world.old world.new) }
     ensures saw { OnOk result (StillSaw W.saw world.old watcher.old world.new watcher.new) }
+    ensures stays { StaysOn W.stays watcher.old watcher.new }
     ensures long { IfErr result (Exceeds (λ x. fold tell_directive x directives.now) world.old) }
 {
     for directive in directives {

@@ -64,9 +64,12 @@ impl Pairing {
 }
 
 impl Watcher for Pairing {
+    ghost use Rattle.std.specs.Prelude.{⊤};
     ghost use Rattle.pair_run.specs.Seen.{HasSeen};
 
     ghost saw = { λ start run p. HasSeen start run p };
+
+    ghost stays = { λ _ _. ⊤ };
 
     fn see(&mut self, alloc: Global, world: &World, _event: Event) -> Result<(), NoMemory> {
         let clients = world.clients();

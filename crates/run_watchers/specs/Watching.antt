@@ -15,3 +15,7 @@ gone_on run event = record run { events = run.events ++ event ∷ [] }
 -- what was made of a run since whatever start is made of a later one too
 abbrev pub StillSaw : {S : Type 0} → (S → RunOf → S → Type 0) → RunOf → S → RunOf → S → Type 0
 StillSaw {S} saw run watcher later after = (start : S) → saw start run watcher → saw start later after
+
+-- what stayed true since whatever start stays true on
+abbrev pub StaysOn : {S : Type 0} → (S → S → Type 0) → S → S → Type 0
+StaysOn {S} stays watcher after = (start : S) → stays start watcher → stays start after

@@ -4,6 +4,7 @@ ghost use Rattle.std.specs.Option.{option_copied};
 ghost use Rattle.dpc_model.specs.Actors.{role_of};
 ghost use Rattle.dpc_model.specs.declared.messages.Event.TheVariants as event;
 ghost use Rattle.node_core.specs.declared.faults.Point.{Point};
+ghost use Rattle.law_fit.specs.Fits.{CanRun};
 ghost use Rattle.world_model.specs.Worlds.{node_at, ready_at, passes_limit, WouldReach};
 ghost use Rattle.world_model.specs.Safe.{IsSafeStep};
 ghost use Rattle.law_promises.specs.Promises.{KeepsPromises};
@@ -39,10 +40,11 @@ pub(crate) fn is_loss(fault: CommitFault) -> bool
 }
 
 impl World {
-    /// The node that an actor is, where it is one and is up.
+    /// The node that an actor is, where it is one and is up. The plan can be run, so the node is fit.
     pub fn node(&self, actor: u64) -> Option<&Node>
         requires { self.now.spent ≡ false }
-        ensures { StandsForRole self.now.plan (role_of self.now.plan actor) (option_copied result) (node_at (world_of self.now) actor) }
+        ensures can_run { CanRun self.now.plan }
+        ensures stands { StandsForRole self.now.plan (role_of self.now.plan actor) (option_copied result) (node_at (world_of self.now) actor) }
     {
         self.parts.node(&self.roster, actor)
     }

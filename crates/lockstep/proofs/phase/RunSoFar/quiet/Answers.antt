@@ -35,4 +35,5 @@ loop-preserved g c =
     record {
       leads = subst (λ (now : ℕ). Leads f (tell_quiet left c.phase.new.self.phase c.phase.new.self.first (now + 1)) c.args.self.world c.phase.new.self.world) (sym (c.in_ok-phase.ensures.clock ∙ clock)) on;
       saw = λ start before. c.in_ok-phase.ensures.saw start (c.loop.invariant.saw start before);
+      stays = λ start before. c.phase.ensures.stays start (c.loop.invariant.stays start before);
     }

@@ -4,16 +4,16 @@ use Rattle.dpc_model.specs.declared.tuples.Item.{Item}
 use Rattle.pair_run.proofs.Seeing.{missed, rested, stepped}
 use Rattle.pair_run.proofs.pairing.PairingWatcher.see.Goals as goal
 
-pub returns-in_default : goal.returns-in_default
-returns-in_default c = λ start before is seen.
+pub returns-in_default-clause-saw : goal.returns-in_default-clause-saw
+returns-in_default-clause-saw c = λ start before is seen.
     missed start c.args.self.now before c.args.world.now c.args._event c.clients-clients.result.now is seen c.clients-clients.ensures (inr (c.in_default.ensures' {u = tt}).lookup.3)
 
-pub returns-in_default-2 : goal.returns-in_default-2
-returns-in_default-2 c = λ start before is seen.
+pub returns-in_default-2-clause-saw : goal.returns-in_default-2-clause-saw
+returns-in_default-2-clause-saw c = λ start before is seen.
     missed start c.args.self.now before c.args.world.now c.args._event c.clients-clients.result.now is seen c.clients-clients.ensures (inl (c.in_default.ensures {u = tt}).lookup.3)
 
-pub returns-then-total-self-2 : goal.returns-then-total-self-2
-returns-then-total-self-2 c = λ start before is seen.
+pub returns-then-total-self-2-clause-saw : goal.returns-then-total-self-2-clause-saw
+returns-then-total-self-2-clause-saw c = λ start before is seen.
     let vs = c.clients-clients.result.now in
     let one = (c.in-Some-Some.ensures {u = tt}).lookup in
     let other = (c.in-Some-Some.ensures' {u = tt}).lookup in
@@ -21,8 +21,8 @@ returns-then-total-self-2 c = λ start before is seen.
     (slice_get_read vs (length vs) c.args.self.now.first c.in-Some-Some.first.now refl one.3.0 one.1) (slice_get_read vs (length vs) c.args.self.now.second c.in-Some-Some.second.now refl other.3.0 other.1)
     (sym c.total.ensures ∙ c.if-total-self.true) (sym c.total-then-total-self.ensures ∙ c.if-total-self-2.true)
 
-pub returns : goal.returns
-returns c = λ start before is seen.
+pub returns-clause-saw : goal.returns-clause-saw
+returns-clause-saw c = λ start before is seen.
     let vs = c.clients-clients.result.now in
     let one = (c.in-Some-Some.ensures {u = tt}).lookup in
     let other = (c.in-Some-Some.ensures' {u = tt}).lookup in
