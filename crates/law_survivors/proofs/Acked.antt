@@ -111,13 +111,17 @@ module _ (script : Script) (events : List Event) (can : CanSettle script) (live 
       (λ m at. ((asking-run plan done can.plan).nodes a g r m (ap (λ (z : Plan). role_of z a) same ∙ role_a) at).inc) (h sp.stands.node sp.stands.up) in
       subst (λ (v : World). Both n.cursor v) (sym push) (subst (λ (z : PlainNode). Both z.cursor (happens w d)) cursor now)
 
+  -- at each point
+  pub both-at : (done rest : List Event) → events ≡ done ++ rest → (n : PlainNode) → (slot_of (run script.plan done) x).node ≡ Some n → IsBehind script.plan a n.cursor (run script.plan done) × AreRefusedBelow script.plan a n.cursor (run script.plan done)
+  both-at done rest is = every-prefix events Inv first-inv inv-next done rest is
+
 -- ---- the law
 
 pub acked-done : (script : Script) (events : List Event) → AckedIsDone script events
 acked-done script events can live x g b a r p f k i count n m e role_x spared role_a port up_x up_a recovers there mine to packet inc =
     let plan = script.plan in
     let home = home_of plan (g, b) in
-    let h = (every-prefix events (Inv script events can live x g b role_x spared a r role_a) (first-inv script events can live x g b role_x spared a r role_a) (inv-next script events can live x g b role_x spared a r role_a) events [] (sym (append-nil events)) n up_x).0 in
+    let h = (both-at script events can live x g b role_x spared a r role_a events [] (sym (append-nil events)) n up_x).0 in
     let sp = spared-at script events can live x g b role_x spared events [] (sym (append-nil events)) in
     let whole = subst (λ (z : PlainNode). z.recovering ≡ false) (some-same sp.stands.node n (sym sp.stands.up ∙ up_x)) sp.stands.whole in
     let good = subst (λ (z : Plan). IsGood (home_of z (g, b)) (1 + length events) n) (run-plan plan events)

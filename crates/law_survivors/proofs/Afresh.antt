@@ -45,11 +45,11 @@ use Rattle.law_survivors.proofs.Running.{spared-at}
 use Rattle.law_survivors.proofs.Peers.{still-recovers}
 use Rattle.law_survivors.proofs.Listening.{IsSeen, Sees, IsBeating, JustHeard, told-now, comes-here, beating-next, beating-opened, heard-next, heard-now}
 
-ticks-itself : (script : Script) (z : Progress) (a now : ℕ) → has (next_progress script z (Tick a now)).ticked a ≡ true
+pub ticks-itself : (script : Script) (z : Progress) (a now : ℕ) → has (next_progress script z (Tick a now)).ticked a ≡ true
 ticks-itself script z a now = let here = eq-test a a refl in rw here refl
 
 -- one that is up has ticked when the phase is complete
-has-ticked : (z : Progress) (a : ℕ) → (z.phase == 0) ≡ false → is_phase_complete z ≡ true → is_up z.world a ≡ true → a < length (roles_of z.world.plan) → has z.ticked a ≡ true
+pub has-ticked : (z : Progress) (a : ℕ) → (z.phase == 0) ≡ false → is_phase_complete z ≡ true → is_up z.world a ≡ true → a < length (roles_of z.world.plan) → has z.ticked a ≡ true
 has-ticked z a some complete up low =
     let done = done-of z some complete in
     let here : (not (is_up z.world a) || has z.ticked a) ≡ true = in-range (λ b. not (is_up z.world b) || has z.ticked b) 0 (length (roles_of z.world.plan)) a done.ticked (omega arith) (omega (arith, low)) in

@@ -1,11 +1,10 @@
 -- A replica of each fragment that a script never crashes, where it keeps one of each.
 use Rattle.std.proofs.Common.{◌≡◌, ℕ, ◌+◌, ◌<◌, Bool, true, false, ◌||◌, List, [], ◌∷◌, length, refl, sym, ap, ◌∙◌, zero-le, arith}
-use Rattle.dpc_lists.specs.Lists.{list_any, list_all, range_with_len}
+use Rattle.dpc_lists.specs.Lists.{list_any, list_all}
 use Rattle.dpc_lists.proofs.Truths.{both, eq-of, in-range}
 use Rattle.dpc_model.specs.Actors.{role_of, replicas_of, is_replica_of}
 use Rattle.dpc_model.specs.declared.actors.Role.{Role}
 use Rattle.dpc_model.specs.declared.actors.Role.TheVariants.{Source as IsSource, Node as IsNode, Client as IsClient, Nobody}
-use Rattle.dpc_model.specs.declared.plans.Plan.{Plan}
 use Rattle.dpc_model.specs.declared.scripts.Script.{Script}
 use Rattle.law_safety.proofs.Numbering.{actors-pass}
 use Rattle.law_survivors.specs.Spared.{is_spared, keeps_one}

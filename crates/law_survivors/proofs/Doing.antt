@@ -20,7 +20,7 @@ use Rattle.law_granting.proofs.Slots.{slot-there, got-sent}
 use Rattle.law_granting.proofs.Asked.{same-or, each-unit}
 use Rattle.law_granting.proofs.Saying.{own-delivered, own-milled, own-ticked}
 use Rattle.law_calm.proofs.Whole.{IsHarmless, packet-whole, milled-whole, ticked-whole}
-use Rattle.law_survivors.specs.Spared.{spares_at, StandsWhole}
+use Rattle.law_survivors.specs.Spared.{spares_at, StandsIn}
 
 -- the node of an actor did this step
 pub record HasStepped (w next : World) (x : ℕ) (n : PlainNode) (t : Stepped PlainNode) : Type 0 where
@@ -164,18 +164,18 @@ not-spared x d same spared =
     let mine : (x == x) ≡ true = eq-test x x refl in
     let clash : false ≡ true = rw mine at it in cc
 
-module _ (w next : World) (home : Home) (x : ℕ) (d : Event) (spared : spares_at x d ≡ true) (h : StandsWhole w x) where
+module _ {incarnation : ℕ} (w next : World) (home : Home) (x : ℕ) (d : Event) (spared : spares_at x d ≡ true) (h : StandsIn incarnation w x) where
   up-whole : (n : PlainNode) → (slot_of w x).node ≡ Some n → n.recovering ≡ false
   up-whole n up = subst (λ (z : PlainNode). z.recovering ≡ false) (some-same h.node n (sym h.up ∙ up)) h.whole
 
-  up-first : (n : PlainNode) → (slot_of w x).node ≡ Some n → n.grants.inc ≡ 1
-  up-first n up = subst (λ (z : PlainNode). z.grants.inc ≡ 1) (some-same h.node n (sym h.up ∙ up)) h.first
+  up-inc : (n : PlainNode) → (slot_of w x).node ≡ Some n → n.grants.inc ≡ incarnation
+  up-inc n up = subst (λ (z : PlainNode). z.grants.inc ≡ incarnation) (some-same h.node n (sym h.up ∙ up)) h.inc
 
-  pub stands-next : NoneHarms w home x → ReplicaDoes w home x d next → StandsWhole next x
-  stands-next harmless (ReplicaDoes.Rests slot sends) = record { node = h.node; up = ap (λ (z : Slot). z.node) slot ∙ h.up; first = h.first; whole = h.whole }
+  pub stands-next : NoneHarms w home x → ReplicaDoes w home x d next → StandsIn incarnation next x
+  stands-next harmless (ReplicaDoes.Rests slot sends) = record { node = h.node; up = ap (λ (z : Slot). z.node) slot ∙ h.up; inc = h.inc; whole = h.whole }
   stands-next harmless (ReplicaDoes.Falls crash down last sends) = absurd (not-spared x d crash spared)
   stands-next harmless (ReplicaDoes.Starts i newer down now last sends) = let clash : ◌≡◌ {A = Option PlainNode} None (Some h.node) = sym down ∙ h.up in cc
   stands-next harmless (ReplicaDoes.Takes k e n event there can to s) =
-      record { node = (packet_step home e.sender e.packet n).after; up = s.now; first = (own-delivered home e.sender e.packet n).grants.inc ∙ up-first n s.up; whole = packet-whole home e.sender e.packet n (up-whole n s.up) (harmless k e n there to s.up) }
-  stands-next harmless (ReplicaDoes.Ticks now n event s) = record { node = (tick_step home now n).after; up = s.now; first = (own-ticked home now n).grants.inc ∙ up-first n s.up; whole = ticked-whole home x now n (up-whole n s.up) }
-  stands-next harmless (ReplicaDoes.Mills m n s) = record { node = (mill_step home m n).after; up = s.now; first = (own-milled home m n).grants.inc ∙ up-first n s.up; whole = milled-whole home x m n ∙ up-whole n s.up }
+      record { node = (packet_step home e.sender e.packet n).after; up = s.now; inc = (own-delivered home e.sender e.packet n).grants.inc ∙ up-inc n s.up; whole = packet-whole home e.sender e.packet n (up-whole n s.up) (harmless k e n there to s.up) }
+  stands-next harmless (ReplicaDoes.Ticks now n event s) = record { node = (tick_step home now n).after; up = s.now; inc = (own-ticked home now n).grants.inc ∙ up-inc n s.up; whole = ticked-whole home x now n (up-whole n s.up) }
+  stands-next harmless (ReplicaDoes.Mills m n s) = record { node = (mill_step home m n).after; up = s.now; inc = (own-milled home m n).grants.inc ∙ up-inc n s.up; whole = milled-whole home x m n ∙ up-whole n s.up }

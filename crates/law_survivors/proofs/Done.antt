@@ -28,7 +28,7 @@ use Rattle.law_safety.proofs.Happening.{IsFine, happens-next, node-here}
 use Rattle.law_granting.proofs.Prefix.{IsReader}
 use Rattle.law_readers.specs.Newest.{IsPortOf}
 use Rattle.law_readers.proofs.Known.{sends-one}
-use Rattle.law_survivors.specs.Spared.{StandsWhole}
+use Rattle.law_survivors.specs.Spared.{StandsIn}
 use Rattle.law_survivors.proofs.Doing.{ReplicaDoes, NoneHarms}
 use Rattle.law_survivors.proofs.Steps.{AcksNow, acks-new}
 use Rattle.law_survivors.proofs.Cursors.{cursor-grows}
@@ -67,8 +67,8 @@ module _ (home : Home) (most : ℕ) (n : PlainNode) (checked : IsChecked home.pl
 
 -- ---- an event
 
-module _ (w : World) (most : ℕ) (d : Event) (fine : IsFine w most) (x g b : ℕ) (role : role_of w.plan x ≡ IsNode g b) (stands : StandsWhole w x) (harmless : NoneHarms w (home_of w.plan (g, b)) x)
-    (does : (a f r : ℕ) → role_of w.plan a ≡ IsNode f r → ReplicaDoes w (home_of w.plan (f, r)) a d (happens w d)) (p f : ℕ) (port : IsPortOf w.plan x p (Frag f)) (reader : IsReader w.plan (Frag f) x) (later : StandsWhole (happens w d) x)
+module _ {incarnation : ℕ} (w : World) (most : ℕ) (d : Event) (fine : IsFine w most) (x g b : ℕ) (role : role_of w.plan x ≡ IsNode g b) (stands : StandsIn incarnation w x) (harmless : NoneHarms w (home_of w.plan (g, b)) x)
+    (does : (a f r : ℕ) → role_of w.plan a ≡ IsNode f r → ReplicaDoes w (home_of w.plan (f, r)) a d (happens w d)) (p f : ℕ) (port : IsPortOf w.plan x p (Frag f)) (reader : IsReader w.plan (Frag f) x) (later : StandsIn incarnation (happens w d) x)
     (h : IsLevel w.plan x f (done_of w.plan f stands.node) w) where
   abbrev Here : Home
   Here = home_of w.plan (g, b)

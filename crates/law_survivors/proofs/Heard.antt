@@ -73,7 +73,7 @@ module _ (w next : World) (d : Event) (x g b : ℕ) (role : role_of w.plan x ≡
         | inl old ↦ h.sent k e old mine
         | inr (m, of, says) ↦
             let one : later.node ≡ t.after = some-same later.node t.after (sym later.up ∙ s.now) in
-            subst (λ (z : Envelope). SaysWhole z.packet) (sym of) (says-whole t.after m.packet (ap (λ (z : PlainNode). z.grants.inc) (sym one) ∙ later.first) (ap (λ (z : PlainNode). z.recovering) (sym one) ∙ later.whole) says)
+            subst (λ (z : Envelope). SaysWhole z.packet) (sym of) (says-whole t.after m.packet (ap (λ (z : PlainNode). z.grants.inc) (sym one) ∙ later.inc) (ap (λ (z : PlainNode). z.recovering) (sym one) ∙ later.whole) says)
       ]
 
   does-sent : ReplicaDoes w (home_of w.plan (g, b)) x d next → (k : ℕ) (e : Envelope) → slice_get next.envelopes k ≡ Some e → e.sender ≡ x → SaysWhole e.packet

@@ -8,6 +8,7 @@ use Rattle.dpc_model.specs.Sessions.{no_session, is_newer_than_kept}
 use Rattle.dpc_model.specs.declared.actors.Role.{Role}
 use Rattle.dpc_model.specs.declared.actors.Role.TheVariants.{Source as IsSource, Node as IsNode, Client as IsClient, Nobody}
 use Rattle.dpc_model.specs.declared.messages.Event.{Event}
+use Rattle.dpc_model.specs.declared.messages.Event.TheVariants.{Deliver}
 use Rattle.dpc_model.specs.declared.messages.Sess.{Sess}
 use Rattle.dpc_model.specs.declared.messages.Subscribe.{Subscribe}
 use Rattle.dpc_model.specs.declared.messages.Message.TheVariants as message
@@ -32,11 +33,11 @@ use Rattle.law_readers.proofs.Known.{sends-one}
 use Rattle.law_readers.proofs.Read.{reached-port}
 use Rattle.law_calm.proofs.Steps.{port_at, Stays, Opens, went-longer}
 use Rattle.law_calm.proofs.Kept.{WasAnswered, IsWaiting, done-few}
-use Rattle.law_survivors.specs.Spared.{StandsWhole}
+use Rattle.law_survivors.specs.Spared.{StandsIn}
 use Rattle.law_survivors.proofs.Doing.{ReplicaDoes, NoneHarms}
 use Rattle.law_survivors.proofs.Steps.{port-went, AcksNow, acks-new, RefusesNow, refuses-new}
 use Rattle.law_survivors.proofs.Asking.{never-next, asked-next}
-use Rattle.law_survivors.proofs.Levels.{IsLevel, level-next}
+use Rattle.law_survivors.proofs.Levels.{IsLevelIn, level-next}
 
 -- ---- what is kept
 
@@ -46,16 +47,18 @@ NoneIsFresh plan x f k w d =
     (a r : ℕ) (s : Sess) (n : PlainNode) → role_of plan a ≡ IsNode f r → (slot_of w a).node ≡ Some n → is_newer_than_kept s (nth no_session n.subs k).kept ≡ true →
     subscribes (record { sender = a; reader = x; sess = s }) w d ≡ true → WasAnswered w a x s → ⊥
 
-pub record IsKept (plan : Plan) (x p f : ℕ) (w : World) : Type 0 where
-  pub level : (q : Port) → port_at w x p ≡ Some q → IsLevel plan x f (length q.inlet.held.stable) w
+-- the acknowledgements of the incarnations that count stay below the level
+pub record IsKept (counts : ℕ → Type 0) (plan : Plan) (x p f : ℕ) (w : World) : Type 0 where
+  pub level : (q : Port) → port_at w x p ≡ Some q → IsLevelIn counts plan x f (length q.inlet.held.stable) w
   pub asked : (k : ℕ) (e : Envelope) (asks : Subscribe) (q : Port) → slice_get w.envelopes k ≡ Some e → e.sender ≡ x → sends_stream (Frag f) (role_of plan e.to) ≡ true → e.packet ≡ Plain (message.Subscribe asks) → port_at w x p ≡ Some q →
       same_sess asks.sess q.inlet.sess ≡ true → IsWaiting plan x f w q e.to asks.n
   pub truncated : (k base : ℕ) (e : Envelope) (u : Sess) (q : Port) → slice_get w.envelopes k ≡ Some e → e.to ≡ x → sends_stream (Frag f) (role_of plan e.sender) ≡ true → e.packet ≡ Plain (message.Truncated u base) → port_at w x p ≡ Some q →
       same_sess u q.inlet.sess ≡ false
 
-module _ (w next : World) (most : ℕ) (d : Event) (fine : IsFine w most) (x g b : ℕ) (role : role_of w.plan x ≡ IsNode g b) (stands : StandsWhole w x) (harmless : NoneHarms w (home_of w.plan (g, b)) x) (grows : Grows w next)
+module _ {incarnation : ℕ} (w next : World) (most : ℕ) (d : Event) (fine : IsFine w most) (x g b : ℕ) (role : role_of w.plan x ≡ IsNode g b) (stands : StandsIn incarnation w x) (harmless : NoneHarms w (home_of w.plan (g, b)) x) (grows : Grows w next)
     (does : (a f r : ℕ) → role_of w.plan a ≡ IsNode f r → ReplicaDoes w (home_of w.plan (f, r)) a d next)
-    (p f : ℕ) (port : IsPortOf w.plan x p (Frag f)) (reader : IsReader w.plan (Frag f) x) (known : KnowsNoNewer w.plan w x p (Frag f)) (fresh : NoneIsFresh w.plan x f reader.place w d) (h : IsKept w.plan x p f w) where
+    (counts : ℕ → Type 0) (came : (k i count : ℕ) (e : Envelope) → d ≡ Deliver k → slice_get w.envelopes k ≡ Some e → e.sender ≡ x → e.packet ≡ Plain (message.Ack i count) → counts i)
+    (p f : ℕ) (port : IsPortOf w.plan x p (Frag f)) (reader : IsReader w.plan (Frag f) x) (known : KnowsNoNewer w.plan w x p (Frag f)) (fresh : NoneIsFresh w.plan x f reader.place w d) (h : IsKept counts w.plan x p f w) where
   abbrev Here : Home
   Here = home_of w.plan (g, b)
 
@@ -77,10 +80,10 @@ module _ (w next : World) (most : ℕ) (d : Event) (fine : IsFine w most) (x g b
 
   -- ---- the level
 
-  kept-level : (r : Port) → port_at next x p ≡ Some r → IsLevel w.plan x f (length r.inlet.held.stable) next
+  kept-level : (r : Port) → port_at next x p ≡ Some r → IsLevelIn counts w.plan x f (length r.inlet.held.stable) next
   kept-level r there =
       let k = went r there in
-      level-next w next most d fine x f (length k.0.inlet.held.stable) (length r.inlet.held.stable) (λ i. Unit {0}) (λ k i count e event there mine packet. tt) reader (went-longer w Here x p k.0 r k.2) (h.level k.0 k.1) (λ a c is. does a f c is)
+      level-next w next most d fine x f (length k.0.inlet.held.stable) (length r.inlet.held.stable) counts came reader (went-longer w Here x p k.0 r k.2) (h.level k.0 k.1) (λ a c is. does a f c is)
       (λ j i count e counted at mine to packet. by-new count e to (acks-new w next Here x d stands harmless (does x g b role) j i count e at mine packet))
     where
       by-new : {T : Type 0} (count : ℕ) (e : Envelope) → sends_stream (Frag f) (role_of w.plan e.to) ≡ true → T ⊎ Acks e.to count → T ⊎ (count ≤ length r.inlet.held.stable)
@@ -162,5 +165,5 @@ module _ (w next : World) (most : ℕ) (d : Event) (fine : IsFine w most) (x g b
           by-cases c role_a wn.0 wn.1 wn.2
           (refuses-new w next (home_of w.plan (f, c)) e.sender d x reader.place (readers-distinct w.plan (Frag f)) reader.low reader.it (does e.sender f c role_a) k base e u at refl to packet)
 
-  pub kept-next : IsKept w.plan x p f next
+  pub kept-next : IsKept counts w.plan x p f next
   kept-next = record { level = kept-level; asked = kept-asked; truncated = kept-truncated }

@@ -86,7 +86,7 @@ module _ (script : Script) (x g b a r : ℕ) (role_x : role_of script.plan x ≡
       let beat : Beat = record { inc = t.after.grants.inc; state = t.after.state; recovering = t.after.recovering; over = t.after.grants.over; tally = None } in
       let place = sent-place x w.envelopes (mail a (message.Beat beat)) t.sends (tick-tells home now n a (peer-is w.plan x a g b r role (a-here z goes.here) other)) in
       let sent : slice_get (happens w (Tick x now)).envelopes place.0 ≡ Some (from x (mail a (message.Beat beat))) = ap (λ (v : World). slice_get v.envelopes place.0) event ∙ place.1 in
-      (place.0, record { beat = beat; sent = sent; waits = new-waits script z (Tick x now) place.0 _ place.2 sent; inc = ap (λ (y : PlainNode). y.grants.inc) (sym one) ∙ goes.next.whole.first })
+      (place.0, record { beat = beat; sent = sent; waits = new-waits script z (Tick x now) place.0 _ place.2 sent; inc = ap (λ (y : PlainNode). y.grants.inc) (sym one) ∙ goes.next.whole.inc })
 
   pub comes-here : (z : Progress) (m : ℕ) → Seen z → IsBeating m z → comes z.world m ≡ true
   comes-here z m seen h = all-come z.world seen.here.most m seen.here.fine seen.here.up (slice_get_within z.world.envelopes m _ h.sent)

@@ -64,7 +64,7 @@ new-level plan x f b =
 new-spared : (plan : Plan) (x g b : ℕ) → role_of plan x ≡ IsNode g b → IsSparedWorld plan x g b (new_world plan)
 new-spared plan x g b role =
     record {
-      stands = record { node = new_node (home_of plan (g, b)); up = ap (λ (z : Slot). z.node) (new-slot plan x g b role); first = new-first (home_of plan (g, b)); whole = new-whole (home_of plan (g, b)) };
+      stands = record { node = new_node (home_of plan (g, b)); up = ap (λ (z : Slot). z.node) (new-slot plan x g b role); inc = new-first (home_of plan (g, b)); whole = new-whole (home_of plan (g, b)) };
       kept = λ p f port. record {
         level = λ q there. new-level plan x f (length q.inlet.held.stable);
         asked = λ k e asks q there mine to packet at same. absurd (never-sent plan k e there);

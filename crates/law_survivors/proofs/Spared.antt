@@ -7,6 +7,7 @@ use Rattle.dpc_model.specs.Ports.{Port, no_port}
 use Rattle.dpc_model.specs.declared.actors.Role.{Role}
 use Rattle.dpc_model.specs.declared.actors.Role.TheVariants.{Source as IsSource, Node as IsNode, Client as IsClient, Nobody}
 use Rattle.dpc_model.specs.declared.messages.Event.{Event}
+use Rattle.dpc_model.specs.declared.messages.Event.TheVariants.{Deliver}
 use Rattle.dpc_model.specs.declared.messages.Sess.{Sess}
 use Rattle.dpc_model.specs.declared.messages.Message.TheVariants as message
 use Rattle.dpc_model.specs.declared.plans.Plan.{Plan}
@@ -25,17 +26,22 @@ use Rattle.law_granting.specs.Taken.{node_port}
 use Rattle.law_granting.proofs.Prefix.{IsReader, reader-found}
 use Rattle.law_readers.specs.Newest.{IsPortOf, KnowsNoNewer}
 use Rattle.law_readers.specs.Sure.{SourcesSendSurely, SendsSurely}
-use Rattle.law_survivors.specs.Spared.{spares_at, StandsWhole}
+use Rattle.law_survivors.specs.Spared.{spares_at, StandsIn, StandsWhole}
 use Rattle.law_survivors.proofs.Doing.{NoneHarms, replica-does, stands-next}
 use Rattle.law_survivors.proofs.Levels.{IsLevel}
 use Rattle.law_survivors.proofs.Kept.{NoneIsFresh, IsKept, kept-next}
 use Rattle.law_survivors.proofs.Done.{done_of, done-next}
 use Rattle.law_survivors.proofs.Heard.{AreHeardWhole, heard-next}
 
+-- what is kept of a node that does not recover, and of its acknowledgements of the incarnations that count
+pub record IsKeptWorld (incarnation : ℕ) (counts : ℕ → Type 0) (plan : Plan) (x : ℕ) (w : World) : Type 0 where
+  pub stands : StandsIn incarnation w x
+  pub kept : (p f : ℕ) → IsPortOf plan x p (Frag f) → IsKept counts plan x p f w
+
 -- what is kept of a node that nobody crashes
 pub record IsSparedWorld (plan : Plan) (x g b : ℕ) (w : World) : Type 0 where
   pub stands : StandsWhole w x
-  pub kept : (p f : ℕ) → IsPortOf plan x p (Frag f) → IsKept plan x p f w
+  pub kept : (p f : ℕ) → IsPortOf plan x p (Frag f) → IsKept (λ (i : ℕ). Unit {0}) plan x p f w
   pub done : (p f : ℕ) (n : PlainNode) → IsPortOf plan x p (Frag f) → (slot_of w x).node ≡ Some n → IsLevel plan x f (done_of plan f n) w
   pub heard : AreHeardWhole plan x g b w
 
@@ -44,12 +50,12 @@ pub reads-it : (plan : Plan) (x p f : ℕ) → slice_get (inputs_of plan (role_o
 reads-it plan x p f there = reader-found plan (Frag f) x (any-at (same_stream (Frag f)) (inputs_of plan (role_of plan x)) p (Frag f) there (eq-test f f refl))
 
 module _ (w : World) (most : ℕ) (fine : IsFine w most) (x g b : ℕ) (role : role_of w.plan x ≡ IsNode g b) (once : (p q : ℕ) (s : StreamRef) → slice_get (inputs_of w.plan (role_of w.plan x)) p ≡ Some s → slice_get (inputs_of w.plan (role_of w.plan x)) q ≡ Some s → p ≡ q)
-    (known : (p : ℕ) (s : StreamRef) → IsPortOf w.plan x p s → KnowsNoNewer w.plan w x p s) (sure : SourcesSendSurely w.plan w.envelopes) (h : IsSparedWorld w.plan x g b w) where
+    (known : (p : ℕ) (s : StreamRef) → IsPortOf w.plan x p s → KnowsNoNewer w.plan w x p s) (sure : SourcesSendSurely w.plan w.envelopes) where
   source-harmless : (k v base : ℕ) (e : Envelope) (u : Sess) → slice_get w.envelopes k ≡ Some e → role_of w.plan e.sender ≡ IsSource v → e.packet ≡ Plain (message.Truncated u base) → ⊥
   source-harmless k v base e u there from same = subst (λ (p : Packet). SendsSurely w.envelopes e.sender e.to p) same (sure k v e there from)
 
-  none-harms : NoneHarms w (home_of w.plan (g, b)) x
-  none-harms k e n there to up u base p r packet at =
+  none-harms : (incarnation : ℕ) (counts : ℕ → Type 0) → IsKeptWorld incarnation counts w.plan x w → NoneHarms w (home_of w.plan (g, b)) x
+  none-harms incarnation counts h k e n there to up u base p r packet at =
       let home = home_of w.plan (g, b) in
       let it = sender-of w.plan (streams_of home) e.sender p r at in
       let sends = sender_sends w.plan it.stream e.sender r it.place in
@@ -70,16 +76,29 @@ module _ (w : World) (most : ℕ) (fine : IsFine w most) (x g b : ℕ) (role : r
           by-role (IsClient c) is t = cc
           by-role Nobody is t = cc
 
-  pub spared-event : (d : Event) → spares_at x d ≡ true → ((p f : ℕ) → IsPortOf w.plan x p (Frag f) → (reader : IsReader w.plan (Frag f) x) → NoneIsFresh w.plan x f reader.place w d) → IsSparedWorld w.plan x g b (happens w d)
-  spared-event d spared fresh =
+  -- an event that does not crash it
+  pub kept-event : (incarnation : ℕ) (counts : ℕ → Type 0) → IsKeptWorld incarnation counts w.plan x w → (d : Event) → spares_at x d ≡ true → ((k i count : ℕ) (e : Envelope) → d ≡ Deliver k → slice_get w.envelopes k ≡ Some e → e.sender ≡ x → e.packet ≡ Plain (message.Ack i count) → counts i) →
+      ((p f : ℕ) → IsPortOf w.plan x p (Frag f) → (reader : IsReader w.plan (Frag f) x) → NoneIsFresh w.plan x f reader.place w d) → IsKeptWorld incarnation counts w.plan x (happens w d)
+  kept-event incarnation counts h d spared came fresh =
       let does = λ (a f r : ℕ) (is : role_of w.plan a ≡ IsNode f r). replica-does w most fine a f r is d in
-      let stands = stands-next w (happens w d) (home_of w.plan (g, b)) x d spared h.stands none-harms (does x g b role) in
+      let harmless = none-harms incarnation counts h in
       record {
-        stands = stands;
+        stands = stands-next w (happens w d) (home_of w.plan (g, b)) x d spared h.stands harmless (does x g b role);
         kept = λ p f port.
             let reader = reads-it w.plan x p f port.there in
-            kept-next w (happens w d) most d fine x g b role h.stands none-harms (event-grows w d) does p f port reader (known p (Frag f) port) (fresh p f port reader) (h.kept p f port);
+            kept-next w (happens w d) most d fine x g b role h.stands harmless (event-grows w d) does counts came p f port reader (known p (Frag f) port) (fresh p f port reader) (h.kept p f port);
+      }
+
+  pub spared-event : IsSparedWorld w.plan x g b w → (d : Event) → spares_at x d ≡ true → ((p f : ℕ) → IsPortOf w.plan x p (Frag f) → (reader : IsReader w.plan (Frag f) x) → NoneIsFresh w.plan x f reader.place w d) → IsSparedWorld w.plan x g b (happens w d)
+  spared-event h d spared fresh =
+      let does = λ (a f r : ℕ) (is : role_of w.plan a ≡ IsNode f r). replica-does w most fine a f r is d in
+      let before : IsKeptWorld 1 (λ (i : ℕ). Unit {0}) w.plan x w = record { stands = h.stands; kept = h.kept } in
+      let after = kept-event 1 (λ (i : ℕ). Unit {0}) before d spared (λ k i count e event there mine packet. tt) fresh in
+      let stands = after.stands in
+      record {
+        stands = stands;
+        kept = after.kept;
         done = λ p f z port now.
-            done-next w most d fine x g b role h.stands none-harms does p f port (reads-it w.plan x p f port.there) stands (h.done p f h.stands.node port h.stands.up) z now;
+            done-next w most d fine x g b role h.stands (none-harms 1 (λ (i : ℕ). Unit {0}) before) does p f port (reads-it w.plan x p f port.there) stands (h.done p f h.stands.node port h.stands.up) z now;
         heard = heard-next w (happens w d) d x g b role h.stands stands does h.heard;
       }

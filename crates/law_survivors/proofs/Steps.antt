@@ -25,7 +25,7 @@ use Rattle.law_calm.proofs.Taking.{packet-took}
 use Rattle.law_calm.proofs.Ticking.{ticked-ports, IsAckOf, AcksOf, Acks, packet-acks, ticked-acks, milled-acks}
 use Rattle.law_calm.proofs.Refusing.{RefusesBy, IsRefused, RefusesTo, packet-refuses, milled-refuses, ticked-refuses}
 use Rattle.law_calm.proofs.Steps.{port_at, Stays, Opens, PortWent}
-use Rattle.law_survivors.specs.Spared.{StandsWhole}
+use Rattle.law_survivors.specs.Spared.{StandsIn}
 use Rattle.law_survivors.proofs.Doing.{HasStepped, ReplicaDoes, NoneHarms}
 
 -- an envelope of a node is an old one, or was sent now
@@ -68,7 +68,7 @@ module _ (w next : World) (home : Home) (x : ℕ) (d : Event) where
 
 -- ---- a node that stands whole
 
-module _ (w next : World) (home : Home) (x : ℕ) (d : Event) (h : StandsWhole w x) (harmless : NoneHarms w home x) where
+module _ {incarnation : ℕ} (w next : World) (home : Home) (x : ℕ) (d : Event) (h : StandsIn incarnation w x) (harmless : NoneHarms w home x) where
   up-whole : (n : PlainNode) → (slot_of w x).node ≡ Some n → n.recovering ≡ false
   up-whole n up = subst (λ (z : PlainNode). z.recovering ≡ false) (some-same h.node n (sym h.up ∙ up)) h.whole
 

@@ -1,6 +1,7 @@
 -- Replicas that a script never crashes, and what their senders keep for them.
 use Rattle.std.specs.Prelude.{◌⊎◌, ◌≡◌, ℕ, ◌+◌, ◌<◌, ◌≤◌, Bool, true, false, not, ◌&&◌, ◌||◌, ◌==◌, IsTrue, List, [], ◌∷◌, ◌++◌, length, flat_map, Some, None, slice_get}
 use Rattle.dpc_lists.specs.Lists.{nth, list_any, list_all, range_with_len}
+use Rattle.dpc_model.specs.Fragments.{ideal}
 use Rattle.dpc_model.specs.Inlets.{same_sess}
 use Rattle.dpc_model.specs.Actors.{role_of, sends_stream, replicas_of}
 use Rattle.dpc_model.specs.Ports.{Port}
@@ -71,12 +72,16 @@ keeps_all_but_one script = keeps_one script && list_all (λ f. spares_others scr
 
 -- ---- what holds of such a replica
 
--- a node is up, in its first incarnation, and does not recover
-pub record StandsWhole (w : World) (a : ℕ) : Type 0 where
+-- a node is up, in this incarnation, and does not recover
+pub record StandsIn (incarnation : ℕ) (w : World) (a : ℕ) : Type 0 where
   pub node : PlainNode
   pub up : (slot_of w a).node ≡ Some node
-  pub first : node.grants.inc ≡ 1
+  pub inc : node.grants.inc ≡ incarnation
   pub whole : node.recovering ≡ false
+
+-- and it never was in another one
+abbrev pub StandsWhole : World → ℕ → Type 0
+StandsWhole w a = StandsIn 1 w a
 
 -- what is known of such a replica: nothing, or that it does not recover
 pub record IsHeardWhole (u : Watch) : Type 0 where
@@ -185,3 +190,99 @@ abbrev pub KeepsOneWhole : Script → Type 0
 KeepsOneWhole script =
     CanSettle script → keeps_one script ≡ true → (f : ℕ) → f < length script.plan.frags → (x : ℕ) × (r : ℕ) × (role_of script.plan x ≡ IsNode f r) × (is_spared script x ≡ true)
     × ((events : List Event) → IsTrue (is_live_so_far script events) → StandsWhole (run script.plan events) x)
+
+-- ---- going on from a snapshot
+
+-- at no point of a piece, which follows `done`, does a recover
+abbrev pub RecoversNot : Script → ℕ → List Event → List Event → Type 0
+RecoversNot script a done piece = (some rest : List Event) (m : PlainNode) → piece ≡ some ++ rest → (slot_of (run script.plan (done ++ some)) a).node ≡ Some m → m.recovering ≡ false
+
+-- by the delivery of envelope k behind `done` a goes on from a snapshot of x, which x sent behind `early`, a point of the fourth quiet phase or
+-- behind it
+pub record GoesOnFrom (script : Script) (x a k : ℕ) (early done : List Event) : Type 0 where
+  pub late : length script.phases + 4 ≤ (progress script early).phase
+  pub unsent : length (run script.plan early).envelopes ≤ k
+  pub envelope : Envelope
+  pub there : slice_get (run script.plan done).envelopes k ≡ Some envelope
+  pub sender : envelope.sender ≡ x
+  pub before : PlainNode
+  pub up : (slot_of (run script.plan done) a).node ≡ Some before
+  pub recovered : before.recovering ≡ true
+  pub after : PlainNode
+  pub now : (slot_of (happens (run script.plan done) (Deliver k)) a).node ≡ Some after
+  pub whole : after.recovering ≡ false
+
+-- who goes on so from a snapshot of a spared replica x of its fragment, and does not recover until it ticks, never recovers again
+abbrev pub StandsOnceTicked : Script → List Event → Type 0
+StandsOnceTicked script events =
+    CanSettle script → IsTrue (is_live_so_far script events) → OpensWell script events → (x g b a r k now : ℕ) (early mid until rest : List Event) → role_of script.plan x ≡ IsNode g b → is_spared script x ≡ true → role_of script.plan a ≡ IsNode g r →
+    events ≡ (early ++ mid) ++ Deliver k ∷ (until ++ Tick a now ∷ rest) → GoesOnFrom script x a k early (early ++ mid) → RecoversNot script a ((early ++ mid) ++ Deliver k ∷ []) until →
+    RecoversNot script a (((early ++ mid) ++ Deliver k ∷ []) ++ until ++ Tick a now ∷ []) rest
+
+-- in the one-thread journal nothing that could come before that tick makes it recover: it never does again
+abbrev pub NeverAgain : Script → Type 0
+NeverAgain script =
+    CanSettle script → OpensWell script (lockstep_journal script) → (x g b a r k : ℕ) (early mid rest : List Event) → role_of script.plan x ≡ IsNode g b → is_spared script x ≡ true → role_of script.plan a ≡ IsNode g r →
+    lockstep_journal script ≡ (early ++ mid) ++ Deliver k ∷ rest → GoesOnFrom script x a k early (early ++ mid) → RecoversNot script a ((early ++ mid) ++ Deliver k ∷ []) rest
+
+-- ---- how often a replica recovers
+
+-- by this event behind `done` a begins to recover
+pub record Begins (script : Script) (a : ℕ) (done : List Event) (d : Event) : Type 0 where
+  pub before : PlainNode
+  pub up : (slot_of (run script.plan done) a).node ≡ Some before
+  pub whole : before.recovering ≡ false
+  pub after : PlainNode
+  pub now : (slot_of (happens (run script.plan done) d) a).node ≡ Some after
+  pub recovers : after.recovering ≡ true
+
+-- where at most one replica of each fragment is crashed, none begins twice from the fourth quiet phase of the one-thread journal on
+abbrev pub BeginsOnce : Script → Type 0
+BeginsOnce script =
+    CanSettle script → OpensWell script (lockstep_journal script) → keeps_all_but_one script ≡ true → (a g r : ℕ) (done mid rest : List Event) (d e : Event) → role_of script.plan a ≡ IsNode g r → lockstep_journal script ≡ done ++ d ∷ (mid ++ e ∷ rest) →
+    length script.phases + 4 ≤ (progress script done).phase → Begins script a done d → Begins script a ((done ++ d ∷ []) ++ mid) e → ⊥
+
+-- at each point of a piece, which follows `done`, a recovers
+abbrev pub RecoversThrough : Script → ℕ → List Event → List Event → Type 0
+RecoversThrough script a done piece = (some rest : List Event) (m : PlainNode) → piece ≡ some ++ rest → (slot_of (run script.plan (done ++ some)) a).node ≡ Some m → m.recovering ≡ true
+
+-- in quiet phases of the one-thread journal a replica that recovers beside a spared one goes on before the fourth phase behind that point opens
+abbrev pub EndsInTime : Script → Type 0
+EndsInTime script =
+    CanSettle script → OpensWell script (lockstep_journal script) → (x g b a r : ℕ) (done piece rest : List Event) → role_of script.plan x ≡ IsNode g b → is_spared script x ≡ true → role_of script.plan a ≡ IsNode g r → lockstep_journal script ≡ done ++ (piece ++ rest) →
+    length script.phases < (progress script done).phase → RecoversThrough script a done piece → (progress script (done ++ piece)).phase ≤ (progress script done).phase + 3
+
+-- where at most one replica of each fragment is crashed, all points past the seventh quiet phase at which one recovers lie within three phases
+abbrev pub RecoversTogether : Script → Type 0
+RecoversTogether script =
+    CanSettle script → OpensWell script (lockstep_journal script) → keeps_all_but_one script ≡ true → (a g r : ℕ) (done piece rest : List Event) (n m : PlainNode) → role_of script.plan a ≡ IsNode g r → lockstep_journal script ≡ done ++ (piece ++ rest) →
+    length script.phases + 8 ≤ (progress script done).phase → (slot_of (run script.plan done) a).node ≡ Some n → n.recovering ≡ true → (slot_of (run script.plan (done ++ piece)) a).node ≡ Some m → m.recovering ≡ true → (progress script (done ++ piece)).phase ≤ (progress script done).phase + 3
+
+-- a port of a node that reads a fragment holds less than the fragment's whole stream
+pub record LacksSome (plan : Plan) (a : ℕ) (n : PlainNode) : Type 0 where
+  pub place : ℕ
+  pub frag : ℕ
+  pub port : Port
+  pub reads : IsPortOf plan a place (Frag frag)
+  pub there : slice_get n.ports place ≡ Some port
+  pub few : length port.inlet.held.stable < length (ideal plan (Frag frag))
+
+-- so it is of who begins to recover beside a spared replica x, having ticked in the fourth quiet phase or behind it since it last recovered
+abbrev pub BeginnersLack : Script → List Event → Type 0
+BeginnersLack script events =
+    CanSettle script → IsTrue (is_live_so_far script events) → OpensWell script events → (x g b a r now : ℕ) (done mid rest : List Event) (d : Event) → role_of script.plan x ≡ IsNode g b → is_spared script x ≡ true → role_of script.plan a ≡ IsNode g r →
+    events ≡ (done ++ Tick a now ∷ []) ++ (mid ++ d ∷ rest) → length script.phases + 4 ≤ (progress script done).phase → RecoversNot script a (done ++ Tick a now ∷ []) mid → (h : Begins script a ((done ++ Tick a now ∷ []) ++ mid) d) → LacksSome script.plan a h.before
+
+-- ---- when recoveries are over
+
+-- each port of a that reads a fragment holds the fragment's whole stream
+abbrev pub HoldsWhole : Plan → World → ℕ → Type 0
+HoldsWhole plan w a = (p f : ℕ) (n : PlainNode) (q : Port) → IsPortOf plan a p (Frag f) → (slot_of w a).node ≡ Some n → slice_get n.ports p ≡ Some q → length (ideal plan (Frag f)) ≤ length q.inlet.held.stable
+
+-- where a replica holds whole streams whenever it did not recover for `wait` phases, from a phase on, it recovers no more `wait` and four phases
+-- behind that one
+abbrev pub RestsOnceWhole : Script → Type 0
+RestsOnceWhole script =
+    CanSettle script → OpensWell script (lockstep_journal script) → keeps_all_but_one script ≡ true → (a g r from wait : ℕ) → role_of script.plan a ≡ IsNode g r → length script.phases + 8 ≤ from → 3 ≤ wait →
+    ((first mid rest : List Event) → lockstep_journal script ≡ first ++ (mid ++ rest) → from ≤ (progress script first).phase → (progress script first).phase + wait ≤ (progress script (first ++ mid)).phase → RecoversNot script a first mid → HoldsWhole script.plan (run script.plan (first ++ mid)) a) →
+    (done rest : List Event) (m : PlainNode) → lockstep_journal script ≡ done ++ rest → from + wait + 4 ≤ (progress script done).phase → (slot_of (run script.plan done) a).node ≡ Some m → m.recovering ≡ false

@@ -4,7 +4,7 @@
 ghost use Rattle.std.specs.Prelude.{List};
 ghost use Rattle.dpc_model.specs.declared.messages.Event.{Event};
 ghost use Rattle.dpc_model.specs.declared.scripts.Script.{Script};
-ghost use Rattle.law_survivors.specs.Spared.{SparedStandWhole, KeepsOneWhole, SendersKeepForSpared, SnapshotsSuffice, SparedAreNotRefused, HearWhole, RefusedAreNotAnswered, AckedIsDone, KnowsPresently, KnowNoMore, KeptWhileRecovering, NoneStartsAfresh};
+ghost use Rattle.law_survivors.specs.Spared.{SparedStandWhole, KeepsOneWhole, SendersKeepForSpared, SnapshotsSuffice, SparedAreNotRefused, HearWhole, RefusedAreNotAnswered, AckedIsDone, KnowsPresently, KnowNoMore, KeptWhileRecovering, NoneStartsAfresh, StandsOnceTicked, NeverAgain, BeginsOnce, EndsInTime, RecoversTogether, BeginnersLack, RestsOnceWhole};
 
 /// In every live run a replica that the script never crashes is up at each point, and does not recover, whichever others are crashed, of
 /// its own fragment and of those that it reads.
@@ -71,4 +71,46 @@ pub fn senders_keep_for_one_that_recovers()
 /// never crashed.
 pub fn nobody_starts_afresh()
     ensures { (script : Script) → NoneStartsAfresh script }
+{}
+
+/// Who goes on from a snapshot that such a replica made for it in the fourth quiet phase or behind it, and does not recover before its next
+/// tick, never recovers again: it holds what its senders may forget, and the sessions that it opens then are new to them.
+pub fn who_goes_on_from_a_good_snapshot_stands_once_it_ticks()
+    ensures { (script : Script) (events : List Event) → StandsOnceTicked script events }
+{}
+
+/// In the one-thread journal nothing that could make it recover comes before that tick. So whoever goes on from such a snapshot never
+/// recovers again.
+pub fn who_goes_on_from_a_good_snapshot_never_recovers_again()
+    ensures { (script : Script) → NeverAgain script }
+{}
+
+/// Where the script crashes at most one replica of each fragment, and another one is there, no replica begins twice to recover from the
+/// fourth quiet phase of the one-thread journal on: it goes on from the snapshot of one that is never crashed, made behind its beginning.
+pub fn no_replica_begins_twice_to_recover()
+    ensures { (script : Script) → BeginsOnce script }
+{}
+
+/// In quiet phases of the one-thread journal a replica that recovers beside one which the script never crashes goes on within three phases:
+/// its asks are answered in the next one, and the answer comes in the one behind that, or once more for a refusal that came late.
+pub fn recoveries_end_in_time()
+    ensures { (script : Script) → EndsInTime script }
+{}
+
+/// So all points past the seventh quiet phase of such a run at which a replica recovers lie within three phases: it begins once, and ends
+/// in time.
+pub fn recoveries_of_a_replica_lie_together()
+    ensures { (script : Script) → RecoversTogether script }
+{}
+
+/// Whoever begins to recover beside a replica that the script never crashes, and ticked since it last recovered, lacks something of the
+/// stream of a fragment that it reads: who holds whole streams is never refused them.
+pub fn who_begins_to_recover_lacks_something()
+    ensures { (script : Script) (events : List Event) → BeginnersLack script events }
+{}
+
+/// And where it holds whole streams whenever it did not recover for so many phases, counted from some phase past the seventh quiet one, it
+/// recovers no more so many and four phases behind that one.
+pub fn recoveries_are_over_once_streams_are_whole()
+    ensures { (script : Script) → RestsOnceWhole script }
 {}
