@@ -1,0 +1,3 @@
+pub mod Points
+pub mod Drawing
+pub mod Counting

@@ -1,0 +1,7 @@
+use Rattle.picture_svg.specs.Svg.{legend_text}
+use Rattle.picture_svg.proofs.Parts.{four_parts}
+use Rattle.picture_svg.proofs.svg.put_legend.Goals as goal
+
+pub returns : goal.returns
+unfolding legend_text
+returns c = rw (c.in_ok-put_text-4.ensures, c.in_ok-put_text-3.ensures, c.in_ok-put_text-2.ensures, c.in_ok-put_text.ensures) (four_parts c.args.text.now.items _ _ _ _)

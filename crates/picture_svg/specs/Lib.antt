@@ -1,0 +1,5 @@
+pub mod Shapes
+pub mod Layout
+pub mod Values
+pub mod Lanes
+pub mod Svg

@@ -1,0 +1,12 @@
+//! The picture of a run as SVG.
+#![tactic(auto)]
+
+mod axis;
+mod lanes;
+mod layout;
+mod lines;
+mod shapes;
+mod svg;
+pub mod values;
+
+pub use svg::picture_svg;

@@ -1,0 +1,4 @@
+mod Tallying
+mod Replicas
+mod Linking
+mod Seeing
