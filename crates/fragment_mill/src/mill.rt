@@ -211,13 +211,6 @@ impl FragMill {
         self.width
     }
 
-    /// Whether a call wanted memory, and there was no reset since.
-    pub fn is_spent(&self) -> bool
-        ensures { result ≡ self.now.spent }
-    {
-        self.spent
-    }
-
     /// How many operators there are.
     pub fn operator_count(&self) -> usize
         ensures { result ≡ length (parts_of self.now).operators }
@@ -231,13 +224,6 @@ impl FragMill {
         ensures { slice_get (parts_of self.now).operators number ≡ Some (shown result) }
     {
         self.stages[number].operator.kept()
-    }
-
-    /// Each operator with what it reads, in order.
-    pub fn stages(&self) -> &[Stage]
-        ensures { result.now ≡ self.now.stages }
-    {
-        self.stages.as_slice()
     }
 
     /// Takes the inputs of the next bucket, as `bucket` does, and gives the rows that they add one behind

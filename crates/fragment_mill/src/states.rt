@@ -242,6 +242,3 @@ pub(crate) fn resumed_stages(
     }
     Ok(stages)
 }
-
-#[cfg(test)]
-mod tests;

@@ -4,7 +4,7 @@ ghost use Rattle.disk_model.specs.Looking.{LeavesNoMore};
 ghost use Rattle.dpc_model.specs.Fragments.{AreSoundFrags};
 ghost use Rattle.dpc_model.specs.declared.plans.Plan.{Plan as PlanValue};
 ghost use Rattle.saved_slots.specs.Faults.{IsStop};
-ghost use Rattle.saved_slots.specs.Slots.{slot_number, number_of, given};
+ghost use Rattle.saved_slots.specs.Slots.{number_of, given};
 ghost use Rattle.saved_slots.specs.declared.fault.SaveFault.TheVariants.{NoMemory, DiskFault, Full, Broken, Reopen};
 ghost use Rattle.snapshot_form.specs.Bytes.{snapshot_bytes};
 ghost use Rattle.snapshot_form.specs.Savable.{IsSavable};
@@ -14,7 +14,7 @@ use disk_model::disk::Disk;
 use dpc_model::plans::Plan;
 use pipeline::snapshots::Snapshot;
 use saved_slots::fault::SaveFault;
-use saved_slots::slots::SavedSlots;
+use saved_slots::slots::{SavedSlots, slot_number};
 use snapshot_reader::faults::ReadFault;
 use snapshot_reader::snapshot::read_snapshot;
 use snapshot_writer::payload::SnapshotPayload;
@@ -24,16 +24,6 @@ use std::alloc::Global;
 #[derive(Drop)]
 pub struct SavedPoint<D: Disk> {
     slots: SavedSlots<D>,
-}
-
-/// The number of a slot: 0 of the first, 1 of the second.
-fn slot_number(slot: Option<bool>) -> u64
-    ensures { (second : _) → slot ≡ Some second → result ≡ slot_number second }
-{
-    match slot {
-        Some(true) => 1,
-        _ => 0,
-    }
 }
 
 impl<D: Disk> SavedPoint<D> {
@@ -99,8 +89,8 @@ impl<D: Disk> SavedPoint<D> {
             Ok(snapshot) => Ok((SavedPoint { slots }, Some(snapshot))),
             Err(ReadFault::NoMemory) => Err((SaveFault::NoMemory, slots.into_disk())),
             Err(ReadFault::NoReading) => {
-                let broken = SaveFault::Broken(slot_number(slots.last_slot()));
-                Err((broken, slots.into_disk()))
+                let second = slots.last_slot().unwrap_or(false);
+                Err((SaveFault::Broken(slot_number(second)), slots.into_disk()))
             }
         }
     }
@@ -118,7 +108,7 @@ impl<D: Disk> SavedPoint<D> {
         // So does the disk itself, whatever was answered.
         ensures whatever { (plan : PlanValue) (frag : ℕ) → IsResting self.old → IsSavable plan frag snapshot.now
             → IsOldOrNew plan frag (room_in self.old) (kept_in plan frag self.old) snapshot.now (seen_in self.new) }
-        ensures honest { IsResting self.old → D.is_honest (disk_in self.new) }
+        ensures honest { D.is_honest (disk_in self.old) → D.is_honest (disk_in self.new) }
         ensures disk_fault { IsErrOf result DiskFault → faults_in self.old < faults_in self.new }
         ensures faults { faults_in self.old ≤ faults_in self.new }
         ensures refused { must_reopen self.old ≡ true → (result ≡ Err Reopen) × IsUnchanged self.old self.new }

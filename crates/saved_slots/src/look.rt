@@ -8,7 +8,7 @@ ghost use Rattle.saved_slots.specs.declared.fault.SaveFault.TheVariants.{DiskFau
 
 use crate::fault::SaveFault;
 use crate::reads::{Header, choose, read_header, read_payload};
-use crate::slots::start;
+use crate::slots::{slot_number, start};
 use disk_model::disk::Disk;
 use std::alloc::Global;
 
@@ -17,13 +17,6 @@ pub struct Found {
     pub last: Option<bool>,
     pub number: u64,
     pub payload: Option<Vec<u8>>,
-}
-
-// The slot's number as it is told.
-fn told(second: bool) -> u64
-    ensures { result ≡ slot_number second }
-{
-    if second { 1 } else { 0 }
 }
 
 fn header_of(which: bool, first: Header, second: Header) -> Header
@@ -61,7 +54,7 @@ pub(crate) fn look<D: Disk>(alloc: Global, disk: &mut D, room: u64) -> Result<Fo
     };
     let header = header_of(which, first, second);
     if header.length > room - 32 {
-        return Err(SaveFault::Broken(told(which)));
+        return Err(SaveFault::Broken(slot_number(which)));
     }
     let payload = read_payload(alloc, disk, start(room, which) + 32, header.length)?;
     Ok(Found {

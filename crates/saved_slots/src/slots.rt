@@ -30,13 +30,20 @@ pub struct SavedSlots<D: Disk> {
 
 ghost use Rattle.disk_model.specs.Disk.{HasCause};
 ghost use Rattle.disk_model.specs.Synced.{IsSynced};
-ghost use Rattle.saved_slots.specs.Slots.{start_of, next_of, given};
+ghost use Rattle.saved_slots.specs.Slots.{start_of, next_of, given, slot_number as number_of_slot};
 
 /// Where a slot begins, in bytes.
 pub(crate) fn start(room: u64, second: bool) -> u64
     ensures { result ≡ start_of room second }
 {
     if second { room } else { 0 }
+}
+
+/// The number of a slot, as a fault tells it: 0 of the first, 1 of the second.
+pub fn slot_number(second: bool) -> u64
+    ensures { result ≡ number_of_slot second }
+{
+    if second { 1 } else { 0 }
 }
 
 fn next_slot(last: Option<bool>) -> bool
@@ -175,7 +182,7 @@ impl<D: Disk> SavedSlots<D> {
         ensures kept { IsResting self.old → OnOk result (kept_in self.new ≡ Holding (P.bytes payload.now)) }
         // So does the disk itself, whatever was answered.
         ensures whatever { IsResting self.old → IsOldOrNew (room_in self.old) (kept_in self.old) (P.bytes payload.now) (seen_in self.new) }
-        ensures honest { IsResting self.old → D.is_honest (disk_in self.new) }
+        ensures honest { D.is_honest (disk_in self.old) → D.is_honest (disk_in self.new) }
         ensures disk_fault { IsErrOf result DiskFault → faults_in self.old < faults_in self.new }
         ensures faults { faults_in self.old ≤ faults_in self.new }
         ensures refused { (why : _) → refusal_of (must_reopen self.old) (room_in self.old) (length (P.bytes payload.now)) ≡ Some why → (result ≡ Err why) × IsUnchanged self.old self.new }

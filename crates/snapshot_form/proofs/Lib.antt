@@ -6,3 +6,4 @@ pub mod Cells
 pub mod Operators
 pub mod ReadBack
 pub mod Reprinted
+pub mod Pieces

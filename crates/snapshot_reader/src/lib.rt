@@ -7,5 +7,3 @@ mod forms;
 mod operators;
 mod plain;
 pub mod snapshot;
-#[cfg(test)]
-mod tests;

@@ -9,7 +9,7 @@ use Rattle.fragment_mill.specs.States.{parts_of}
 use Rattle.fragment_mill.specs.declared.states.OperatorParts.{OperatorParts}
 use Rattle.fragment_mill.specs.declared.states.OperatorParts.TheVariants.{Plain, Join, Aggregate}
 use Rattle.snapshot_form.specs.Bytes.{tuples_bytes, list_bytes, part_bytes, parts_bytes, head_bytes, snapshot_bytes}
-use Rattle.snapshot_writer.specs.Pieces.{split_in, piece_size, parts_before_last, kept_parts, pieces_of}
+use Rattle.snapshot_form.specs.Pieces.{split_in, piece_size, parts_before_last, kept_parts, pieces_of}
 
 length-split : {T : Type 0} (k n : ℕ) (xs : List T) → length (split_in k n xs) ≡ n + 1
 length-split k zero xs = refl

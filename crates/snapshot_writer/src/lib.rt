@@ -3,6 +3,4 @@
 
 mod counting;
 pub mod payload;
-#[cfg(test)]
-mod tests;
 mod writing;

@@ -51,7 +51,8 @@ impl<'a> SnapshotPayload<'a> {
 
 impl Payload for SnapshotPayload<'_> {
     ghost use Rattle.snapshot_form.specs.Bytes.{snapshot_bytes};
-    ghost use Rattle.snapshot_writer.specs.Pieces.{pieces_of, pieces-joined};
+    ghost use Rattle.snapshot_form.specs.Pieces.{pieces_of};
+    ghost use Rattle.snapshot_form.proofs.Pieces.{pieces-joined};
 
     ghost bytes = { λ payload. snapshot_bytes payload };
 

@@ -5,7 +5,7 @@ ghost use Rattle.byteorder.specs.Endian.{big_bytes};
 ghost use Rattle.ops_window.specs.Saving.{saved_of, all_saved};
 ghost use Rattle.fragment_mill.specs.Views.{shown};
 ghost use Rattle.snapshot_form.specs.Bytes.{tuples_bytes, list_bytes, total_bytes, cell_bytes, part_bytes, head_bytes, snapshot_bytes};
-ghost use Rattle.snapshot_writer.specs.Pieces.{pieces_of, piece_size, parts_before_last};
+ghost use Rattle.snapshot_form.specs.Pieces.{pieces_of, piece_size, parts_before_last};
 
 use dpc_lists::faults::NoMemory;
 use dpc_model::tuples::Tuple;

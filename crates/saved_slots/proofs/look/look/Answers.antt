@@ -124,5 +124,5 @@ returns-then-header-room-clause-broken g c honest slot told =
     let is = one_is_given room image _ _ c.choose.result which one two c.choose.ensures c.in-Some.is in
     let head = header_is room image which _ _ _ one two c.header_of-header.ensures in
     let broken = is_broken room image which c.header_of-header.result c.requires.roomy is head c.if-header-room.true in
-    let number : slot ≡ slot_number which = cc (told, c.told.ensures) in
+    let number : slot ≡ slot_number which = cc (told, c.slot_number.ensures) in
     subst (λ (n : ℕ). IsBroken room image n) (sym number) broken

@@ -1,6 +1,6 @@
 use Rattle.std.proofs.Common.{ℕ, List, take, ap, ◌∙◌}
 use Rattle.dpc_model.specs.declared.tuples.Tuple.{Tuple}
-use Rattle.snapshot_writer.specs.Pieces.{piece_size}
+use Rattle.snapshot_form.specs.Pieces.{piece_size}
 use Rattle.snapshot_writer.proofs.Places.{first-of}
 use Rattle.snapshot_writer.proofs.writing.part.Goals as goal
 

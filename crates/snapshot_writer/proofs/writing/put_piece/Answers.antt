@@ -5,7 +5,7 @@ use Rattle.fragment_mill.specs.Mills.{MillState}
 use Rattle.fragment_mill.specs.States.{parts_of}
 use Rattle.fragment_mill.specs.Views.{shown}
 use Rattle.snapshot_form.specs.Bytes.{head_bytes, tuples_bytes}
-use Rattle.snapshot_writer.specs.Pieces.{pieces_of, parts_before_last, piece_size}
+use Rattle.snapshot_form.specs.Pieces.{pieces_of, parts_before_last, piece_size}
 use Rattle.snapshot_writer.proofs.Places.{length-pieces, piece-head, piece-kept, piece-part, part-short}
 use Rattle.snapshot_writer.proofs.writing.put_piece.Goals as goal
 

@@ -3,7 +3,7 @@ use Rattle.node_model.specs.Stands.{SnapValue}
 use Rattle.fragment_mill.specs.Mills.{MillState}
 use Rattle.fragment_mill.specs.States.{parts_of}
 use Rattle.snapshot_form.specs.Bytes.{snapshot_bytes}
-use Rattle.snapshot_writer.specs.Pieces.{pieces_of, parts_before_last}
+use Rattle.snapshot_form.specs.Pieces.{pieces_of, parts_before_last}
 use Rattle.snapshot_writer.proofs.Places.{length-pieces, count-short}
 use Rattle.snapshot_writer.proofs.payload.SnapshotPayloadPayload.count_pieces.Goals as goal
 
