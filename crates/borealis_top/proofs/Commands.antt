@@ -3,7 +3,7 @@ use Rattle.std.proofs.Common.{◌≡◌, ℕ, List, Option, None, Some, refl}
 use Rattle.dpc_edge.specs.Edges.{Edge}
 use Rattle.borealis_top.specs.declared.command.Reading.{Reading}
 use Rattle.borealis_top.specs.declared.command.Command.{Command}
-use Rattle.borealis_top.specs.declared.command.Command.TheVariants.{Read, Journal, Gen, Help, Reasons, Version}
+use Rattle.borealis_top.specs.declared.command.Command.TheVariants.{Read, Journal, Saves, Gen, Help, Reasons, Version}
 use Rattle.journal_commands.specs.declared.outcome.JournalCommand.{JournalCommand}
 use Rattle.borealis_top.specs.declared.status.Status.{Status}
 use Rattle.borealis_top.specs.Programs.{CommandEnds, PlainEnds}
@@ -16,14 +16,16 @@ ends-of : (command : Option Command) (input input_new out out_new err err_new : 
     ((seed : ℕ) → command ≡ Some (Gen seed) → CommandEnds (Some (Gen seed)) input input_new out out_new err err_new result) →
     ((reading : Reading) → command ≡ Some (Read reading) → CommandEnds (Some (Read reading)) input input_new out out_new err err_new result) →
     ((what : JournalCommand) → command ≡ Some (Journal what) → CommandEnds (Some (Journal what)) input input_new out out_new err err_new result) →
+    (command ≡ Some Saves → CommandEnds (Some Saves) input input_new out out_new err err_new result) →
     CommandEnds command input input_new out out_new err err_new result
-ends-of None input input_new out out_new err err_new result none help reasons version gen read journal = none refl
-ends-of (Some Help) input input_new out out_new err err_new result none help reasons version gen read journal = help refl
-ends-of (Some Reasons) input input_new out out_new err err_new result none help reasons version gen read journal = reasons refl
-ends-of (Some Version) input input_new out out_new err err_new result none help reasons version gen read journal = version refl
-ends-of (Some (Gen seed)) input input_new out out_new err err_new result none help reasons version gen read journal = gen seed refl
-ends-of (Some (Read reading)) input input_new out out_new err err_new result none help reasons version gen read journal = read reading refl
-ends-of (Some (Journal what)) input input_new out out_new err err_new result none help reasons version gen read journal = journal what refl
+ends-of None input input_new out out_new err err_new result none help reasons version gen read journal saves = none refl
+ends-of (Some Help) input input_new out out_new err err_new result none help reasons version gen read journal saves = help refl
+ends-of (Some Reasons) input input_new out out_new err err_new result none help reasons version gen read journal saves = reasons refl
+ends-of (Some Version) input input_new out out_new err err_new result none help reasons version gen read journal saves = version refl
+ends-of (Some (Gen seed)) input input_new out out_new err err_new result none help reasons version gen read journal saves = gen seed refl
+ends-of (Some (Read reading)) input input_new out out_new err err_new result none help reasons version gen read journal saves = read reading refl
+ends-of (Some (Journal what)) input input_new out out_new err err_new result none help reasons version gen read journal saves = journal what refl
+ends-of (Some Saves) input input_new out out_new err err_new result none help reasons version gen read journal saves = saves refl
 
 pub plain-ends : (names : Option (List ℕ × List ℕ)) (command : Option Command) (input input_new out out_new err err_new : Edge) (result : Status) →
     (command ≡ None → names ≡ None → CommandEnds None input input_new out out_new err err_new result) →
@@ -33,8 +35,9 @@ pub plain-ends : (names : Option (List ℕ × List ℕ)) (command : Option Comma
     ((seed : ℕ) → command ≡ Some (Gen seed) → CommandEnds (Some (Gen seed)) input input_new out out_new err err_new result) →
     ((reading : Reading) → command ≡ Some (Read reading) → CommandEnds (Some (Read reading)) input input_new out out_new err err_new result) →
     ((what : JournalCommand) → command ≡ Some (Journal what) → CommandEnds (Some (Journal what)) input input_new out out_new err err_new result) →
+    (command ≡ Some Saves → CommandEnds (Some Saves) input input_new out out_new err err_new result) →
     ((pair : List ℕ × List ℕ) → names ≡ Some pair → PlainEnds (Some pair) command input input_new out out_new err err_new result) →
     PlainEnds names command input input_new out out_new err err_new result
-plain-ends (Some pair) command input input_new out out_new err err_new result none help reasons version gen read journal paired = paired pair refl
-plain-ends None command input input_new out out_new err err_new result none help reasons version gen read journal paired =
-    ends-of command input input_new out out_new err err_new result (λ e. none e refl) help reasons version gen read journal
+plain-ends (Some pair) command input input_new out out_new err err_new result none help reasons version gen read journal saves paired = paired pair refl
+plain-ends None command input input_new out out_new err err_new result none help reasons version gen read journal saves paired =
+    ends-of command input input_new out out_new err err_new result (λ e. none e refl) help reasons version gen read journal saves

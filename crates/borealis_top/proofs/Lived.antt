@@ -1,10 +1,10 @@
 -- How a run by several threads ends, from how its parts ended.
-use Rattle.std.proofs.Common.{◌≡◌, ℕ, ◌+◌, ◌^◌, ◌<◌, ◌≤◌, ◌⊎◌, inl, inr, List, ◌++◌, length, Option, None, Some, Ok, Err, true, false, refl, sym, subst, ◌∙◌, ap, arith}
+use Rattle.std.proofs.Common.{◌≡◌, ℕ, ◌+◌, ◌^◌, ◌<◌, ◌⊎◌, inl, inr, List, length, Option, None, Some, refl, sym, subst, ◌∙◌, ap, arith}
 use Rattle.std.proofs.lemmas.Bool.{lt-ltb}
 use Rattle.std.proofs.lemmas.List.{length-append}
 use Rattle.std.specs.Io.KnownBytes.{Consumes, IsAtEnd}
 use Rattle.dpc_edge.specs.Faults.{Rises}
-use Rattle.dpc_edge.specs.Edges.{Edge, Gave, Took}
+use Rattle.dpc_edge.specs.Edges.{Edge, Gave}
 use Rattle.dpc_model.specs.Limits.{most_input}
 use Rattle.dpc_model.specs.declared.scripts.Script.{Script}
 use Rattle.script_rules.specs.declared.reasons.Reason.TheVariants.{PastLimit}
@@ -16,7 +16,7 @@ use Rattle.live_commands.specs.Endings as live
 use Rattle.borealis_top.specs.declared.command.LiveCommand.{LiveCommand}
 use Rattle.borealis_top.specs.declared.status.Status.{Status}
 use Rattle.borealis_top.specs.declared.status.Status.TheVariants.{Done, Refused, NoMemory, NotSettled, TooLong}
-use Rattle.borealis_top.specs.LiveEnds.{LiveComesTo, LeftOpen, LiveEnds, IsLiveWhole, LiveIsWhole, IsLiveTold}
+use Rattle.borealis_top.specs.LiveEnds.{LiveComesTo, LiveEnds, IsLiveWhole, LiveIsWhole, IsLiveTold}
 use Rattle.borealis_top.proofs.Ended.{consumed-all, long-refusal, Stays-same, told-Took}
 
 -- ---- by status

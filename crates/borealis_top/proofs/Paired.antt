@@ -1,8 +1,10 @@
--- What holds of the run of a script and of the one stream of two of its clients.
-use Rattle.std.proofs.Common.{◌≡◌, ℕ, ◌^◌, ◌<◌, List, length, Err, ap, refl}
+-- What holds of the run of a script, of the one stream of two of its clients, and where its nodes save.
+use Rattle.std.proofs.Common.{◌≡◌, ℕ, ◌^◌, ◌<◌, List, length, Result, Err, ap, refl, sym, subst, ◌∙◌}
 use Rattle.std.proofs.lemmas.Bool.{lt-ltb}
 use Rattle.dpc_model.specs.Limits.{most_input}
+use Rattle.dpc_model.specs.declared.scripts.Script.{Script}
 use Rattle.script_rules.specs.Reading.{reading}
+use Rattle.script_rules.specs.declared.reasons.PlanFault.{PlanFault}
 use Rattle.script_rules.specs.declared.reasons.Reason.TheVariants.{PastLimit}
 use Rattle.law_scripts.proofs.ReadChecked.{reads_checked}
 use Rattle.law_pairs.proofs.Whole.{one-stream}
@@ -11,7 +13,8 @@ use Rattle.journal_commands.proofs.Promised.{read-can-run}
 use Rattle.pair_commands.specs.Pairs.{read_ending}
 use Rattle.pair_commands.proofs.Readers.{named-readers}
 use Rattle.borealis_top.specs.InputEnds.{IsSound}
-use Rattle.borealis_top.specs.Questions.{pair_question}
+use Rattle.saves_commands.specs.Endings.{EndsRead}
+use Rattle.borealis_top.specs.Questions.{pair_question, saves_question}
 use Rattle.borealis_top.proofs.Runs.{good-run}
 
 long-reading : (text : List ℕ) → most_input < length text → reading text ≡ Err (record { line = 0; reason = PastLimit })
@@ -21,9 +24,18 @@ long-reading text long = rw (lt-ltb (2 ^ 26) (length text) long) refl
 pub pair-sound : (first second : List ℕ) → IsSound (pair_question first second)
 pair-sound first second =
     record {
-      long = λ text long. ap (read_ending first second) (long-reading text long);
+      long = λ text ending long. let is = ap (read_ending first second) (long-reading text long) in (λ e. sym e ∙ is, λ e. is ∙ sym e);
       all = λ text s x y is named.
           let can = read-can-run text s is in
           let readers = named-readers s.plan first second x y named in
           record { run = good-run s can (reads_checked text s is); readers = readers; stream = one-stream s.plan (lockstep_journal s) x y can.checked readers };
+    }
+
+pub saves-sound : IsSound saves_question
+saves-sound =
+    record {
+      long = λ text ending long.
+          let is = long-reading text long in
+          (λ e. subst (λ (r : Result Script PlanFault). EndsRead r ending) is e, λ e. subst (λ (r : Result Script PlanFault). EndsRead r ending) (sym is) e);
+      all = λ text s is. good-run s (read-can-run text s is) (reads_checked text s is);
     }

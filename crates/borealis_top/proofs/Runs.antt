@@ -1,9 +1,7 @@
 -- What holds of the run of a script that was read.
-use Rattle.std.proofs.Common.{◌≡◌, ◌⊎◌, inl, inr, ℕ, ◌+◌, List, length, Result, Ok, Err, IfOk, Bool, true, false, refl, ap}
-use Rattle.std.specs.Prelude.{not, ◌&&◌, IsTrue}
+use Rattle.std.proofs.Common.{◌≡◌, ℕ, ◌+◌, List, length, Ok, ap}
+use Rattle.std.specs.Prelude.{not}
 use Rattle.std.proofs.lemmas.Bool.{and_parts}
-use Rattle.dpc_model.specs.declared.messages.Event.{Event}
-use Rattle.dpc_model.specs.declared.plans.Plan.{Plan}
 use Rattle.dpc_model.specs.declared.scripts.Script.{Script}
 use Rattle.script_rules.specs.Reading.{reading, script_in}
 use Rattle.script_rules.specs.Checking.{IsChecked}
@@ -14,7 +12,7 @@ use Rattle.law_fit.specs.Fits.{CanRun}
 use Rattle.law_checked_runs.proofs.Plans.{can_run}
 use Rattle.journal_commands.proofs.Promised.{quiet-so, none-open}
 use Rattle.law_safety.proofs.Law.{run-safe}
-use Rattle.world_model.specs.Worlds.{run, all_settled}
+use Rattle.world_model.specs.Worlds.{all_settled}
 use Rattle.world_model.specs.Schedules.{lockstep_journal, quiet_limit}
 use Rattle.law_schedules.specs.Journals.{phases_in}
 use Rattle.law_schedules.proofs.Lockstep.{lock-live}

@@ -6,7 +6,7 @@ use Rattle.borealis_top.specs.declared.command.Form.TheVariants.{Text, Short, Js
 use Rattle.borealis_top.specs.declared.command.Reading.{Reading}
 use Rattle.borealis_top.specs.declared.command.Reading.TheVariants.{Run, Check, Print, Ideal}
 use Rattle.borealis_top.specs.declared.command.Command.{Command}
-use Rattle.borealis_top.specs.declared.command.Command.TheVariants.{Read, Journal, Gen, Help, Reasons, Version}
+use Rattle.borealis_top.specs.declared.command.Command.TheVariants.{Read, Journal, Saves, Gen, Help, Reasons, Version}
 use Rattle.borealis_top.specs.declared.command.LiveCommand.{LiveCommand}
 use Rattle.input_parts.specs.declared.notation.Notation.{Notation}
 use Rattle.input_parts.specs.declared.notation.Notation.TheVariants as notation
@@ -45,7 +45,8 @@ command_word w =
     if bytes_eq w (codes "--help") then Some Help
     else (if bytes_eq w (codes "--version") then Some Version
     else (if bytes_eq w (codes "reasons") then Some Reasons
-    else input_word w))
+    else (if bytes_eq w (codes "saves") then Some Saves
+    else input_word w)))
 
 -- the number of a generated script: 1 to 1000
 abbrev pub seed_of : List ℕ → Option ℕ

@@ -1,5 +1,5 @@
 -- How a command that asks something of a whole input ends: what each side of it took or gave, by status.
-use Rattle.std.specs.Prelude.{◌≡◌, ◌⊎◌, ℕ, ◌+◌, ◌<◌, List, length, Some}
+use Rattle.std.specs.Prelude.{◌≡◌, ◌⊎◌, ◌↔◌, ℕ, ◌+◌, ◌<◌, List, length, Some}
 use Rattle.std.specs.Io.KnownBytes.{IsAtEnd}
 use Rattle.dpc_edge.specs.Faults.{Rises}
 use Rattle.dpc_edge.specs.Edges.{Edge, Stays, Gave, Took, TookPart}
@@ -15,15 +15,15 @@ use Rattle.borealis_top.specs.declared.transfer.InputFault.TheVariants as input_
 use Rattle.borealis_top.specs.Transfers.{GaveAtMost}
 use Rattle.borealis_top.specs.Ends.{IsTold, IsToldOpen}
 
--- how long an input may be, what it comes to, and what is promised of it
+-- how long an input may be, what it may come to, and what is promised of it
 pub record Question : Type 1 where
   pub most : ℕ
-  pub ending : List ℕ → Ending
+  pub comes : List ℕ → Ending → Type 0
   pub holds : List ℕ → Type 0
 
 -- an input that is longer is refused, and what is promised holds of every one
 pub record IsSound (q : Question) : Type 0 where
-  pub long : (text : List ℕ) → q.most < length text → q.ending text ≡ RefusedBy (fault_line (record { line = 0; reason = PastLimit }))
+  pub long : (text : List ℕ) (ending : Ending) → q.most < length text → q.comes text ending ↔ (ending ≡ RefusedBy (fault_line (record { line = 0; reason = PastLimit })))
   pub all : (text : List ℕ) → q.holds text
 
 -- an input was read to its end, or to one byte past the longest, and comes to this; what is promised of it holds
@@ -31,7 +31,7 @@ pub record ComesTo (q : Question) (input input_new : Edge) (ending : Ending) : T
   pub text : List ℕ
   pub gave : Gave input input_new text
   pub whole : IsAtEnd input_new.bytes ⊎ (length text ≡ q.most + 1)
-  pub comes : q.ending text ≡ ending
+  pub comes : q.comes text ending
   pub holds : q.holds text
 
 -- at most one byte past the longest input was read
@@ -93,8 +93,8 @@ IsWholeBy (PastLimits sums) out out_new err err_new result =
 IsWholeBy (RefusedBy line) out out_new err err_new result =
     (Rises err.faults err_new.faults → ⊥) → ((result ≡ Refused) × Took err err_new line) ⊎ (result ≡ NoMemory)
 
--- so it is of every input that does not fail
+-- so it is of what every input that does not fail comes to
 abbrev pub IsWholeFor : Question → Edge → Edge → Edge → Edge → Edge → Edge → Status → Type 0
 IsWholeFor q input input_new out out_new err err_new result =
     (bytes : List ℕ) → input.bytes ≡ Some bytes → (Rises input.faults input_new.faults → ⊥) →
-    IsWholeBy (q.ending bytes) out out_new err err_new result
+    ((ending : Ending) × q.comes bytes ending × IsWholeBy ending out out_new err err_new result) ⊎ (result ≡ NoMemory)

@@ -1,9 +1,8 @@
 -- What the commands on a whole input ask of it.
-use Rattle.std.specs.Prelude.{◌≡◌, ℕ, List, None, Some}
+use Rattle.std.specs.Prelude.{◌≡◌, ℕ, List, Some}
 use Rattle.dpc_model.specs.Limits.{most_input}
 use Rattle.dpc_model.specs.declared.scripts.Script.{Script}
 use Rattle.script_rules.specs.Reading.{read}
-use Rattle.world_model.specs.Worlds.{excess}
 use Rattle.world_model.specs.Schedules.{lockstep_journal}
 use Rattle.journal_commands.specs.declared.outcome.JournalCommand.{JournalCommand}
 use Rattle.journal_commands.specs.Endings.{most_journal_input, ending_of}
@@ -11,12 +10,13 @@ use Rattle.journal_commands.specs.Promises.{Holds}
 use Rattle.law_pairs.specs.Pairs.{AreReaders, IsOneStream}
 use Rattle.pair_commands.specs.Named.{pair_named}
 use Rattle.pair_commands.specs.Pairs.{pair_ending}
+use Rattle.saves_commands.specs.Endings.{EndsSaves}
 use Rattle.borealis_top.specs.Ends.{IsGoodRun}
 use Rattle.borealis_top.specs.InputEnds.{Question}
 
 -- of a script and the journal or stream behind it
 abbrev pub journal_question : JournalCommand → Question
-journal_question what = record { most = most_journal_input; ending = ending_of what; holds = Holds what }
+journal_question what = record { most = most_journal_input; comes = λ input ending. ending_of what input ≡ ending; holds = Holds what }
 
 -- what holds of the run of a script and of the one stream of two of its clients
 pub record IsGoodPair (s : Script) (x y : ℕ) : Type 0 where
@@ -30,4 +30,8 @@ PairHolds first second input = (s : Script) (x y : ℕ) → read input ≡ Some 
 
 -- of a script with clients under these names
 abbrev pub pair_question : List ℕ → List ℕ → Question
-pair_question first second = record { most = most_input; ending = pair_ending first second; holds = PairHolds first second }
+pair_question first second = record { most = most_input; comes = λ input ending. pair_ending first second input ≡ ending; holds = PairHolds first second }
+
+-- of a script whose nodes save
+abbrev pub saves_question : Question
+saves_question = record { most = most_input; comes = EndsSaves; holds = λ input. (s : Script) → read input ≡ Some s → IsGoodRun s }

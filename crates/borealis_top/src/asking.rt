@@ -30,7 +30,7 @@ pub(crate) trait Inquiry {
     /// What an input comes to.
     fn answer(&self, alloc: Global, input: Vec<u8>) -> Result<Outcome, NoMemory>
         requires { vec_len input ≤ (question self.now).most }
-        ensures { IfOk result (IsEnding ((question self.now).ending input.items)) };
+        ensures { IfOk result (λ outcome. (ending : Ending) × (question self.now).comes input.items ending × IsEnding ending outcome) };
 }
 
 impl Inquiry for JournalCommand {
@@ -62,6 +62,26 @@ impl Inquiry for PairNames<'_> {
 
     fn answer(&self, alloc: Global, input: Vec<u8>) -> Result<Outcome, NoMemory> {
         pair_commands::answer(alloc, self.first, self.second, input)
+    }
+}
+
+/// What nodes save in a script's run.
+#[derive(Clone, Copy)]
+pub struct NodeSaves;
+
+impl Inquiry for NodeSaves {
+    ghost use Rattle.borealis_top.specs.Questions.{saves_question};
+
+    ghost question = { λ _. saves_question };
+
+    fn is_sound(&self) {}
+
+    fn most_input(&self) -> usize {
+        MOST_INPUT
+    }
+
+    fn answer(&self, alloc: Global, input: Vec<u8>) -> Result<Outcome, NoMemory> {
+        saves_commands::answer(alloc, input)
     }
 }
 

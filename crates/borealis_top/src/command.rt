@@ -58,6 +58,8 @@ pub enum Command {
     Read(Reading),
     /// Reads a script and what stands behind it, and answers.
     Journal(JournalCommand),
+    /// Reads a script, and tells what its nodes save.
+    Saves,
     /// Writes the generated script of a number.
     Gen(u64),
     /// Writes which words there are.
@@ -145,6 +147,8 @@ fn lone_command(word: &String) -> Option<Command>
         Some(Command::Version)
     } else if is_word(word, b"reasons") {
         Some(Command::Reasons)
+    } else if is_word(word, b"saves") {
+        Some(Command::Saves)
     } else {
         input_command(word)
     }

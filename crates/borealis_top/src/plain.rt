@@ -10,13 +10,13 @@ ghost use Rattle.journal_commands.specs.declared.outcome.JournalCommand as journ
 ghost use Rattle.status_lines.specs.Lines as lines;
 ghost use Rattle.borealis_top.specs.Commands.{command_of, pair_of};
 ghost use Rattle.borealis_top.specs.InputEnds.{EndsBy, IsWholeFor};
-ghost use Rattle.borealis_top.specs.Questions.{journal_question, pair_question};
+ghost use Rattle.borealis_top.specs.Questions.{journal_question, pair_question, saves_question};
 ghost use Rattle.borealis_top.specs.Texts.{help_text, version_text, unknown_words_line};
 ghost use Rattle.borealis_top.specs.Ends.{IsTold, IsToldBoth, IsToldOpen, IsToldAlong, ReadEnds, ReadIsWhole, GenEnds};
 ghost use Rattle.borealis_top.specs.declared.command.Reading as reading;
 
 use crate::answer::{Answer, answer_script};
-use crate::asking::ask;
+use crate::asking::{NodeSaves, ask};
 use crate::command::{Command, Reading, command_in, pair_in};
 use crate::status::Status;
 use crate::transfer::{InputFault, MOST_INPUT, read_whole};
@@ -54,6 +54,7 @@ borealis live N frames < SCRIPT   the same as frames
 borealis live N pool M < SCRIPT   the same as live N, with M threads more, 1 to 16, that process what the N put into a pool
 borealis live N watch R < SCRIPT  the same as live N, with R threads more, 1 to 8, that read what the clients take, and what they saw
 borealis pair X Y < SCRIPT        runs a script, and writes one stream made of what clients X and Y of one stream received
+borealis saves < SCRIPT           runs a script where each node saves its state at the end of each phase, and tells what each has saved
 borealis gen N                    writes the generated script of a number, 1 to 1000
 borealis reasons                  writes the reasons to refuse a line, each with its number
 borealis --help                   writes these lines
@@ -128,6 +129,11 @@ pub fn plain<S: Source, O: Sink, E: Sink>(
     ensures answered { (what : journal.JournalCommand) → command_of (map string_bytes words.now) ≡ Some (Command.Journal what)
         → IsWholeFor (journal_question what) (S.edge input.old) (S.edge input.new) (O.edge out.old) (O.edge out.new) (E.edge err.old)
         (E.edge err.new) result }
+    ensures saves { command_of (map string_bytes words.now) ≡ Some Command.Saves
+        → EndsBy saves_question (S.edge input.old) (S.edge input.new) (O.edge out.old) (O.edge out.new) (E.edge err.old) (E.edge err.new) result }
+    ensures saved { command_of (map string_bytes words.now) ≡ Some Command.Saves
+        → IsWholeFor saves_question (S.edge input.old) (S.edge input.new) (O.edge out.old) (O.edge out.new) (E.edge err.old)
+        (E.edge err.new) result }
     ensures pair { (first second : List ℕ) → pair_of (map string_bytes words.now) ≡ Some (first, second)
         → EndsBy (pair_question first second) (S.edge input.old) (S.edge input.new) (O.edge out.old) (O.edge out.new)
         (E.edge err.old) (E.edge err.new) result }
@@ -146,6 +152,7 @@ pub fn plain<S: Source, O: Sink, E: Sink>(
         Some(Command::Gen(seed)) => gen_script(alloc, seed, out),
         Some(Command::Read(reading)) => read(alloc, reading, input, out, err),
         Some(Command::Journal(what)) => ask(alloc, &what, input, out, err),
+        Some(Command::Saves) => ask(alloc, &NodeSaves, input, out, err),
     }
 }
 

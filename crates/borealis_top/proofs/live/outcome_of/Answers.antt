@@ -1,5 +1,5 @@
 -- What was read to its end comes to what is defined, and what is longer than the longest is refused.
-use Rattle.std.proofs.Common.{ap, sym, inl, Err, arith}
+use Rattle.std.proofs.Common.{ap, inl, Err, arith}
 use Rattle.script_rules.specs.declared.reasons.Reason.TheVariants.{PastLimit}
 use Rattle.live_commands.specs.Endings.{Refused}
 use Rattle.borealis_top.proofs.Lived.{long-LiveComesTo}

@@ -1,0 +1,5 @@
+mod Law
+mod Listing
+mod Ups
+mod Nodes
+mod Seeing

@@ -1,0 +1,3 @@
+mod Disks
+mod Nodes
+pub mod Told

@@ -1,0 +1,4 @@
+pub mod Faults
+pub mod Disks
+pub mod Nodes
+pub mod Told

@@ -1,0 +1,7 @@
+//! What the nodes of a script's run save.
+#![tactic(auto)]
+
+mod answering;
+mod lines;
+
+pub use answering::answer;
