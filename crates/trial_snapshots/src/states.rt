@@ -17,7 +17,11 @@ fn a_state_comes_back(rt: HostRuntime) -> Result<(), Fail> {
     let alloc = rt.alloc();
     let plan = plan(alloc, join_operators(alloc)?)?;
     let mut mill = FragMill::new(alloc, &plan, 0)?;
-    let inputs = vec![in alloc; input(alloc, 0, 3)?, input(alloc, 0, 6)?, input(alloc, 1, 8)?]?;
+    let inputs = vec![in alloc;
+        input(alloc, 0, 3)?,
+        input(alloc, 0, 6)?,
+        input(alloc, 1, 8)?,
+    ]?;
     let k = mill.next_bucket();
     assert_eq!(rt; k, 0);
     assert!(rt; fits_bucket(inputs.as_slice(), plan.width, k));
