@@ -1,7 +1,7 @@
--- So a calm one-thread journal is steady.
-use Rattle.std.proofs.Common.{◌≡◌, ℕ, zero, suc, ◌+◌, ◌<◌, ◌≤◌, true, false, List, [], ◌∷◌, ◌++◌, map, length, refl, sym, ap, subst, ◌∙◌, arith, Option, Some, None, slice_get}
+-- So in the one-thread journal who does not recover hears every beat, and a calm one is steady.
+use Rattle.std.proofs.Common.{◌≡◌, ℕ, zero, suc, ◌+◌, ◌<◌, ◌≤◌, ◌==◌, true, false, List, [], ◌∷◌, ◌++◌, map, length, refl, sym, ap, subst, ◌∙◌, arith, Option, Some, None, slice_get}
 use Rattle.std.specs.Prelude.{IfSome}
-use Rattle.std.proofs.lemmas.List.{append_assoc}
+use Rattle.std.proofs.lemmas.List.{append-nil, append_assoc}
 use Rattle.std.proofs.lemmas.Option.{slice_get_within}
 use Rattle.dpc_lists.specs.Lists.{nth}
 use Rattle.dpc_model.specs.Actors.{role_of, inputs_of, senders_of}
@@ -19,27 +19,32 @@ use Rattle.dpc_model.specs.declared.scripts.Script.{Script}
 use Rattle.node_model.specs.Nodes.{PlainNode, streams_of}
 use Rattle.world_model.specs.Orderly.{is_port_sound, are_ports_sound}
 use Rattle.world_model.specs.Worlds.{World, home_of, slot_of, client_at, happens, run_from, run, new_world}
-use Rattle.world_model.specs.Schedules.{Progress, first_progress, next_progress, progress, is_live, lockstep_journal, settling_phases}
+use Rattle.world_model.specs.Schedules.{Progress, first_progress, next_progress, progress, is_live_so_far, is_live, lockstep_journal, settling_phases}
 use Rattle.world_model.specs.Steady.{NoneThree, IsHeardAt, AreHeard, HeardBy, TickIsHeard, phase_at, SteadyFrom, IsSteady, OpensWell}
 use Rattle.dpc_lists.proofs.Truths.{both}
 use Rattle.law_safety.proofs.Happening.{node-here}
 use Rattle.law_safety.proofs.Numbering.{home-inputs}
 use Rattle.law_safety.proofs.Worlding.{client-below}
 use Rattle.law_granting.specs.Taken.{node_port, role_port, port_of}
-use Rattle.law_schedules.proofs.Journals.{live-far, progress-run}
+use Rattle.law_schedules.proofs.Journals.{live-far, prefix-live, phases-counted, progress-run}
 use Rattle.law_schedules.proofs.Lockstep.{lock-live}
 use Rattle.law_readers.specs.Newest.{IsPortOf}
 use Rattle.law_readers.specs.Settling.{CanSettle}
 use Rattle.law_readers.proofs.Known.{run-clients}
+use Rattle.law_settling.specs.Rests.{RestsPast}
+use Rattle.law_settling.proofs.Steadily.{well-part, rests-along}
 use Rattle.law_settling.proofs.Along.{progress-push, running-along, phase_after, phase-from}
 use Rattle.law_settling.proofs.Lines.{reading-of}
 use Rattle.law_settling.proofs.Promises.{IsOpenAt, open-of}
+use Rattle.law_settling.proofs.Waitings.{is_due, comes}
+use Rattle.law_settling_readers.specs.Streams.{HearsPast}
 use Rattle.law_settling_readers.proofs.Readers.{reader-of}
 use Rattle.law_settling_readers.proofs.Watched.{port-watched}
-use Rattle.law_lockstep.specs.Calm.{CalmFrom, IsCalm}
+use Rattle.law_lockstep.specs.Calm.{CalmFrom, IsCalm, RestingReadersHear}
 use Rattle.law_lockstep.proofs.Tidy.{is_tidy, lock-tidy}
 use Rattle.law_lockstep.proofs.Waiting.{within-tick}
-use Rattle.law_lockstep.proofs.Seeing.{calm-along, seen-along}
+use Rattle.law_lockstep.proofs.Order.{none-ticked, nothing-due}
+use Rattle.law_lockstep.proofs.Seeing.{calm-rests, seen-along}
 
 -- ---- lists
 
@@ -66,8 +71,11 @@ client-reads (client ∷ cs) (suc c) low = client-reads cs c (omega (arith, low)
 
 -- ---- a tick
 
-module _ (script : Script) (events : List Event) (can : CanSettle script) (live : is_live script events ≡ true) (tidy : is_tidy false events ≡ true) (well : OpensWell script events) (calm : IsCalm script events) where
-  module _ (done rest : List Event) (x now : ℕ) (is : events ≡ done ++ Tick x now ∷ rest) (far : length script.phases + settling_phases < (progress script done).phase) where
+module _ (script : Script) (events : List Event) (can : CanSettle script) (live : is_live_so_far script events ≡ true) (well : OpensWell script events)
+    (unticked : (done rest : List Event) (m : ℕ) → events ≡ done ++ Deliver m ∷ rest → (progress script done).ticked ≡ [])
+    (undue : (done rest : List Event) (a now m : ℕ) → events ≡ done ++ Tick a now ∷ rest → ((progress script done).phase == 0) ≡ false → m < length (progress script done).world.envelopes → comes (progress script done).world m ≡ true → is_due m (progress script done).waiting ≡ true → ⊥)
+    (x floor : ℕ) (late : length script.phases < floor) (rests : RestsPast script events x floor) where
+  module _ (done rest : List Event) (now : ℕ) (is : events ≡ done ++ Tick x now ∷ rest) (far : floor < (progress script done).phase) where
     -- the state behind it
     abbrev Next : Progress
     Next = next_progress script (progress script done) (Tick x now)
@@ -76,8 +84,8 @@ module _ (script : Script) (events : List Event) (can : CanSettle script) (live 
     open-next =
         let push = progress-push script done (Tick x now) in
         let later : events ≡ (done ++ Tick x now ∷ []) ++ rest = is ∙ sym (append_assoc done (Tick x now ∷ []) rest) in
-        let far_next : length script.phases + settling_phases < (progress script (done ++ Tick x now ∷ [])).phase = subst (λ (y : Progress). length script.phases + settling_phases < y.phase) (sym push) far in
-        subst (IsOpenAt script) push (open-of script can (progress script (done ++ Tick x now ∷ [])) (running-along script events (live-far script events live) well (done ++ Tick x now ∷ []) rest later (omega (arith, far_next))))
+        let far_next : floor < (progress script (done ++ Tick x now ∷ [])).phase = subst (λ (y : Progress). floor < y.phase) (sym push) far in
+        subst (IsOpenAt script) push (open-of script can (progress script (done ++ Tick x now ∷ [])) (running-along script events live well (done ++ Tick x now ∷ []) rest later (omega (arith, far_next, late))))
 
     many-next : length Next.world.clients ≡ length Next.world.plan.clients
     many-next =
@@ -102,9 +110,9 @@ module _ (script : Script) (events : List Event) (can : CanSettle script) (live 
             let reader = reader-of script.plan x p f can.once port in
             none-three q.watches (λ i u at.
             let inside = slice_get_within q.watches i u at in
-            within-tick script x p f reader.0 i (omega (arith, inside, many)) events live tidy
-            (λ before after split late. seen-along script events x p f reader.0 can reader.1 (live-far script events live) well before after split late)
-            (λ before after split late. calm-along script events calm before after split late) done rest now is far q there u at)
+            within-tick script x p f reader.0 i (omega (arith, inside, many)) events floor late live unticked undue
+            (λ before after split far_on. seen-along script events x p f reader.0 can reader.1 live well before after split far_on)
+            (λ before after split far_on. rests-along script events x floor live rests before after split far_on) done rest now is far q there u at)
 
     pub heard-by : HeardBy Next.world x (role_of Next.world.plan x)
     heard-by = by-role (role_of Next.world.plan x) refl
@@ -128,17 +136,21 @@ module _ (script : Script) (events : List Event) (can : CanSettle script) (live 
             let reads = client-reads Next.world.plan.clients c (client-below Next.world.plan x c role) in
             port-is-heard 0 reads.0 (client_at Next.world c).port (ap (λ (z : Role). slice_get (inputs_of Next.world.plan z) 0) role ∙ reads.1) (ap (λ (z : Role). role_port Next.world x 0 z) role)
 
-  event-heard : (done rest : List Event) (e : Event) → events ≡ done ++ e ∷ rest → length script.phases + settling_phases < phase_at (progress script done).phase e → TickIsHeard (happens (progress script done).world e) e
-  event-heard done rest (Tick a now) is far = heard-by done rest a now is far
-  event-heard done rest (Phase p) is far = tt
-  event-heard done rest (Emit s t) is far = tt
-  event-heard done rest (Release s t) is far = tt
-  event-heard done rest (Cut a b) is far = tt
-  event-heard done rest (Heal a b) is far = tt
-  event-heard done rest (Crash a) is far = tt
-  event-heard done rest (Restart a i) is far = tt
-  event-heard done rest (Deliver j) is far = tt
-  event-heard done rest (Mill a r) is far = tt
+  -- each tick of the reader past that phase
+  pub hears-past : HearsPast script events x floor
+  hears-past done rest now is far =
+      let counted = phases-counted script done (prefix-live script done (Tick x now ∷ rest) (subst (λ (es : List Event). is_live_so_far script es ≡ true) is live)) in
+      subst (λ (w : World). TickIsHeard (happens w (Tick x now)) (Tick x now)) (progress-run script done) (heard-by done rest now is (omega (arith, far, counted)))
+
+-- ---- a beginning of a journal in which nothing is due when one ticks
+
+pub tidy-hears : (script : Script) (whole events later : List Event) → CanSettle script → is_live script whole ≡ true → is_tidy false whole ≡ true → whole ≡ events ++ later → OpensWell script events → (x floor : ℕ) → length script.phases < floor → RestsPast script events x floor → HearsPast script events x floor
+tidy-hears script whole events later can live tidy is well x floor late rests =
+    let so_far = prefix-live script events later (subst (λ (es : List Event). is_live_so_far script es ≡ true) is (live-far script whole live)) in
+    hears-past script events can so_far well (λ done rest m at. none-ticked script whole live tidy done (rest ++ later) m (longer done (Deliver m ∷ rest) at)) (λ done rest a now m at. nothing-due script whole live tidy done (rest ++ later) a now m (longer done (Tick a now ∷ rest) at)) x floor late rests
+  where
+    longer : (done more : List Event) → events ≡ done ++ more → whole ≡ done ++ (more ++ later)
+    longer done more at = is ∙ ap (λ (es : List Event). es ++ later) at ∙ append_assoc done more later
 
 -- ---- the whole journal
 
@@ -150,13 +162,31 @@ steady-from script p w (e ∷ events) calm heard = (
   steady-from script (phase_at p e) (happens w e) events calm.1 (λ done rest d is far. heard (e ∷ done) rest d (ap (λ (es : List Event). e ∷ es) is) far),
 )
 
+-- a tick of anybody in a calm one
+event-heard : (script : Script) (events : List Event) → CanSettle script → is_live script events ≡ true → is_tidy false events ≡ true → OpensWell script events → IsCalm script events → (done rest : List Event) (e : Event) → events ≡ done ++ e ∷ rest → length script.phases + settling_phases < phase_at (progress script done).phase e → TickIsHeard (happens (run script.plan done) e) e
+event-heard script events can live tidy well calm done rest (Tick a now) is far =
+    let so_far = live-far script events live in
+    let counted = phases-counted script done (prefix-live script done (Tick a now ∷ rest) (subst (λ (es : List Event). is_live_so_far script es ≡ true) is so_far)) in
+    tidy-hears script events events [] can live tidy (sym (append-nil events)) well a (length script.phases + settling_phases) (omega arith) (calm-rests script events so_far calm a) done rest now is (omega (arith, far, counted))
+event-heard script events can live tidy well calm done rest (Phase p) is far = tt
+event-heard script events can live tidy well calm done rest (Emit s t) is far = tt
+event-heard script events can live tidy well calm done rest (Release s t) is far = tt
+event-heard script events can live tidy well calm done rest (Cut a b) is far = tt
+event-heard script events can live tidy well calm done rest (Heal a b) is far = tt
+event-heard script events can live tidy well calm done rest (Crash a) is far = tt
+event-heard script events can live tidy well calm done rest (Restart a i) is far = tt
+event-heard script events can live tidy well calm done rest (Deliver j) is far = tt
+event-heard script events can live tidy well calm done rest (Mill a r) is far = tt
+
 pub tidy-steady : (script : Script) (events : List Event) → CanSettle script → is_live script events ≡ true → is_tidy false events ≡ true → OpensWell script events → IsCalm script events → IsSteady script events
 unfolding run progress
 tidy-steady script events can live tidy well calm =
     steady-from script 0 (new_world script.plan) events calm (λ done rest e is far.
     let phase : (progress script done).phase ≡ phase_after 0 done = phase-from script (first_progress script) done in
-    let world : (progress script done).world ≡ run_from (new_world script.plan) done = progress-run script done in
-    subst (λ (w : World). TickIsHeard (happens w e) e) world (event-heard script events can live tidy well calm done rest e is (subst (λ (n : ℕ). length script.phases + settling_phases < phase_at n e) (sym phase) far)))
+    event-heard script events can live tidy well calm done rest e is (subst (λ (n : ℕ). length script.phases + settling_phases < phase_at n e) (sym phase) far))
 
 pub lock-steady : (script : Script) → CanSettle script → OpensWell script (lockstep_journal script) → IsCalm script (lockstep_journal script) → IsSteady script (lockstep_journal script)
 lock-steady script can well calm = tidy-steady script (lockstep_journal script) can (lock-live script) (lock-tidy script) well calm
+
+pub lock-hears : (script : Script) → RestingReadersHear script
+lock-hears script can well events later x floor is late rests = tidy-hears script (lockstep_journal script) events later can (lock-live script) (lock-tidy script) is (well-part script (lockstep_journal script) events later is well) x floor late rests

@@ -19,7 +19,6 @@ use Rattle.node_model.specs.Nodes.{PlainNode, own_readers}
 use Rattle.node_model.specs.NodeSteps.{tick_step}
 use Rattle.world_model.specs.Worlds.{World, Envelope, Slot, home_of, slot_of, from, node_stepped, can_come, happens}
 use Rattle.world_model.specs.Schedules.{Progress, next_progress, may_come, may_follow, is_phase_complete}
-use Rattle.world_model.specs.Steady.{NoneRecovers}
 use Rattle.dpc_lists.proofs.Truths.{eq-test, not-less}
 use Rattle.dpc_lists.proofs.Elements.{get-changed}
 use Rattle.dpc_lists.proofs.Somes.{some-same}
@@ -28,6 +27,7 @@ use Rattle.law_safety.proofs.Emptied.{shape-of}
 use Rattle.law_safety.proofs.Promises.{slot-here}
 use Rattle.law_granting.specs.Taken.{port_of}
 use Rattle.law_granting.proofs.Moves.{get-mapped, get-was}
+use Rattle.law_settling.specs.Rests.{RestsAt}
 use Rattle.law_settling.specs.Phased.{opened}
 use Rattle.law_settling.proofs.Fresh.{new-waits, still-sent}
 use Rattle.law_settling.proofs.Nodes.{node-ticked-now}
@@ -62,10 +62,10 @@ pub record Sees (script : Script) (x p f k : ℕ) (z : Progress) (e : Event) : T
   pub here : IsSeen script x p f k z
   pub next : IsSeen script x p f k (next_progress script z e)
 
--- and no node recovers
-pub record IsCalmly (z y : Progress) : Type 0 where
-  pub here : NoneRecovers z.world.nodes
-  pub next : NoneRecovers y.world.nodes
+-- and the reader does not recover
+pub record IsCalmly (x : ℕ) (z y : Progress) : Type 0 where
+  pub here : RestsAt z.world x
+  pub next : RestsAt y.world x
 
 module _ (script : Script) (x p f k i : ℕ) (low : i < replicas_in script.plan f) where
   -- the replica of this number, as an actor
@@ -175,7 +175,7 @@ module _ (script : Script) (x p f k i : ℕ) (low : i < replicas_in script.plan 
     pub at : slice_get port.watches i ≡ Some watch
     pub goes : WatchGoes z.world x p i e watch u
 
-  watch-was : (z : Progress) (e : Event) → Sees script x p f k z e → IsCalmly z (next_progress script z e) → (r : Port) → port_of (happens z.world e) x p ≡ Some r → (u : Watch) → slice_get r.watches i ≡ Some u → WatchWas z e u
+  watch-was : (z : Progress) (e : Event) → Sees script x p f k z e → IsCalmly x z (next_progress script z e) → (r : Port) → port_of (happens z.world e) x p ≡ Some r → (u : Watch) → slice_get r.watches i ≡ Some u → WatchWas z e u
   watch-was z e goes calm r now u at =
       let h = goes.here.here in
       let q = port-here z goes.here in
@@ -185,7 +185,7 @@ module _ (script : Script) (x p f k i : ℕ) (low : i < replicas_in script.plan 
       record { port = q.0; there = q.1; watch = w.0; at = w.1; goes = w.2 }
 
   -- others leave it
-  pub within-next : (n : ℕ) (z : Progress) (e : Event) → Sees script x p f k z e → IsCalmly z (next_progress script z e) → is_tick x e ≡ false → Within n z → Within n (next_progress script z e)
+  pub within-next : (n : ℕ) (z : Progress) (e : Event) → Sees script x p f k z e → IsCalmly x z (next_progress script z e) → is_tick x e ≡ false → Within n z → Within n (next_progress script z e)
   within-next n z e goes calm other h r now u at = let was = watch-was z e goes calm r now u at in by-goes was was.goes
     where
       by-goes : (was : WatchWas z e u) → WatchGoes z.world x p i e was.watch u → u.ticks ≤ n
@@ -194,7 +194,7 @@ module _ (script : Script) (x p f k i : ℕ) (low : i < replicas_in script.plan 
       by-goes was (WatchGoes.Counts clock event said ticks) = let clash : true ≡ false = sym (eq-test x x refl) ∙ sym (ap (λ (c : Event). is_tick x c) event) ∙ other in cc
 
   -- an event counts one at most
-  pub within-more : (n : ℕ) (z : Progress) (e : Event) → Sees script x p f k z e → IsCalmly z (next_progress script z e) → Within n z → Within (n + 1) (next_progress script z e)
+  pub within-more : (n : ℕ) (z : Progress) (e : Event) → Sees script x p f k z e → IsCalmly x z (next_progress script z e) → Within n z → Within (n + 1) (next_progress script z e)
   within-more n z e goes calm h r now u at = let was = watch-was z e goes calm r now u at in by-goes was was.goes
     where
       by-goes : (was : WatchWas z e u) → WatchGoes z.world x p i e was.watch u → u.ticks ≤ n + 1
@@ -203,7 +203,7 @@ module _ (script : Script) (x p f k i : ℕ) (low : i < replicas_in script.plan 
       by-goes was (WatchGoes.Counts clock event said ticks) = let old = h was.port was.there was.watch was.at in omega (arith, old, ticks)
 
   -- the beat comes
-  pub heard-now : (z : Progress) (m : ℕ) → Sees script x p f k z (Deliver m) → IsCalmly z (next_progress script z (Deliver m)) → IsBeating m z → Within 0 (next_progress script z (Deliver m))
+  pub heard-now : (z : Progress) (m : ℕ) → Sees script x p f k z (Deliver m) → IsCalmly x z (next_progress script z (Deliver m)) → IsBeating m z → Within 0 (next_progress script z (Deliver m))
   heard-now z m goes calm h r now u at =
       let here = goes.here.here in
       let q = port-here z goes.here in

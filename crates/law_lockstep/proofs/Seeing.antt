@@ -8,15 +8,17 @@ use Rattle.dpc_model.specs.declared.messages.Event.{Event}
 use Rattle.dpc_model.specs.declared.plans.Plan.{Plan}
 use Rattle.dpc_model.specs.declared.scripts.Script.{Script}
 use Rattle.node_model.specs.Nodes.{PlainNode}
-use Rattle.world_model.specs.Worlds.{World, slot_of, happens, run_from, run, new_world}
+use Rattle.world_model.specs.Worlds.{World, node_place, slot_of, happens, run_from, run, new_world}
 use Rattle.world_model.specs.Schedules.{Progress, first_progress, next_progress, progress, is_live_so_far, settling_phases}
 use Rattle.world_model.specs.Steady.{NoneRecovers, phase_at, OpensWell}
 use Rattle.world_model.proofs.Running.{first-phase}
 use Rattle.law_granting.specs.Taken.{port_of}
-use Rattle.law_schedules.proofs.Journals.{progress-run}
+use Rattle.law_schedules.proofs.Journals.{prefix-live, phases-counted, progress-run}
 use Rattle.law_readers.specs.Settling.{CanSettle}
 use Rattle.law_readers.proofs.Known.{run-clients}
 use Rattle.law_settling.proofs.Along.{every-prefix, progress-push, running-along, phase_after, next-at, phase-from}
+use Rattle.law_settling.specs.Rests.{RestsPast}
+use Rattle.law_settling.proofs.Steadily.{calm-at}
 use Rattle.law_settling.proofs.Promises.{open-of}
 use Rattle.law_settling_readers.proofs.Laws.{known-below}
 use Rattle.law_settling_readers.proofs.Reading.{replica_at, replicas_in, IsReader}
@@ -43,6 +45,13 @@ calm-along script events calm done rest is =
     let push = progress-push script before e in
     let here = calm-event script events before after e calm at (subst (λ (y : Progress). length script.phases + settling_phases < y.phase) push far) in
     subst (λ (y : Progress). NoneRecovers y.world.nodes) (sym push) (subst (λ (w : World). NoneRecovers (happens w e).nodes) (sym (progress-run script before)) here)) done rest is
+
+-- so each actor
+pub calm-rests : (script : Script) (events : List Event) → is_live_so_far script events ≡ true → IsCalm script events → (a : ℕ) → RestsPast script events a (length script.phases + settling_phases)
+calm-rests script events live calm a done more is far f r n role up =
+    let counted = phases-counted script done (prefix-live script done more (subst (λ (es : List Event). is_live_so_far script es ≡ true) is live)) in
+    let w = run script.plan done in
+    calm-at w.nodes (node_place w.plan a) n (subst (λ (v : World). NoneRecovers v.nodes) (progress-run script done) (calm-along script events calm done more is (omega (arith, far, counted)))) up
 
 -- ---- what a port knows of a replica
 

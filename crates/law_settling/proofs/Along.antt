@@ -1,4 +1,4 @@
--- A whole live run in which nobody recovers any more: what is known at each event past the first quiet phases.
+-- A whole live run: what is known at each event past the script's phases, and past the first quiet ones of a steady run.
 use Rattle.std.proofs.Common.{◌≡◌, ℕ, ◌+◌, ◌<◌, ◌≤◌, true, false, List, [], ◌∷◌, ◌++◌, length, refl, sym, ap, subst, ◌∙◌, arith, ◌⊎◌, inl, inr, nat_lt}
 use Rattle.std.specs.Prelude.{IsSome, All}
 use Rattle.std.proofs.lemmas.List.{append-nil, append_assoc}
@@ -35,14 +35,6 @@ pub record IsRunning (script : Script) (x : Progress) : Type 0 where
   pub is : x ≡ progress script events
   pub live : is_live_so_far script events ≡ true
   pub standing : IsStanding script x
-
--- and no node recovers
-pub record IsGood (script : Script) (x : Progress) : Type 0 where
-  pub events : List Event
-  pub is : x ≡ progress script events
-  pub live : is_live_so_far script events ≡ true
-  pub standing : IsStanding script x
-  pub calm : NoneRecovers x.world.nodes
 
 -- ---- every prefix of a journal
 
@@ -145,7 +137,7 @@ module _ (script : Script) (events : List Event) (live : is_live_so_far script e
   pub stands : (done rest : List Event) → events ≡ done ++ rest → Stands script done
   stands done rest is = every-prefix events (Stands script) (first-stands script) (λ before behind e at h. stands-next before behind e at h) done rest is
 
--- ---- nobody recovers
+-- ---- steady runs
 
 abbrev pub phase_after : ℕ → List Event → ℕ
 phase_after p [] = p
@@ -200,38 +192,26 @@ running-along script events live well done rest is far =
       standing = elim (stands script events live well done rest is) [ inl low ↦ absurd (omega (arith, low, far)) | inr standing ↦ standing ];
     }
 
--- past the first quiet phases every state is good
-pub good-along : (script : Script) (events : List Event) → is_live_so_far script events ≡ true → OpensWell script events → IsSteady script events → (done rest : List Event) → events ≡ done ++ rest →
-    length script.phases + settling_phases < (progress script done).phase → IsGood script (progress script done)
-good-along script events live well steady done rest is far =
-    let x = progress script done in
-    record {
-      events = done;
-      is = refl;
-      live = prefix-live script done rest (subst (λ (es : List Event). is_live_so_far script es ≡ true) is live);
-      standing = elim (stands script events live well done rest is) [ inl low ↦ absurd (omega (arith, low, far)) | inr standing ↦ standing ];
-      calm = subst (λ (w : World). NoneRecovers w.nodes) (sym (progress-run script done)) (calm-at done is far);
-    }
+-- past the first quiet phases of a steady one no node recovers
+pub steady-along : (script : Script) (events : List Event) → IsSteady script events → (done rest : List Event) → events ≡ done ++ rest → length script.phases + settling_phases < (progress script done).phase → NoneRecovers (run script.plan done).nodes
+steady-along script events steady es rest at past =
+    elim (last-of es) [
+      | inl none ↦ absurd (not-first es none past)
+      | inr l ↦
+          let same = l.2 in
+          let here : events ≡ l.0 ++ l.1 ∷ rest = at ∙ ap (λ (zs : List Event). zs ++ rest) same ∙ append_assoc l.0 (l.1 ∷ []) rest in
+          subst (λ (zs : List Event). NoneRecovers (run script.plan zs).nodes) (sym same)
+          (run-steady script events l.0 rest l.1 steady here (subst (λ (zs : List Event). length script.phases + settling_phases < (progress script zs).phase) same past))
+    ]
   where
-    calm-at : (es : List Event) → events ≡ es ++ rest → length script.phases + settling_phases < (progress script es).phase → NoneRecovers (run script.plan es).nodes
-    calm-at es at past =
-        elim (last-of es) [
-          | inl none ↦ absurd (not-first es none past)
-          | inr l ↦
-              let same = l.2 in
-              let here : events ≡ l.0 ++ l.1 ∷ rest = at ∙ ap (λ (zs : List Event). zs ++ rest) same ∙ append_assoc l.0 (l.1 ∷ []) rest in
-              subst (λ (zs : List Event). NoneRecovers (run script.plan zs).nodes) (sym same)
-              (run-steady script events l.0 rest l.1 steady here (subst (λ (zs : List Event). length script.phases + settling_phases < (progress script zs).phase) same past))
-        ]
-      where
-        last-of : (es : List Event) → (es ≡ []) ⊎ ((before : List Event) × (e : Event) × (es ≡ before ++ e ∷ []))
-        last-of [] = inl refl
-        last-of (d ∷ es) = elim (last-of es) [
-          | inl none ↦ inr ([], d, ap (λ (zs : List Event). d ∷ zs) none)
-          | inr l ↦ inr (d ∷ l.0, l.1, ap (λ (zs : List Event). d ∷ zs) l.2)
-        ]
+    last-of : (es : List Event) → (es ≡ []) ⊎ ((before : List Event) × (e : Event) × (es ≡ before ++ e ∷ []))
+    last-of [] = inl refl
+    last-of (d ∷ es) = elim (last-of es) [
+      | inl none ↦ inr ([], d, ap (λ (zs : List Event). d ∷ zs) none)
+      | inr l ↦ inr (d ∷ l.0, l.1, ap (λ (zs : List Event). d ∷ zs) l.2)
+    ]
 
-        not-first : (es : List Event) → es ≡ [] → length script.phases + settling_phases < (progress script es).phase → ⊥
-        not-first es none far =
-            let low : length script.phases + settling_phases < (progress script []).phase = subst (λ (zs : List Event). length script.phases + settling_phases < (progress script zs).phase) none far in
-            let zero_phase = first-phase script in omega (arith, low, zero_phase)
+    not-first : (es : List Event) → es ≡ [] → length script.phases + settling_phases < (progress script es).phase → ⊥
+    not-first es none far =
+        let low : length script.phases + settling_phases < (progress script []).phase = subst (λ (zs : List Event). length script.phases + settling_phases < (progress script zs).phase) none far in
+        let zero_phase = first-phase script in omega (arith, low, zero_phase)

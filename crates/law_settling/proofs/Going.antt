@@ -11,7 +11,6 @@ use Rattle.dpc_model.specs.declared.plans.StreamRef.{StreamRef}
 use Rattle.dpc_model.specs.declared.plans.StreamRef.TheVariants.{Source}
 use Rattle.node_model.specs.Mails.{Packet, Plain, SnapFor}
 use Rattle.world_model.specs.Worlds.{World, Envelope, can_come, happens}
-use Rattle.world_model.specs.Steady.{NoneRecovers}
 use Rattle.dpc_lists.proofs.Truths.{eq-test}
 use Rattle.dpc_lists.proofs.Somes.{some-same}
 use Rattle.law_safety.proofs.Happening.{IsFine}
@@ -20,6 +19,7 @@ use Rattle.law_granting.specs.Taken.{port_of}
 use Rattle.law_granting.proofs.Taking.{sent-by}
 use Rattle.law_readers.proofs.Steps.{port-chosen}
 use Rattle.world_model.specs.Events.{is_quiet}
+use Rattle.law_settling.specs.Rests.{RestsAt}
 use Rattle.law_settling.proofs.Exact.{inlet_after, PortWith}
 use Rattle.law_settling.proofs.Lines.{IsReading, place-low}
 use Rattle.law_settling.proofs.PortExact.{port_after}
@@ -50,7 +50,7 @@ read-after i packet q r same is = subst (λ (y : Port). PortWith q y (inlet_afte
     by-packet (Plain (message.SnapAsk j n)) = record { inlet_is = refl; chosen = refl; ticks = refl }
     by-packet (SnapFor j try s) = record { inlet_is = refl; chosen = refl; ticks = refl }
 
-module _ (w : World) (most x p s k : ℕ) (fine : IsFine w most) (many : length w.clients ≡ length w.plan.clients) (line : IsReading w.plan x p s k) (calm : NoneRecovers w.nodes) where
+module _ (w : World) (most x p s k : ℕ) (fine : IsFine w most) (many : length w.clients ≡ length w.plan.clients) (line : IsReading w.plan x p s k) (calm : RestsAt w x) where
   -- it reads the first replica, the source
   pub chosen-first : (q : Port) → port_of w x p ≡ Some q → q.chosen ≡ 0
   chosen-first q there = let low = port-chosen w most x p (Source s) fine many line.port q there in let one = line.one in omega (arith, low, one)
@@ -66,7 +66,7 @@ module _ (w : World) (most x p s k : ℕ) (fine : IsFine w most) (many : length 
       let first : i ≡ 0 = omega (arith, low_first, one) in
       (first, sym (sent-by w.plan (inputs_of w.plan (role_of w.plan x)) a p i (Source s) line.port.there place) ∙ ap (λ (z : ℕ). nth 0 (senders_of w.plan (Source s)) z) first ∙ line.first)
 
-  pub inlet-goes : (e : Event) → is_quiet e ≡ true → NoneRecovers (happens w e).nodes → (q : Port) → port_of w x p ≡ Some q → To x p (happens w e) (InletGoes w x p s e (happens w e)) q
+  pub inlet-goes : (e : Event) → is_quiet e ≡ true → RestsAt (happens w e) x → (q : Port) → port_of w x p ≡ Some q → To x p (happens w e) (InletGoes w x p s e (happens w e)) q
   inlet-goes e quiet calm_next q there = let k = port-goes w most x p (Source s) fine many line.port calm e quiet calm_next q there in (k.0, k.1, by-port k.0 k.2)
     where
       by-port : (r : Port) → PortGoes w x p (Source s) e (happens w e) q r → InletGoes w x p s e (happens w e) q r
@@ -76,7 +76,7 @@ module _ (w : World) (most x p s k : ℕ) (fine : IsFine w most) (many : length 
       by-port r (PortGoes.TicksOn now is ticked) = TicksOn now is ticked
 
   -- an envelope of the source that comes is taken
-  pub took-now : (j : ℕ) (f : Envelope) → slice_get w.envelopes j ≡ Some f → can_come w f ≡ true → f.to ≡ x → f.sender ≡ s → NoneRecovers (happens w (Deliver j)).nodes → (q : Port) → port_of w x p ≡ Some q →
+  pub took-now : (j : ℕ) (f : Envelope) → slice_get w.envelopes j ≡ Some f → can_come w f ≡ true → f.to ≡ x → f.sender ≡ s → RestsAt (happens w (Deliver j)) x → (q : Port) → port_of w x p ≡ Some q →
       To x p (happens w (Deliver j)) (λ (y r : Port). PortWith y r (inlet_after f.packet y.inlet)) q
   took-now j f sent can to sender calm_next q there =
       let place = ap (λ (a : ℕ). sender_at w.plan (inputs_of w.plan (role_of w.plan x)) a) sender ∙ line.sender in

@@ -6,6 +6,7 @@ pub mod Opening
 pub mod Coming
 pub mod Logs
 pub mod Along
+pub mod Steadily
 pub mod Exact
 pub mod Ticking
 pub mod Lines

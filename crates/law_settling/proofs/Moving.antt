@@ -10,9 +10,8 @@ use Rattle.dpc_model.specs.declared.scripts.Script.{Script}
 use Rattle.dpc_lists.proofs.Truths.{true-not-false}
 use Rattle.node_model.specs.Nodes.{PlainNode, buckets_of}
 use Rattle.node_model.specs.NodeSteps.{packet_step}
-use Rattle.world_model.specs.Worlds.{home_of, node_place, slot_of}
+use Rattle.world_model.specs.Worlds.{home_of, slot_of}
 use Rattle.world_model.specs.Schedules.{Progress, next_progress}
-use Rattle.world_model.specs.Steady.{NoneRecovers}
 use Rattle.law_safety.proofs.Frames.{IsGood}
 use Rattle.law_safety.proofs.Happening.{node-here}
 use Rattle.law_safety.proofs.Worlding.{actor-at}
@@ -21,7 +20,6 @@ use Rattle.law_granting.proofs.Saying.{own-delivered, own-milled, own-ticked}
 use Rattle.law_schedules.proofs.Nodes.{IsCalmNode, delivered-calm, ticked-calm, milled-moves}
 use Rattle.law_settling.specs.Finished.{has_whole_inputs, IsFinished}
 use Rattle.law_settling.proofs.Rules.{MayGo}
-use Rattle.law_settling.proofs.PortSteps.{calm-at}
 use Rattle.law_settling.proofs.Ports.{node-there}
 use Rattle.law_settling.proofs.Promises.{IsOpenAt}
 use Rattle.law_settling.proofs.Fellows.{many_replicas, replica-of}
@@ -35,10 +33,10 @@ pub record IsReplica (script : Script) (f : ℕ) (z : Progress) (b q : ℕ) (n :
   pub role : role_of script.plan b ≡ IsNode f q
   pub up : (slot_of z.world b).node ≡ Some n
 
--- a state in which nobody recovers and the fragment's replicas have whole inputs
+-- a state in which the fragment's replicas do not recover and have whole inputs
 pub record IsWorking (script : Script) (f : ℕ) (z : Progress) : Type 0 where
   pub here : IsOpenAt script z
-  pub calm : NoneRecovers z.world.nodes
+  pub calm : (b q : ℕ) (n : PlainNode) → IsReplica script f z b q n → n.recovering ≡ false
   pub order : AreAsksInOrder z.world
   pub whole : (b q : ℕ) (n : PlainNode) → IsReplica script f z b q n → has_whole_inputs script.plan n ≡ true
   pub numbered : (b q : ℕ) (n : PlainNode) (p : ℕ × Key) → IsReplica script f z b q n → n.grants.promise ≡ Some p → p.0 < many_replicas script.plan f
@@ -60,7 +58,7 @@ module _ (script : Script) (f : ℕ) where
   good-here z b q n good at = node-here z.world good.here.most b f q n good.here.fine (role-here z b q n good at) at.up
 
   pub calm-here : (z : Progress) (b q : ℕ) (n : PlainNode) → IsWorking script f z → IsReplica script f z b q n → n.recovering ≡ false
-  calm-here z b q n good at = calm-at z.world.nodes (node_place z.world.plan b) n good.calm at.up
+  calm-here z b q n good at = good.calm b q n at
 
   pub order-here : (z : Progress) (b q : ℕ) (n : PlainNode) → IsWorking script f z → IsReplica script f z b q n → AsksInOrder (home_of z.world.plan (f, q)) n
   order-here z b q n good at = good.order.nodes b f q n (record { role = role-here z b q n good at; up = at.up })

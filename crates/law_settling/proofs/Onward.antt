@@ -8,13 +8,14 @@ use Rattle.dpc_model.specs.declared.messages.Event.TheVariants.{Phase, Emit, Rel
 use Rattle.dpc_model.specs.declared.scripts.Script.{Script}
 use Rattle.node_model.specs.Nodes.{PlainNode, buckets_of}
 use Rattle.world_model.specs.Worlds.{run}
-use Rattle.world_model.specs.Schedules.{Progress, next_progress, progress, is_live_so_far, settling_phases}
-use Rattle.world_model.specs.Steady.{IsSteady, OpensWell}
+use Rattle.world_model.specs.Schedules.{Progress, next_progress, progress, is_live_so_far}
+use Rattle.world_model.specs.Steady.{OpensWell}
 use Rattle.dpc_lists.proofs.Truths.{both-of}
 use Rattle.law_schedules.specs.Journals.{phases_in}
 use Rattle.law_readers.specs.Settling.{CanSettle}
 use Rattle.world_model.specs.Events.{is_quiet}
 use Rattle.law_settling.specs.Phased.{opened}
+use Rattle.law_settling.specs.Rests.{AllRestPast}
 use Rattle.law_settling.specs.Entered.{AreWhole}
 use Rattle.law_settling.proofs.Splitting.{in-quiet, quiet-goes}
 use Rattle.law_settling.proofs.Rules.{Keeps}
@@ -100,12 +101,12 @@ module _ (script : Script) (f b q : ℕ) where
       ] in
       record { node = m.0; replica = m.1.replica; like = goal }
 
-module _ (script : Script) (events before : List Event) (f : ℕ) (can : CanSettle script) (live : is_live_so_far script events ≡ true) (well : OpensWell script events) (steady : IsSteady script events)
+module _ (script : Script) (events before : List Event) (f : ℕ) (can : CanSettle script) (live : is_live_so_far script events ≡ true) (well : OpensWell script events) (floor : ℕ) (past_floor : length script.phases < floor) (rests : AllRestPast script events f floor)
     (wholes : (done more : List Event) → events ≡ done ++ more → length before ≤ length done → AreWhole script.plan (run script.plan done) f) where
-  -- a point of the run behind the beginning, past the last recovery
+  -- a point of the run behind the beginning, past the last phase in which a replica may recover
   pub record IsPoint (done : List Event) : Type 0 where
     pub long : length before ≤ length done
-    pub far : length script.phases + settling_phases < (progress script done).phase
+    pub far : floor < (progress script done).phase
 
   pub point-next : (done rest : List Event) (e : Event) → events ≡ done ++ e ∷ rest → IsPoint done → IsPoint (done ++ e ∷ [])
   point-next done rest e is h =
@@ -113,18 +114,18 @@ module _ (script : Script) (events before : List Event) (f : ℕ) (can : CanSett
       let long = h.long in
       let far = h.far in
       let count = length-append done (e ∷ []) in
-      let good = working-along script events before f can live well steady wholes done (e ∷ rest) is long far in
+      let good = working-along script events before f can live well floor past_floor rests wholes done (e ∷ rest) is long far in
       let grows : z.phase ≤ (next_progress script z e).phase = elim (in-quiet script z e good.here.at (live-may script events done rest e live is)) [
         | inl quiet ↦ let same = (quiet-goes script z e quiet good.here.at).1 in omega (arith, same)
         | inr o ↦ let next : (next_progress script z e).phase ≡ z.phase + 1 = ap (λ (d : Event). (next_progress script z d).phase) o.0 in omega (arith, next)
       ] in
-      record { long = omega (arith, long, count); far = subst (λ (y : Progress). length script.phases + settling_phases < y.phase) (sym (progress-push script done e)) (omega (arith, grows, far)) }
+      record { long = omega (arith, long, count); far = subst (λ (y : Progress). floor < y.phase) (sym (progress-push script done e)) (omega (arith, grows, far)) }
 
   pub point-later : (done mid rest : List Event) → events ≡ done ++ (mid ++ rest) → IsPoint done → IsPoint (done ++ mid)
   point-later done mid rest is h = every-behind events done IsPoint h (λ d r e at p. point-next d r e at p) mid rest is
 
   pub at-point : (done rest : List Event) → events ≡ done ++ rest → IsPoint done → IsWorking script f (progress script done)
-  at-point done rest is h = working-along script events before f can live well steady wholes done rest is h.long h.far
+  at-point done rest is h = working-along script events before f can live well floor past_floor rests wholes done rest is h.long h.far
 
   -- what every event keeps, and the opening of a phase
   pub kept-later : (Q : Progress → Type 0) → Keeps script (IsWorking script f) Q → ((z : Progress) → Q z → Q (opened script z)) → (done mid rest : List Event) → events ≡ done ++ (mid ++ rest) → IsPoint done → Q (progress script done) → Q (progress script (done ++ mid))

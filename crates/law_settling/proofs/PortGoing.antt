@@ -15,7 +15,6 @@ use Rattle.node_model.specs.Nodes.{PlainNode, streams_of}
 use Rattle.node_model.specs.NodeSteps.{packet_step, mill_step, tick_step}
 use Rattle.node_model.specs.Clients.{ClientState, client_stream, client_after_packet, client_tick_step}
 use Rattle.world_model.specs.Worlds.{World, Envelope, home_of, slot_of, client_at, source_at, from, node_stepped, source_stepped, client_stepped, happens}
-use Rattle.world_model.specs.Steady.{NoneRecovers}
 use Rattle.law_safety.proofs.EventCases.{AreCases, by-event}
 use Rattle.law_safety.proofs.Numbering.{home-inputs}
 use Rattle.law_safety.proofs.Happening.{IsFine}
@@ -24,6 +23,7 @@ use Rattle.node_model.proofs.Mailed.{mill-ports}
 use Rattle.law_granting.specs.Taken.{port_of}
 use Rattle.law_granting.proofs.Taking.{client-actor}
 use Rattle.world_model.specs.Events.{is_quiet}
+use Rattle.law_settling.specs.Rests.{RestsAt}
 use Rattle.law_settling.proofs.Exact.{IsIn}
 use Rattle.law_settling.proofs.Ticking.{before_choice, ask_mail, node-ticks, client-ticks}
 use Rattle.law_readers.specs.Newest.{IsPortOf}
@@ -42,7 +42,7 @@ pub data PortGoes (w : World) (x p : ℕ) (s : StreamRef) (e : Event) (next : Wo
       ((g b : ℕ) → role_of w.plan x ≡ IsNode g b → NotLost f.packet (without_ended_marks q) r) → PortGoes w x p s e next q r
   TicksOn : (now : ℕ) → e ≡ Tick x now → HasTicked w x s next q r → PortGoes w x p s e next q r
 
-module _ (w : World) (most x p : ℕ) (s : StreamRef) (fine : IsFine w most) (many : length w.clients ≡ length w.plan.clients) (port : IsPortOf w.plan x p s) (calm : NoneRecovers w.nodes) where
+module _ (w : World) (most x p : ℕ) (s : StreamRef) (fine : IsFine w most) (many : length w.clients ≡ length w.plan.clients) (port : IsPortOf w.plan x p s) (calm : RestsAt w x) where
   still : (e : Event) (next : World) (q : Port) → port_of next x p ≡ port_of w x p → port_of w x p ≡ Some q → To x p next (PortGoes w x p s e next) q
   still e next q same there = (q, same ∙ there, Rests (inl refl))
 
@@ -73,7 +73,7 @@ module _ (w : World) (most x p : ℕ) (s : StreamRef) (fine : IsFine w most) (ma
   taken-goes j f next q r sent to (inl mine) = TakesIn j mine.0 f refl sent to mine.1 mine.2 mine.3
   taken-goes j f next q r sent to (inr other) = Rests (inr other.1)
 
-  node-took : (j g b : ℕ) (f : Envelope) (n : PlainNode) → slice_get w.envelopes j ≡ Some f → role_of w.plan f.to ≡ IsNode g b → (slot_of w f.to).node ≡ Some n → NoneRecovers (node_stepped f.to (packet_step (home_of w.plan (g, b)) f.sender f.packet n) w).nodes →
+  node-took : (j g b : ℕ) (f : Envelope) (n : PlainNode) → slice_get w.envelopes j ≡ Some f → role_of w.plan f.to ≡ IsNode g b → (slot_of w f.to).node ≡ Some n → RestsAt (node_stepped f.to (packet_step (home_of w.plan (g, b)) f.sender f.packet n) w) x →
       (q : Port) → port_of w x p ≡ Some q → let next = node_stepped f.to (packet_step (home_of w.plan (g, b)) f.sender f.packet n) w in To x p next (PortGoes w x p s (Deliver j) next) q
   node-took j g b f n sent role up calm_next q there =
       let t = packet_step (home_of w.plan (g, b)) f.sender f.packet n in
@@ -97,7 +97,7 @@ module _ (w : World) (most x p : ℕ) (s : StreamRef) (fine : IsFine w most) (ma
         },
       )
 
-  node-mill : (e : Event) (y g b m : ℕ) (n : PlainNode) → role_of w.plan y ≡ IsNode g b → (slot_of w y).node ≡ Some n → NoneRecovers (node_stepped y (mill_step (home_of w.plan (g, b)) m n) w).nodes → (q : Port) → port_of w x p ≡ Some q →
+  node-mill : (e : Event) (y g b m : ℕ) (n : PlainNode) → role_of w.plan y ≡ IsNode g b → (slot_of w y).node ≡ Some n → RestsAt (node_stepped y (mill_step (home_of w.plan (g, b)) m n) w) x → (q : Port) → port_of w x p ≡ Some q →
       let next = node_stepped y (mill_step (home_of w.plan (g, b)) m n) w in To x p next (PortGoes w x p s e next) q
   node-mill e y g b m n role up calm_next q there =
       node-step w most x p s fine many port calm (PortGoes w x p s e (node_stepped y (mill_step (home_of w.plan (g, b)) m n) w)) (λ z. Rests (inl refl)) y g b n (mill_step (home_of w.plan (g, b)) m n) role up calm_next
@@ -139,7 +139,7 @@ module _ (w : World) (most x p : ℕ) (s : StreamRef) (fine : IsFine w most) (ma
   -- ---- every event
 
   abbrev Goes : Event → World → Type 0
-  Goes e next = is_quiet e ≡ true → NoneRecovers next.nodes → (q : Port) → port_of w x p ≡ Some q → To x p next (PortGoes w x p s e next) q
+  Goes e next = is_quiet e ≡ true → RestsAt next x → (q : Port) → port_of w x p ≡ Some q → To x p next (PortGoes w x p s e next) q
 
   source-still : (e : Event) (a : ℕ) (t : Stepped SourceState) (q : Port) → port_of w x p ≡ Some q → To x p (source_stepped a t w) (PortGoes w x p s e (source_stepped a t w)) q
   source-still e a t q there = still e (source_stepped a t w) q (port-same w most x p s fine many port calm (source_stepped a t w) refl (λ f b is. refl) (λ c is. refl)) there
@@ -172,5 +172,5 @@ module _ (w : World) (most x p : ℕ) (s : StreamRef) (fine : IsFine w most) (ma
             (subst (λ (y : ClientState). HasTicked w x s (client_stepped a d (client_tick_step w.plan d now (client_at w d)) w) y.port (client_tick_step w.plan d now (client_at w d)).after.port) (sym same) (client-tick a d now (client_at w d) is mine))) q there;
       }
 
-  pub port-goes : (e : Event) → is_quiet e ≡ true → NoneRecovers (happens w e).nodes → (q : Port) → port_of w x p ≡ Some q → (r : Port) × (port_of (happens w e) x p ≡ Some r) × PortGoes w x p s e (happens w e) q r
+  pub port-goes : (e : Event) → is_quiet e ≡ true → RestsAt (happens w e) x → (q : Port) → port_of w x p ≡ Some q → (r : Port) × (port_of (happens w e) x p ≡ Some r) × PortGoes w x p s e (happens w e) q r
   port-goes e quiet calm_next q there = by-event w Goes goes-cases e quiet calm_next q there

@@ -10,18 +10,18 @@ use Rattle.node_model.specs.Nodes.{PlainNode}
 use Rattle.node_model.specs.NodeSteps.{packet_step, tick_step}
 use Rattle.node_model.specs.Clients.{ClientState, client_after_packet, client_tick_step}
 use Rattle.world_model.specs.Worlds.{World, Envelope, home_of, slot_of, client_at, from, node_stepped, client_stepped, taken_by, node_takes, can_come, comes, is_clock, ticks, node_ticks, happens}
-use Rattle.world_model.specs.Steady.{NoneRecovers}
 use Rattle.law_safety.proofs.Happening.{IsFine}
 use Rattle.law_granting.specs.Taken.{node_port, role_port, port_of}
 use Rattle.law_schedules.specs.Journals.{node_clock, clock_by, Ticks}
 use Rattle.dpc_model.specs.declared.plans.StreamRef.{StreamRef}
 use Rattle.dpc_lists.proofs.Somes.{some-same}
 use Rattle.law_readers.specs.Newest.{IsPortOf}
+use Rattle.law_settling.specs.Rests.{RestsAt}
 use Rattle.law_settling.proofs.PortExact.{port_after, NotLost}
 use Rattle.law_settling.proofs.PortSteps.{To, node-own, client-own, client-low}
 use Rattle.law_settling.proofs.PortGoing.{HasTicked, Took, node-packet, node-tick, client-packet, client-tick}
 
-module _ (w : World) (most x p : ℕ) (s : StreamRef) (fine : IsFine w most) (many : length w.clients ≡ length w.plan.clients) (port : IsPortOf w.plan x p s) (calm : NoneRecovers w.nodes) where
+module _ (w : World) (most x p : ℕ) (s : StreamRef) (fine : IsFine w most) (many : length w.clients ≡ length w.plan.clients) (port : IsPortOf w.plan x p s) (calm : RestsAt w x) where
   -- the packet of the replica of this number was taken
   abbrev Taken : ℕ → Envelope → Port → Port → Type 0
   Taken i f q r = (r ≡ port_after i f.packet (without_ended_marks q)) × ((g b : ℕ) → role_of w.plan x ≡ IsNode g b → NotLost f.packet (without_ended_marks q) r)
@@ -41,7 +41,7 @@ module _ (w : World) (most x p : ℕ) (s : StreamRef) (fine : IsFine w most) (ma
       by-role (IsClient d) is e = client d is
 
   -- a client's world with the same envelopes
-  pub took-now : (j i : ℕ) (f : Envelope) → slice_get w.envelopes j ≡ Some f → can_come w f ≡ true → f.to ≡ x → sender_at w.plan (inputs_of w.plan (role_of w.plan x)) f.sender ≡ Some (p, i) → NoneRecovers (happens w (Deliver j)).nodes → (q : Port) → port_of w x p ≡ Some q → To x p (happens w (Deliver j)) (Taken i f) q
+  pub took-now : (j i : ℕ) (f : Envelope) → slice_get w.envelopes j ≡ Some f → can_come w f ≡ true → f.to ≡ x → sender_at w.plan (inputs_of w.plan (role_of w.plan x)) f.sender ≡ Some (p, i) → RestsAt (happens w (Deliver j)) x → (q : Port) → port_of w x p ≡ Some q → To x p (happens w (Deliver j)) (Taken i f) q
   took-now j i f sent can to sender calm_next q there = by-reader (To x p (happens w (Deliver j)) (Taken i f) q) q there at-node at-client
     where
       taken : (y r : Port) → Took w most x p s fine many port calm f y r → Taken i f y r
@@ -63,7 +63,7 @@ module _ (w : World) (most x p : ℕ) (s : StreamRef) (fine : IsFine w most) (ma
           let role : role_of w.plan f.to ≡ IsNode g b = ap (λ (z : ℕ). role_of w.plan z) to ∙ is in
           let event : happens w (Deliver j) ≡ node_stepped f.to t w = comes-so (IsNode g b) is ∙ ap (λ (o : Option PlainNode). node_takes w f home o) up in
           subst (λ (v : World). To x p v (Taken i f) q) (sym event)
-          (node-own w most x p s fine many port calm (λ (y r : Port). Taken i f y r) f.to g b n t role up (sym to) (subst (λ (v : World). NoneRecovers v.nodes) event calm_next)
+          (node-own w most x p s fine many port calm (λ (y r : Port). Taken i f y r) f.to g b n t role up (sym to) (subst (λ (v : World). RestsAt v x) event calm_next)
           (λ y its at whole calm_y.
           let k = node-packet w most x p s fine many port calm f.to g b f n role (sym to) y at whole calm_y in (k.0, k.1, taken y k.0 k.2)) q there)
 
@@ -74,7 +74,7 @@ module _ (w : World) (most x p : ℕ) (s : StreamRef) (fine : IsFine w most) (ma
           (client-own w most x p s fine many port calm (λ (y r : Port). Taken i f y r) d (client_after_packet w.plan d f.sender f.packet) w.envelopes is (client-low w most x p s fine many port calm x d is)
           (λ z same was. taken z.port (client_after_packet w.plan d f.sender f.packet z).port (client-packet w most x p s fine many port calm f d z is z.port refl)) q there)
 
-  pub tick-now : (now : ℕ) → Ticks w x now → NoneRecovers (happens w (Tick x now)).nodes → (q : Port) → port_of w x p ≡ Some q → To x p (happens w (Tick x now)) (HasTicked w x s (happens w (Tick x now))) q
+  pub tick-now : (now : ℕ) → Ticks w x now → RestsAt (happens w (Tick x now)) x → (q : Port) → port_of w x p ≡ Some q → To x p (happens w (Tick x now)) (HasTicked w x s (happens w (Tick x now))) q
   tick-now now clocked calm_next q there = by-reader (To x p (happens w (Tick x now)) (HasTicked w x s (happens w (Tick x now))) q) q there at-node at-client
     where
       at-node : (g b : ℕ) (n : PlainNode) → role_of w.plan x ≡ IsNode g b → (slot_of w x).node ≡ Some n → To x p (happens w (Tick x now)) (HasTicked w x s (happens w (Tick x now))) q
@@ -86,7 +86,7 @@ module _ (w : World) (most x p : ℕ) (s : StreamRef) (fine : IsFine w most) (ma
           let event : happens w (Tick x now) ≡ node_stepped x t w =
           ap (λ (r : Role). ticks w x now r) is ∙ ap (λ (o : Option PlainNode). node_ticks w x now home o) found ∙ ap (λ (c : Bool). cond c (node_stepped x t w) w) may in
           subst (λ (v : World). To x p v (HasTicked w x s v) q) (sym event)
-          (node-own w most x p s fine many port calm (HasTicked w x s (node_stepped x t w)) x g b n t is found refl (subst (λ (v : World). NoneRecovers v.nodes) event calm_next)
+          (node-own w most x p s fine many port calm (HasTicked w x s (node_stepped x t w)) x g b n t is found refl (subst (λ (v : World). RestsAt v x) event calm_next)
           (λ y its at whole calm_y. node-tick w most x p s fine many port calm x g b now n is refl y at whole) q there)
 
       at-client : (d : ℕ) → role_of w.plan x ≡ IsClient d → To x p (happens w (Tick x now)) (HasTicked w x s (happens w (Tick x now))) q

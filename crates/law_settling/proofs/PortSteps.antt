@@ -1,6 +1,5 @@
 -- What a step of a node or a client makes of its port, for any relation of the port before and after.
 use Rattle.std.proofs.Common.{◌≡◌, ℕ, zero, suc, ◌<◌, ◌≤◌, Bool, true, false, cond, ◌==◌, List, [], ◌∷◌, ◌++◌, map, length, refl, sym, ap, subst, ◌∙◌, arith, Option, Some, None, slice_get, inl, inr}
-use Rattle.std.specs.Prelude.{IfSome}
 use Rattle.dpc_lists.specs.Lists.{nth, changed}
 use Rattle.dpc_model.specs.Actors.{role_of, inputs_of}
 use Rattle.dpc_model.specs.Ports.{Port}
@@ -14,8 +13,7 @@ use Rattle.dpc_lists.proofs.Somes.{some-same}
 use Rattle.node_model.specs.Mails.{Mail, Stepped}
 use Rattle.node_model.specs.Nodes.{PlainNode}
 use Rattle.node_model.specs.Clients.{ClientState, new_client}
-use Rattle.world_model.specs.Worlds.{World, Envelope, Slot, node_place, slot_of, client_at, from, node_stepped}
-use Rattle.world_model.specs.Steady.{NoneRecovers}
+use Rattle.world_model.specs.Worlds.{World, Envelope, Slot, slot_of, client_at, from, node_stepped}
 use Rattle.law_safety.proofs.Happening.{IsFine}
 use Rattle.law_safety.proofs.Worlding.{client-below}
 use Rattle.law_safety.proofs.Promises.{slot-here}
@@ -24,6 +22,7 @@ use Rattle.law_granting.proofs.Keys.{nth-changed}
 use Rattle.law_granting.proofs.Slots.{slot-there}
 use Rattle.law_settling.proofs.Exact.{IsIn, same-or}
 use Rattle.law_readers.specs.Newest.{IsPortOf}
+use Rattle.law_settling.specs.Rests.{RestsAt}
 
 -- ---- places
 
@@ -33,12 +32,6 @@ sent-place a [] m [] h = absurd h
 sent-place a [] m (n ∷ ms) (inl e) = (0, ap {B = Option Envelope} (λ (z : Mail). Some (from a z)) e, omega arith)
 sent-place a [] m (n ∷ ms) (inr h) = let k = sent-place a [] m ms h in (suc k.0, k.1, omega arith)
 sent-place a (y ∷ es) m ms h = let k = sent-place a es m ms h in let low = k.2 in (suc k.0, k.1, omega (arith, low))
-
--- a node that is up does not recover
-pub calm-at : (slots : List Slot) (i : ℕ) (n : PlainNode) → NoneRecovers slots → (nth (record { last_inc = 0; node = None }) slots i).node ≡ Some n → n.recovering ≡ false
-calm-at [] i n h e = cc
-calm-at (slot ∷ slots) zero n h e = subst (λ (o : Option PlainNode). IfSome o (λ (m : PlainNode). m.recovering ≡ false)) e h.0
-calm-at (slot ∷ slots) (suc i) n h e = calm-at slots i n h.1 e
 
 -- a client reads one stream
 pub client-inputs : (cs : List ClientSpec) (i p : ℕ) (u : StreamRef) → slice_get (nth [] (map (λ (client : ClientSpec). client.input ∷ []) cs) i) p ≡ Some u → (p ≡ 0) × (nth [] (map (λ (client : ClientSpec). client.input ∷ []) cs) i ≡ u ∷ [])
@@ -51,7 +44,7 @@ client-inputs (c ∷ cs) (suc i) p u e = client-inputs cs i p u e
 abbrev pub To : ℕ → ℕ → World → (Port → Port → Type 0) → Port → Type 0
 To x p next R q = (r : Port) × (port_of next x p ≡ Some r) × R q r
 
-module _ (w : World) (most x p : ℕ) (s : StreamRef) (fine : IsFine w most) (many : length w.clients ≡ length w.plan.clients) (port : IsPortOf w.plan x p s) (calm : NoneRecovers w.nodes) where
+module _ (w : World) (most x p : ℕ) (s : StreamRef) (fine : IsFine w most) (many : length w.clients ≡ length w.plan.clients) (port : IsPortOf w.plan x p s) (calm : RestsAt w x) where
   -- ---- a world in which the reader is as before
 
   pub port-same : (next : World) → next.plan ≡ w.plan → ((f b : ℕ) → role_of w.plan x ≡ IsNode f b → (slot_of next x).node ≡ (slot_of w x).node) → ((c : ℕ) → role_of w.plan x ≡ IsClient c → (client_at next c).port ≡ (client_at w c).port) → port_of next x p ≡ port_of w x p
@@ -66,7 +59,7 @@ module _ (w : World) (most x p : ℕ) (s : StreamRef) (fine : IsFine w most) (ma
   -- ---- nodes
 
   -- the reader is this node
-  pub node-own : (R : Port → Port → Type 0) (y g b : ℕ) (n : PlainNode) (t : Stepped PlainNode) → role_of w.plan y ≡ IsNode g b → (slot_of w y).node ≡ Some n → x ≡ y → NoneRecovers (node_stepped y t w).nodes →
+  pub node-own : (R : Port → Port → Type 0) (y g b : ℕ) (n : PlainNode) (t : Stepped PlainNode) → role_of w.plan y ≡ IsNode g b → (slot_of w y).node ≡ Some n → x ≡ y → RestsAt (node_stepped y t w) x →
       ((q : Port) → port_of w x p ≡ Some q → slice_get n.ports p ≡ Some q → n.recovering ≡ false → t.after.recovering ≡ false → (r : Port) × (slice_get t.after.ports p ≡ Some r) × R q r) → (q : Port) → port_of w x p ≡ Some q → To x p (node_stepped y t w) R q
   node-own R y g b n t role up same calm_next own q there =
       let next = node_stepped y t w in
@@ -75,11 +68,13 @@ module _ (w : World) (most x p : ℕ) (s : StreamRef) (fine : IsFine w most) (ma
       let slot : slot_of (node_stepped y t w) y ≡ record (slot_of w y) { node = Some t.after } = slot-here w most y g b (λ (z : Slot). record z { node = Some t.after }) fine role in
       let node : (slot_of (node_stepped y t w) y).node ≡ Some t.after = ap (λ (z : Slot). z.node) slot in
       let now : port_of (node_stepped y t w) x p ≡ slice_get t.after.ports p = ap (λ (z : Role). role_port next x p z) role_x ∙ ap (λ (z : ℕ). node_port p (slot_of next z).node) same ∙ ap (λ (o : Option PlainNode). node_port p o) node in
-      let k = own q there (sym was ∙ there) (calm-at w.nodes (node_place w.plan y) n calm up) (calm-at next.nodes (node_place w.plan y) t.after calm_next node) in
+      let up_x : (slot_of w x).node ≡ Some n = ap (λ (z : ℕ). (slot_of w z).node) same ∙ up in
+      let node_x : (slot_of next x).node ≡ Some t.after = ap (λ (z : ℕ). (slot_of next z).node) same ∙ node in
+      let k = own q there (sym was ∙ there) (calm g b n role_x up_x) (calm_next g b t.after role_x node_x) in
       (k.0, now ∙ k.1, k.2)
 
   -- the reader is this node, or its port is as before
-  pub node-step : (R : Port → Port → Type 0) → ((q : Port) → R q q) → (y g b : ℕ) (n : PlainNode) (t : Stepped PlainNode) → role_of w.plan y ≡ IsNode g b → (slot_of w y).node ≡ Some n → NoneRecovers (node_stepped y t w).nodes →
+  pub node-step : (R : Port → Port → Type 0) → ((q : Port) → R q q) → (y g b : ℕ) (n : PlainNode) (t : Stepped PlainNode) → role_of w.plan y ≡ IsNode g b → (slot_of w y).node ≡ Some n → RestsAt (node_stepped y t w) x →
       (x ≡ y → (q : Port) → port_of w x p ≡ Some q → slice_get n.ports p ≡ Some q → n.recovering ≡ false → t.after.recovering ≡ false → (r : Port) × (slice_get t.after.ports p ≡ Some r) × R q r) → (q : Port) → port_of w x p ≡ Some q → To x p (node_stepped y t w) R q
   node-step R stays y g b n t role up calm_next own q there =
       elim (same-or x y) [

@@ -10,17 +10,19 @@ use Rattle.dpc_model.specs.declared.scripts.Script.{Script}
 use Rattle.node_model.specs.Nodes.{PlainNode}
 use Rattle.world_model.specs.Worlds.{World, home_of, slot_of, run}
 use Rattle.world_model.specs.Schedules.{Progress, next_progress, progress, is_live_so_far, settling_phases}
-use Rattle.world_model.specs.Steady.{IsSteady, OpensWell}
+use Rattle.world_model.specs.Steady.{OpensWell}
 use Rattle.law_safety.proofs.Growing.{run-plan}
 use Rattle.law_granting.specs.Asking.{AreAsksInOrder}
 use Rattle.law_granting.proofs.Running.{run-order}
 use Rattle.law_readers.specs.Settling.{CanSettle}
 use Rattle.law_schedules.proofs.Journals.{live-far, prefix-live, phases-counted, progress-run}
+use Rattle.law_settling.specs.Rests.{AllRestPast}
 use Rattle.law_settling.specs.Finished.{IsFinished}
-use Rattle.law_settling.specs.Entered.{IsReplicaOf, AreWhole, AreFailingOrDone, OversAreKnown, OneEnters}
+use Rattle.law_settling.specs.Entered.{IsReplicaOf, AreWhole, AreFailingOrDone, OversAreKnown, OneRestingEnters, OneEnters}
 use Rattle.law_settling.proofs.Splitting.{in-quiet, quiet-goes}
 use Rattle.law_settling.proofs.Journeys.{IsUnder, under-phase, under-next, under-first, end-under}
-use Rattle.law_settling.proofs.Along.{every-behind, progress-push, live-may, good-along}
+use Rattle.law_settling.proofs.Along.{every-behind, progress-push, live-may, running-along}
+use Rattle.law_settling.proofs.Steadily.{rests-along, steady-all-rest}
 use Rattle.law_settling.proofs.Promises.{open-of}
 use Rattle.law_settling.proofs.Fellows.{many_replicas}
 use Rattle.law_settling.proofs.Replicas.{number-low}
@@ -36,7 +38,7 @@ pub record WasFailing (plan : Plan) (v : World) (f a : ℕ) : Type 0 where
   pub was : IsReplicaOf plan v f a number node
   pub failed : is_up_failure node.state ≡ true
 
-module _ (script : Script) (events before : List Event) (f : ℕ) (can : CanSettle script) (live : is_live_so_far script events ≡ true) (well : OpensWell script events) (steady : IsSteady script events)
+module _ (script : Script) (events before : List Event) (f : ℕ) (can : CanSettle script) (live : is_live_so_far script events ≡ true) (well : OpensWell script events) (floor : ℕ) (past_floor : length script.phases < floor) (rests : AllRestPast script events f floor)
     (wholes : (done more : List Event) → events ≡ done ++ more → length before ≤ length done → AreWhole script.plan (run script.plan done) f) where
   pub replica-there : (done : List Event) (b q : ℕ) (n : PlainNode) → IsReplica script f (progress script done) b q n → IsReplicaOf script.plan (run script.plan done) f b q n
   replica-there done b q n at = record { role = at.role; up = ap (λ (w : World). (slot_of w b).node) (sym (progress-run script done)) ∙ at.up }
@@ -45,13 +47,13 @@ module _ (script : Script) (events before : List Event) (f : ℕ) (can : CanSett
   replica-back done b q n at = record { role = at.role; up = ap (λ (w : World). (slot_of w b).node) (progress-run script done) ∙ at.up }
 
   -- every state behind
-  pub working-along : (done rest : List Event) → events ≡ done ++ rest → length before ≤ length done → length script.phases + settling_phases < (progress script done).phase → IsWorking script f (progress script done)
+  pub working-along : (done rest : List Event) → events ≡ done ++ rest → length before ≤ length done → floor < (progress script done).phase → IsWorking script f (progress script done)
   working-along done rest is long far =
-      let good = good-along script events live well steady done rest is far in
       let plan = run-plan script.plan done in
+      let opens = open-of script can (progress script done) (running-along script events live well done rest is (omega (arith, past_floor, far))) in
       record {
-        here = open-of script can (progress script done) (record { events = good.events; is = good.is; live = good.live; standing = good.standing });
-        calm = good.calm;
+        here = opens;
+        calm = λ b q n at. rests-along script events b floor live (rests b q at.role) done rest is far f q n (ap (λ (pl : Plan). role_of pl b) opens.of_plan ∙ at.role) at.up;
         order = subst AreAsksInOrder (sym (progress-run script done)) (run-order script.plan done can.plan);
         whole = λ b q n at. wholes done rest is long b q n (replica-there done b q n at);
         numbered = λ b q n p at promised.
@@ -76,7 +78,7 @@ module _ (script : Script) (events before : List Event) (f : ℕ) (can : CanSett
       by-sort b q n at (inl failed) = inl (record { number = q; node = n; was = at; failed = failed }, failed)
       by-sort b q n at (inr done) = let cursor = done.cursor in inr (omega (arith, cursor))
 
-  module _ (b0 q0 : ℕ) (role_0 : role_of script.plan b0 ≡ IsNode f q0) (was : Was b0) (base : ℕ) (past : length script.phases + settling_phases < base) where
+  module _ (b0 q0 : ℕ) (role_0 : role_of script.plan b0 ≡ IsNode f q0) (was : Was b0) (base : ℕ) (past : floor < base) where
     low_0 : q0 < many_replicas script.plan f
     low_0 = number-low script.plan b0 f q0 q0 role_0
 
@@ -101,8 +103,8 @@ module _ (script : Script) (events before : List Event) (f : ℕ) (can : CanSett
         let long = h.0 in
         let count = length-append done (e ∷ []) in
         let longer : length before ≤ length (done ++ e ∷ []) = omega (arith, long, count) in
-        let next_good : length script.phases + settling_phases < (next_progress script z e).phase → IsWorking script f (next_progress script z e) =
-        (λ (far : length script.phases + settling_phases < (next_progress script z e).phase). subst (IsWorking script f) push (working-along (done ++ e ∷ []) rest later longer (subst (λ (y : Progress). length script.phases + settling_phases < y.phase) (sym push) far))) in
+        let next_good : floor < (next_progress script z e).phase → IsWorking script f (next_progress script z e) =
+        (λ (far : floor < (next_progress script z e).phase). subst (IsWorking script f) push (working-along (done ++ e ∷ []) rest later longer (subst (λ (y : Progress). floor < y.phase) (sym push) far))) in
         let goal : AtFirst (next_progress script z e) ⊎ Under (next_progress script z e) =
         elim h.1 [
           | inl at ↦
@@ -147,14 +149,13 @@ module _ (script : Script) (events before : List Event) (f : ℕ) (can : CanSett
               at-end script f Was b0 q0 role_0 was low_0 (progress script (before ++ mid)) (end-under script (IsWorking script f) (EntersIn script f Was) top base (base + top) (progress script (before ++ mid)) (enters-journey script f Was b0 q0 role_0 was low_0 top) u (omega (arith, count, phase, far)))
         ]
 
-pub one-enters : (script : Script) (events : List Event) → OneEnters script events
-one-enters script events can live well steady before mid rest f is late far wholes sorted known a r n at failed =
-    let so_far = live-far script events live in
+pub one-resting-enters : (script : Script) (events : List Event) → OneRestingEnters script events
+one-resting-enters script events can live well before mid rest f floor is past_floor rests late far wholes sorted known a r n at failed =
     let whole : events ≡ (before ++ mid) ++ rest = is ∙ sym (append_assoc before mid rest) in
-    let count = phases-counted script before (prefix-live script before (mid ++ rest) (subst (λ (es : List Event). is_live_so_far script es ≡ true) is so_far)) in
-    let count_late = phases-counted script (before ++ mid) (prefix-live script (before ++ mid) rest (subst (λ (es : List Event). is_live_so_far script es ≡ true) whole so_far)) in
-    let out = entered-late script events before f can so_far well steady wholes a r at.role (record { number = r; node = n; was = at; failed = failed }) (progress script before).phase (omega (arith, count, late)) mid rest is refl (rests-first script events before f can so_far well steady wholes sorted known) (omega (arith, count, count_late, far)) in
-    let there = replica-there script events before f can so_far well steady wholes (before ++ mid) out.actor out.number out.node out.replica in
+    let count = phases-counted script before (prefix-live script before (mid ++ rest) (subst (λ (es : List Event). is_live_so_far script es ≡ true) is live)) in
+    let count_late = phases-counted script (before ++ mid) (prefix-live script (before ++ mid) rest (subst (λ (es : List Event). is_live_so_far script es ≡ true) whole live)) in
+    let out = entered-late script events before f can live well floor past_floor rests wholes a r at.role (record { number = r; node = n; was = at; failed = failed }) (progress script before).phase (omega (arith, count, late)) mid rest is refl (rests-first script events before f can live well floor past_floor rests wholes sorted known) (omega (arith, count, count_late, far)) in
+    let there = replica-there script events before f can live well floor past_floor rests wholes (before ++ mid) out.actor out.number out.node out.replica in
     let number : out.was.number ≡ out.number = number-of (sym out.was.was.role ∙ there.role) in
     record {
       actor = out.actor;
@@ -169,3 +170,8 @@ one-enters script events can live well steady before mid rest f is late far whol
   where
     number-of : {q s : ℕ} → IsNode f q ≡ IsNode f s → q ≡ s
     number-of e = cc
+
+pub one-enters : (script : Script) (events : List Event) → OneEnters script events
+one-enters script events can live well steady before mid rest f is late far wholes sorted known =
+    let so_far = live-far script events live in
+    one-resting-enters script events can so_far well before mid rest f (length script.phases + settling_phases) is (omega arith) (steady-all-rest script events so_far steady f) late far wholes sorted known

@@ -1,5 +1,5 @@
 -- Every port that reads a source has its whole log, from the ninth phase on past the last recovery.
-use Rattle.std.proofs.Common.{◌≡◌, ℕ, ◌≤◌, true, List, [], ◌∷◌, ◌++◌, length, refl, sym, ap, subst, ◌∙◌, arith, Some}
+use Rattle.std.proofs.Common.{◌≡◌, ℕ, ◌+◌, ◌≤◌, true, List, [], ◌∷◌, ◌++◌, length, refl, sym, ap, subst, ◌∙◌, arith, Some}
 use Rattle.std.proofs.lemmas.List.{append-nil, length-append}
 use Rattle.dpc_lists.specs.Lists.{IsPrefixOf}
 use Rattle.dpc_model.specs.Fragments.{ideal, ideal_upto, log_of}
@@ -10,14 +10,15 @@ use Rattle.dpc_model.specs.declared.plans.Plan.{Plan}
 use Rattle.dpc_model.specs.declared.plans.StreamRef.TheVariants.{Source}
 use Rattle.dpc_model.specs.declared.scripts.Script.{Script}
 use Rattle.world_model.specs.Worlds.{World, run}
-use Rattle.world_model.specs.Schedules.{is_live_so_far}
+use Rattle.world_model.specs.Schedules.{is_live_so_far, settling_phases}
 use Rattle.world_model.specs.Safe.{HoldsOf}
 use Rattle.law_safety.specs.Plans.{IsChecked}
 use Rattle.law_safety.proofs.Sourcing.{ideal-log}
 use Rattle.law_granting.specs.Taken.{port_of}
 use Rattle.law_schedules.proofs.Journals.{live-far, prefix-live, phases-counted, progress-run}
 use Rattle.law_readers.specs.Newest.{IsPortOf}
-use Rattle.law_settling.specs.Read.{ReadsSources}
+use Rattle.law_settling.specs.Read.{ReaderHasLog, ReadsSources}
+use Rattle.law_settling.proofs.Steadily.{steady-rests}
 use Rattle.law_settling.proofs.Lines.{reading-of}
 use Rattle.law_settling.proofs.Full.{run-holds}
 use Rattle.law_settling.proofs.Walking.{whole-late}
@@ -43,15 +44,14 @@ holds-log plan s r checked h ended =
     let all : length (ideal plan (Source s)) ≤ length r.stable = subst (λ (ts : List Tuple). length ts ≤ length r.stable) (ap (λ (b : ℕ). ideal_upto plan (Source s) b) ended ∙ sym (ideal-end plan s)) h.bound in
     whole-prefix r.stable (ideal plan (Source s)) h.stable all ∙ ideal-log plan s checked
 
-pub sources-read : (script : Script) (events : List Event) → ReadsSources script events
-sources-read script events can live well steady before rest is late x p s reads =
+pub reader-has-log : (script : Script) (events : List Event) → ReaderHasLog script events
+reader-has-log script events can live well before rest x p s floor is past rests late reads =
     let plan = script.plan in
     let port : IsPortOf plan x p (Source s) = record { there = reads; only = λ q there. can.once x q p (Source s) there reads } in
     let line = reading-of plan x p s can.plan port in
-    let so_far = live-far script events live in
-    let before_live = prefix-live script before rest (subst (λ (es : List Event). is_live_so_far script es ≡ true) is so_far) in
+    let before_live = prefix-live script before rest (subst (λ (es : List Event). is_live_so_far script es ≡ true) is live) in
     let counted = phases-counted script before before_live in
-    let whole = whole-late script x p s line.0 events can line.1 so_far well steady before rest is (omega (arith, late, counted)) in
+    let whole = whole-late script x p s line.0 floor events can line.1 live well past rests before rest is (omega (arith, late, counted)) in
     let there : port_of (run plan before) x p ≡ Some whole.port = ap (λ (w : World). port_of w x p) (sym (progress-run script before)) ∙ whole.there in
     record {
       port = whole.port;
@@ -62,3 +62,8 @@ sources-read script events can live well steady before rest is late x p s reads 
         sure = whole.sure;
       };
     }
+
+pub sources-read : (script : Script) (events : List Event) → ReadsSources script events
+sources-read script events can live well steady before rest is late x p s reads =
+    let so_far = live-far script events live in
+    reader-has-log script events can so_far well before rest x p s (length script.phases + settling_phases) is (omega arith) (steady-rests script events so_far steady x) (omega (arith, late)) reads

@@ -1,4 +1,4 @@
--- All that is known of a port that reads a source, and of the source, in a run where nobody recovers and every link is up.
+-- All that is known of a port that reads a source, and of the source, in a run where the reader does not recover and every link is up.
 use Rattle.std.proofs.Common.{◌≡◌, ℕ, ◌+◌, ◌<◌, ◌≤◌, true, false, not, List, [], length, refl, sym, ap, subst, ◌∙◌, arith, Option, Some, slice_get}
 use Rattle.dpc_lists.specs.Lists.{nth}
 use Rattle.dpc_model.specs.Reading.{Reader, is_sure, Folded, fold_items}
@@ -16,7 +16,6 @@ use Rattle.dpc_model.specs.declared.plans.Plan.{Plan}
 use Rattle.dpc_model.specs.declared.plans.StreamRef.TheVariants.{Source}
 use Rattle.node_model.specs.Mails.{Packet, Plain}
 use Rattle.world_model.specs.Worlds.{World, Envelope, source_at, run}
-use Rattle.world_model.specs.Steady.{NoneRecovers}
 use Rattle.world_model.specs.Safe.{HoldsOf}
 use Rattle.law_safety.specs.Plans.{IsCheckedPlan}
 use Rattle.dpc_lists.proofs.Truths.{eq-test}
@@ -30,6 +29,7 @@ use Rattle.law_readers.specs.Newest.{subs_of, KnowsNoNewer}
 use Rattle.law_readers.specs.Held.{joined}
 use Rattle.law_readers.specs.Sure.{SendsSurely}
 use Rattle.law_readers.proofs.Surely.{sources-sure}
+use Rattle.law_settling.specs.Rests.{RestsAt}
 use Rattle.law_settling.proofs.Sure.{IsPlainPacket, sends-plain}
 use Rattle.law_readers.proofs.Steps.{ports-have-read}
 use Rattle.law_readers.proofs.Known.{none-newer, run-clients}
@@ -55,7 +55,7 @@ pub record Stand (plan : Plan) (x p s k : ℕ) (w : World) : Type 0 where
   pub many : length w.clients ≡ length w.plan.clients
   pub within : s < length w.sources
   pub ended : (source_at w s).bound ≡ plan.end
-  pub calm : NoneRecovers w.nodes
+  pub calm : RestsAt w x
   pub up : IsAllUp w
   pub newer : KnowsNoNewer plan w x p (Source s)
   pub took : (q : Port) (m : ℕ) → port_of w x p ≡ Some q → q.inlet.broken ≡ false → tally_of (sub_at w s k) ≡ Some (q.inlet.sess, m) → m ≤ q.inlet.next → (q.inlet.held.bound ≡ plan.end) × (is_sure q.inlet.held ≡ true)
@@ -82,7 +82,7 @@ run-asked plan events x p s k checked line q u h j f v there inlet sent sender t
     some-folded : (r : Reader) (g : Folded) → ◌≡◌ {A = Option Folded} (Some (record { after = r; taken = [] })) (Some g) → g.after ≡ r
     some-folded r g e = let same : ◌≡◌ {A = Folded} (record { after = r; taken = [] }) g = cc in ap (λ (z : Folded). z.after) (sym same)
 
-pub stand-of : (plan : Plan) (events : List Event) (x p s k : ℕ) → IsCheckedPlan plan → IsReading plan x p s k → IsAllUp (run plan events) → NoneRecovers (run plan events).nodes → (source_at (run plan events) s).bound ≡ plan.end → Stand plan x p s k (run plan events)
+pub stand-of : (plan : Plan) (events : List Event) (x p s k : ℕ) → IsCheckedPlan plan → IsReading plan x p s k → IsAllUp (run plan events) → RestsAt (run plan events) x → (source_at (run plan events) s).bound ≡ plan.end → Stand plan x p s k (run plan events)
 stand-of plan events x p s k checked line up calm ended =
     let w = run plan events in
     let g = run-good plan events checked in

@@ -14,25 +14,24 @@ use Rattle.dpc_model.proofs.Numbers.{source-role}
 use Rattle.node_model.specs.Nodes.{PlainNode, ready}
 use Rattle.world_model.specs.Worlds.{World, home_of, node_place, slot_of, node_at, node_role, ready_at, ready_role, ready_in, happens}
 use Rattle.world_model.specs.Schedules.{Progress, next_progress, progress_from, target_of, targets_in, targets_left, is_recovering}
-use Rattle.world_model.specs.Steady.{NoneRecovers}
 use Rattle.dpc_lists.proofs.Truths.{both, both-of, eq-of, eq-test, lt-of, not-lt, le-of, or-right, true-not-false}
 use Rattle.law_safety.proofs.Numbering.{node-at}
 use Rattle.law_schedules.proofs.Nodes.{IsCalmNode, delivered-calm, ticked-calm, milled-moves}
 use Rattle.world_model.specs.Events.{is_quiet}
 use Rattle.law_settling.specs.Phased.{opened}
+use Rattle.law_settling.specs.Rests.{RestsAt}
 use Rattle.law_settling.proofs.Splitting.{IsQuietAt, no-directives}
 use Rattle.law_settling.proofs.Waitings.{done-of}
 use Rattle.law_settling.proofs.Rules.{Keeps, kept-full, last-good, some-phase}
 use Rattle.law_settling.proofs.Journeys.{IsStep}
-use Rattle.law_settling.proofs.PortSteps.{calm-at}
 use Rattle.law_settling.proofs.Ports.{node-there}
 use Rattle.law_settling.proofs.Promises.{IsOpenAt}
 use Rattle.law_settling.proofs.Nodes.{NodeWent, Rests, Takes, Ticked, Mills, node-went}
 
--- a state in which nobody recovers either
-pub record IsCalmAt (script : Script) (z : Progress) : Type 0 where
+-- a state in which the node does not recover either
+pub record IsCalmAt (script : Script) (a : ℕ) (z : Progress) : Type 0 where
   pub here : IsOpenAt script z
-  pub calm : NoneRecovers z.world.nodes
+  pub calm : RestsAt z.world a
 
 -- a node's cursor is that far
 pub record IsPast (a goal : ℕ) (z : Progress) : Type 0 where
@@ -114,13 +113,13 @@ module _ (script : Script) (a f r : ℕ) (role_a : role_of script.plan a ≡ IsN
       filter-any (λ (t : ℕ × ℕ). t.0 == a && t.1 == goal) (λ (t : ℕ × ℕ). not (is_recovering w t.0)) ts
       (λ t e. let p = both (t.0 == a) (t.1 == goal) e in ap not (ap (λ (y : ℕ). is_recovering w y) (eq-of t.0 a p.0) ∙ calm)) h
 
-  calm-here : (z : Progress) → IsCalmAt script z → is_recovering z.world a ≡ false
+  calm-here : (z : Progress) → IsCalmAt script a z → is_recovering z.world a ≡ false
   calm-here z good =
       let node = node-there z.world good.here.most a f r good.here.fine good.here.up (here-a z good.here) in
-      not-left-out z.world node.0 (node-is z node.0 good.here node.1) (calm-at z.world.nodes (node_place z.world.plan a) node.0 good.calm node.1)
+      not-left-out z.world node.0 (node-is z node.0 good.here node.1) (good.calm f r node.0 (here-a z good.here) node.1)
 
   -- the target of a node when a phase opens
-  pub target-opened : (z : Progress) (n : PlainNode) → IsOpenAt script z → IsCalmAt script (opened script z) → (slot_of z.world a).node ≡ Some n → has_target a (n.cursor + ready (home_of z.world.plan (f, r)) n) (opened script z).targets ≡ true
+  pub target-opened : (z : Progress) (n : PlainNode) → IsOpenAt script z → IsCalmAt script a (opened script z) → (slot_of z.world a).node ≡ Some n → has_target a (n.cursor + ready (home_of z.world.plan (f, r)) n) (opened script z).targets ≡ true
   target-opened z n good next up =
       let w = z.world in
       let goal = n.cursor + ready (home_of w.plan (f, r)) n in
@@ -140,15 +139,15 @@ module _ (script : Script) (a f r : ℕ) (role_a : role_of script.plan a ≡ IsN
         | false ↦ λ e. not-lt a (length plan.sources) e
       ]) refl
 
-  target-kept : (goal : ℕ) → Keeps script (IsCalmAt script) (λ z. has_target a goal z.targets ≡ true)
+  target-kept : (goal : ℕ) → Keeps script (IsCalmAt script a) (λ z. has_target a goal z.targets ≡ true)
   target-kept goal z e may h = ap (λ (ts : List (ℕ × ℕ)). has_target a goal ts) (left-next script z e may.quiet may.here.here.at.todo) ∙ stays-in (happens z.world e) goal z.targets (calm-here (next_progress script z e) may.next) h
 
   -- it is met when the phase is over
-  pub target-met : (goal : ℕ) (z : Progress) (es : List Event) → IsStep script (IsCalmAt script) z es → has_target a goal (opened script z).targets ≡ true → IsPast a goal (progress_from script (opened script z) es)
+  pub target-met : (goal : ℕ) (z : Progress) (es : List Event) → IsStep script (IsCalmAt script a) z es → has_target a goal (opened script z).targets ≡ true → IsPast a goal (progress_from script (opened script z) es)
   target-met goal z es step h =
       let y = progress_from script (opened script z) es in
-      let good = last-good script (IsCalmAt script) (opened script z) es step.phase.good in
-      let there = kept-full script (IsCalmAt script) (λ v. has_target a goal v.targets ≡ true) (target-kept goal) (opened script z) es step.phase h in
+      let good = last-good script (IsCalmAt script a) (opened script z) es step.phase.good in
+      let there = kept-full script (IsCalmAt script a) (λ v. has_target a goal v.targets ≡ true) (target-kept goal) (opened script z) es step.phase h in
       let milled = (done-of y (some-phase script y good.here.at) step.phase.full.complete).milled in
       let found = any-all (λ (t : ℕ × ℕ). t.0 == a && t.1 == goal) (λ (t : ℕ × ℕ). nat_le t.1 (elim (node_at y.world t.0) as (λ _. ℕ) [ None ↦ t.1 | Some n ↦ n.cursor ])) y.targets there milled in
       let p = both (found.0.0 == a) (found.0.1 == goal) found.1 in
@@ -163,12 +162,12 @@ module _ (script : Script) (a f r : ℕ) (role_a : role_of script.plan a ≡ IsN
   -- ---- for good
 
   -- the cursor of a node that does not recover never falls
-  pub past-kept : (goal : ℕ) → Keeps script (IsCalmAt script) (IsPast a goal)
+  pub past-kept : (goal : ℕ) → Keeps script (IsCalmAt script a) (IsPast a goal)
   past-kept goal z e may h =
       let good = may.here.here in
       let went = node-went z.world good.most a f r good.fine (here-a z good) e may.quiet h.node h.up in
-      let old = calm-at z.world.nodes (node_place z.world.plan a) h.node may.here.calm h.up in
-      let new = calm-at (happens z.world e).nodes (node_place (happens z.world e).plan a) went.0 may.next.calm went.1 in
+      let old = may.here.calm f r h.node (here-a z good) h.up in
+      let new = may.next.calm f r went.0 (here-a (next_progress script z e) may.next.here) went.1 in
       let low = h.past in
       let more = on went.0 went.2 old new in
       record { node = went.0; up = went.1; past = omega (arith, low, more) }

@@ -1,4 +1,4 @@
--- Along a whole live run: from the eighth full phase on past the last recovery a port of a source has the whole of it.
+-- Along a live run: from the eighth full phase on behind the last in which its reader may recover a port of a source has the whole of it.
 use Rattle.std.proofs.Common.{◌≡◌, ℕ, ◌+◌, ◌<◌, ◌≤◌, true, List, ◌++◌, length, sym, ap, subst, ◌∙◌, arith, slice_get}
 use Rattle.dpc_model.specs.Actors.{role_of, inputs_of}
 use Rattle.dpc_model.specs.declared.messages.Event.{Event}
@@ -7,17 +7,19 @@ use Rattle.dpc_model.specs.declared.plans.Plan.{Plan}
 use Rattle.dpc_model.specs.declared.plans.StreamRef.TheVariants.{Source}
 use Rattle.dpc_model.specs.declared.scripts.Script.{Script}
 use Rattle.world_model.specs.Worlds.{World, source_at, run}
-use Rattle.world_model.specs.Schedules.{Progress, progress, may_follow, may, is_live_so_far, settling_phases}
-use Rattle.world_model.specs.Steady.{NoneRecovers, IsSteady, OpensWell}
+use Rattle.world_model.specs.Schedules.{Progress, progress, may_follow, may, is_live_so_far}
+use Rattle.world_model.specs.Steady.{OpensWell}
 use Rattle.law_granting.specs.Taken.{port_of}
 use Rattle.law_granting.proofs.First.{source-below}
 use Rattle.law_schedules.specs.Journals.{Ticks}
 use Rattle.law_schedules.proofs.Journals.{progress-run}
 use Rattle.law_schedules.proofs.Timely.{ticks-so}
 use Rattle.law_readers.specs.Settling.{CanSettle}
+use Rattle.law_settling.specs.Rests.{RestsAt, RestsPast}
 use Rattle.law_settling.proofs.Opening.{IsAllUp}
 use Rattle.law_settling.proofs.Logs.{run-sources}
-use Rattle.law_settling.proofs.Along.{IsGood, good-along}
+use Rattle.law_settling.proofs.Along.{IsRunning, running-along}
+use Rattle.law_settling.proofs.Steadily.{rests-along}
 use Rattle.law_settling.proofs.Lines.{IsReading}
 use Rattle.law_settling.proofs.Standing.{Stand, stand-of}
 use Rattle.law_settling.proofs.Fresh.{IsSeen, HasWhole}
@@ -29,13 +31,13 @@ pub may-of : (script : Script) (es : List Event) (e : Event) → may_follow scri
 unfolding may
 may-of script es e h = h
 
--- a good state as a port sees it
-pub seen-of : (script : Script) (x p s k : ℕ) → CanSettle script → IsReading script.plan x p s k → (z : Progress) → IsGood script z → IsSeen script x p s k z
-seen-of script x p s k can line z good =
+-- a state as a port sees it whose reader does not recover
+pub seen-of : (script : Script) (x p s k : ℕ) → CanSettle script → IsReading script.plan x p s k → (z : Progress) → IsRunning script z → RestsAt z.world x → IsSeen script x p s k z
+seen-of script x p s k can line z good rests =
     let w = run script.plan good.events in
     let world : z.world ≡ w = ap (λ (y : Progress). y.world) good.is ∙ progress-run script good.events in
     let up = subst IsAllUp world good.standing.up in
-    let calm = subst (λ (v : World). NoneRecovers v.nodes) world good.calm in
+    let calm = subst (λ (v : World). RestsAt v x) world rests in
     let sources = run-sources script.plan good.events in
     let below = source-below script.plan s s line.source in
     let low : s < length z.world.sources = subst (λ (v : World). s < length v.sources) (sym world) (omega (arith, sources, below)) in
@@ -54,10 +56,12 @@ seen-of script x p s k can line z good =
 
 -- ---- along the journal
 
-module _ (script : Script) (x p s k : ℕ) (events : List Event) (can : CanSettle script) (line : IsReading script.plan x p s k) (live : is_live_so_far script events ≡ true) (well : OpensWell script events) (steady : IsSteady script events) where
-  -- from the ninth phase on past the last recovery the whole is there
-  pub whole-late : (done rest : List Event) → events ≡ done ++ rest → length script.phases + settling_phases + 9 ≤ (progress script done).phase → HasWhole script x p (progress script done)
+module _ (script : Script) (x p s k floor : ℕ) (events : List Event) (can : CanSettle script) (line : IsReading script.plan x p s k) (live : is_live_so_far script events ≡ true) (well : OpensWell script events)
+    (past : length script.phases < floor) (rests : RestsPast script events x floor) where
+  seen-at : (done rest : List Event) → events ≡ done ++ rest → floor < (progress script done).phase → IsSeen script x p s k (progress script done)
+  seen-at done rest is far = seen-of script x p s k can line (progress script done) (running-along script events live well done rest is (omega (arith, past, far))) (rests-along script events x floor live rests done rest is far)
+
+  -- from the ninth phase on behind it the whole is there
+  pub whole-late : (done rest : List Event) → events ≡ done ++ rest → floor + 9 ≤ (progress script done).phase → HasWhole script x p (progress script done)
   whole-late done rest is far =
-      let base = length script.phases + settling_phases in
-      arrives script events live well (IsSeen script x p s k) (Stage script x p s k) 8 base (stages-lead script x p s k) (omega arith)
-      (λ done rest at past. seen-of script x p s k can line (progress script done) (good-along script events live well steady done rest at past)) (λ z seen. (seen.port, seen.there)) done rest is (omega (arith, far))
+      arrives script events live well (IsSeen script x p s k) (Stage script x p s k) 8 floor (stages-lead script x p s k) past (λ done rest at late. seen-at done rest at late) (λ z seen. (seen.port, seen.there)) done rest is (omega (arith, far))

@@ -1,3 +1,4 @@
+pub mod Rests
 pub mod Phased
 pub mod Read
 pub mod Promised

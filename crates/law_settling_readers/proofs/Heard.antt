@@ -19,19 +19,21 @@ use Rattle.dpc_lists.proofs.Somes.{some-same}
 use Rattle.node_model.specs.Nodes.{PlainNode}
 use Rattle.world_model.specs.Worlds.{World, home_of, slot_of, role_up, run, new_world, happens}
 use Rattle.world_model.specs.Schedules.{Progress, first_progress, next_progress, progress_from, progress, is_live_so_far, settling_phases}
-use Rattle.world_model.specs.Steady.{NoneRecovers, TickIsHeard, phase_at, SteadyFrom, IsSteady, OpensWell}
+use Rattle.world_model.specs.Steady.{TickIsHeard, SteadyFrom, IsSteady, OpensWell}
 use Rattle.law_granting.specs.Taken.{port_of}
 use Rattle.law_readers.specs.Settling.{CanSettle}
-use Rattle.law_schedules.proofs.Journals.{progress-run}
+use Rattle.law_schedules.proofs.Journals.{prefix-live, phases-counted, progress-run}
+use Rattle.law_settling.specs.Rests.{RestsAt, RestsPast}
 use Rattle.law_settling.specs.Phased.{opened}
 use Rattle.law_settling.specs.Finished.{IsFinished}
-use Rattle.law_settling.proofs.Along.{every-prefix, progress-push, live-may, phase_after, next-at, phase-from, steady-at}
+use Rattle.law_settling.proofs.Along.{every-prefix, progress-push, live-may, phase_after, phase-from, steady-at}
 use Rattle.law_settling.proofs.Travels.{arrives}
 use Rattle.law_settling.proofs.Fresh.{new-waits}
 use Rattle.law_settling.proofs.Journeys.{IsStep, IsJourney}
 use Rattle.law_settling.proofs.Rules.{MayGo, Keeps, kept-full, due-taken, opened-due, tick-due, first-good}
 use Rattle.law_settling.proofs.Splitting.{stays, in-quiet}
 use Rattle.law_settling.proofs.Stages.{due-waits, role-within}
+use Rattle.law_settling_readers.specs.Streams.{HearsPast}
 use Rattle.law_settling_readers.proofs.Marks.{AreHeard}
 use Rattle.law_settling_readers.proofs.Reading.{replica_at, replicas_in, IsReader, Stand, stand-at, port-at, quiet-at, clocked-at}
 use Rattle.law_settling_readers.proofs.Serving.{tells-now}
@@ -115,11 +117,12 @@ module _ (script : Script) (x p f k : ℕ) where
 
 -- ---- a steady run
 
-run-heard : (script : Script) (events done rest : List Event) (e : Event) → IsSteady script events → events ≡ done ++ e ∷ rest → length script.phases + settling_phases < (next_progress script (progress script done) e).phase → TickIsHeard (happens (run script.plan done) e) e
+pub steady-hears : (script : Script) (events : List Event) → is_live_so_far script events ≡ true → IsSteady script events → (x : ℕ) → HearsPast script events x (length script.phases + settling_phases)
 unfolding run progress
-run-heard script events done rest e steady is far =
-    let phase : (next_progress script (progress script done) e).phase ≡ phase_at (phase_after 0 done) e = next-at script (progress script done) e ∙ ap (λ (n : ℕ). phase_at n e) (phase-from script (first_progress script) done) in
-    (steady-at script 0 (new_world script.plan) done rest e (subst (λ (es : List Event). SteadyFrom script 0 (new_world script.plan) es) is steady) (omega (arith, far, phase))).1
+steady-hears script events live steady x done rest now is far =
+    let counted = phases-counted script done (prefix-live script done (Tick x now ∷ rest) (subst (λ (es : List Event). is_live_so_far script es ≡ true) is live)) in
+    let phase : (progress script done).phase ≡ phase_after 0 done = phase-from script (first_progress script) done in
+    (steady-at script 0 (new_world script.plan) done rest (Tick x now) (subst (λ (es : List Event). SteadyFrom script 0 (new_world script.plan) es) is steady) (omega (arith, far, phase, counted))).1
 
 none-ticked : (script : Script) (x : ℕ) → has (progress script []).ticked x ≡ true → ⊥
 unfolding progress
@@ -128,12 +131,12 @@ none-ticked script x h = let clash : false ≡ true = h in cc
 -- ---- along the journal
 
 module _ (script : Script) (events : List Event) (x p f k base : ℕ) (can : CanSettle script) (line : IsReader script.plan x p f k)
-    (live : is_live_so_far script events ≡ true) (well : OpensWell script events) (steady : IsSteady script events) (past : length script.phases + settling_phases ≤ base)
+    (live : is_live_so_far script events ≡ true) (well : OpensWell script events) (past : length script.phases < base) (rests : RestsPast script events x base) (hears : HearsPast script events x base)
     (finished : (done rest : List Event) → events ≡ done ++ rest → base < (progress script done).phase → (a r : ℕ) (n : PlainNode) → role_of script.plan a ≡ IsNode f r → (slot_of (run script.plan done) a).node ≡ Some n → IsFinished (home_of script.plan (f, r)) n)
     (below : (done rest : List Event) → events ≡ done ++ rest → (q : Port) (i r : ℕ) (v : Watch) (n : PlainNode) → port_of (run script.plan done) x p ≡ Some q → i < replicas_in script.plan f → role_of script.plan (replica_at script.plan f i) ≡ IsNode f r →
     (slot_of (run script.plan done) (replica_at script.plan f i)).node ≡ Some n → slice_get q.watches i ≡ Some v → v.inc ≤ n.grants.inc) where
   stands : (done rest : List Event) → events ≡ done ++ rest → base < (progress script done).phase → Stand script.plan x p f k (progress script done).world
-  stands done rest is far = stand-at script events done rest x p f k can line live well steady is (omega (arith, far, past)) (finished done rest is far)
+  stands done rest is far = stand-at script events done rest x p f k can line live well base past rests is far (finished done rest is far)
 
   abbrev Aware : List Event → Type 0
   Aware done = base < (progress script done).phase → has (progress script done).ticked x ≡ true → NoneThird x p (progress script done).world
@@ -149,11 +152,13 @@ module _ (script : Script) (events : List Event) (x p f k base : ℕ) (can : Can
         | inr o ↦ let clash : false ≡ true = subst (λ (d : Event). has (next_progress script z d).ticked x ≡ true) o.0 ticked in cc
         | inl same ↦
             let here : base < z.phase = omega (arith, far, same) in
-            let at = quiet-at script events done (e ∷ rest) x p f k can line live well steady is (omega (arith, here, past)) (finished done (e ∷ rest) is here) in
+            let at = quiet-at script events done (e ∷ rest) x p f k can line live well base past rests is here (finished done (e ∷ rest) is here) in
             let next = stands (done ++ e ∷ []) rest later (subst (λ (y : Progress). base < y.phase) (sym push) far) in
-            let calm : NoneRecovers (happens z.world e).nodes = subst (λ (y : Progress). NoneRecovers y.world.nodes) push next.calm in
-            let heard : TickIsHeard (happens z.world e) e = subst (λ (v : World). TickIsHeard (happens v e) e) (sym (progress-run script done)) (run-heard script events done rest e steady is (omega (arith, far, past))) in
-            let q = port-at script events done (e ∷ rest) x p f k can line live well steady is (omega (arith, here, past)) (finished done (e ∷ rest) is here) in
+            let calm : RestsAt (happens z.world e) x = subst (λ (y : Progress). RestsAt y.world x) push next.calm in
+            let counted = phases-counted script done (prefix-live script done (e ∷ rest) (subst (λ (es : List Event). is_live_so_far script es ≡ true) is live)) in
+            let heard : (now : ℕ) → e ≡ Tick x now → TickIsHeard (happens z.world (Tick x now)) (Tick x now) =
+            (λ (now : ℕ) (event : e ≡ Tick x now). subst (λ (v : World). TickIsHeard (happens v (Tick x now)) (Tick x now)) (sym (progress-run script done)) (hears done rest now (is ∙ ap (λ (d : Event). done ++ d ∷ rest) event) (omega (arith, here, counted)))) in
+            let q = port-at script events done (e ∷ rest) x p f k can line live well base past rests is here (finished done (e ∷ rest) is here) in
             elim (in-quiet script z e at follows) [
               | inl quiet ↦ aware-next script x p f k z e q.0 quiet (stands done (e ∷ rest) is here) calm q.1 heard (h here) ticked
               | inr o ↦ let clash : false ≡ true = subst (λ (d : Event). has (next_progress script z d).ticked x ≡ true) o.0 ticked in cc
@@ -162,14 +167,13 @@ module _ (script : Script) (events : List Event) (x p f k base : ℕ) (can : Can
 
   watching-at : (done rest : List Event) → events ≡ done ++ rest → base < (progress script done).phase → IsWatching script x p f k (progress script done)
   watching-at done rest is far =
-      let late : length script.phases + settling_phases < (progress script done).phase = omega (arith, past, far) in
       let fin = finished done rest is far in
-      let q = port-at script events done rest x p f k can line live well steady is late fin in
+      let q = port-at script events done rest x p f k can line live well base past rests is far fin in
       let world = progress-run script done in
       record {
         stand = stands done rest is far;
-        at = quiet-at script events done rest x p f k can line live well steady is late fin;
-        clocked = clocked-at script events done rest x p f k can line live well steady is late fin;
+        at = quiet-at script events done rest x p f k can line live well base past rests is far fin;
+        clocked = clocked-at script events done rest x p f k can line live well base past rests is far fin;
         port = q.0;
         there = q.1;
         below = subst (λ (v : World). (y : Port) (i r : ℕ) (u : Watch) (n : PlainNode) → port_of v x p ≡ Some y → i < replicas_in script.plan f → role_of script.plan (replica_at script.plan f i) ≡ IsNode f r → (slot_of v (replica_at script.plan f i)).node ≡ Some n → slice_get y.watches i ≡ Some u → u.inc ≤ n.grants.inc) (sym world)
@@ -180,7 +184,7 @@ module _ (script : Script) (events : List Event) (x p f k base : ℕ) (can : Can
   -- from the fourth phase on each replica is heard STABLE within two ticks, or there is one alone
   pub heard-late : (done rest : List Event) → events ≡ done ++ rest → base + 4 ≤ (progress script done).phase → (q : Port) → port_of (progress script done).world x p ≡ Some q → AreHeard q.watches
   heard-late done rest is far q there =
-      let all = arrives script events live well (IsWatching script x p f k) (Stage script x p f k) 3 base (stages-lead script x p f k) (omega (arith, past)) (λ done rest at late. watching-at done rest at late) (λ z good. tt) done rest is (omega (arith, far)) in
+      let all = arrives script events live well (IsWatching script x p f k) (Stage script x p f k) 3 base (stages-lead script x p f k) past (λ done rest at late. watching-at done rest at late) (λ z good. tt) done rest is (omega (arith, far)) in
       let many : length q.watches ≡ replicas_in script.plan f = ((stands done rest is (omega (arith, far))).watched q there).1 ∙ ap (λ (pl : Plan). replicas_in pl f) (stands done rest is (omega (arith, far))).of_plan in
       elim (le-or (length q.watches) 1) [
         | inl one ↦ inl one

@@ -32,13 +32,14 @@ use Rattle.law_readers.specs.Newest.{IsPortOf}
 use Rattle.law_session_origins.specs.Numbers.{replicas_at, first_replica}
 use Rattle.law_session_origins.proofs.RoleNumbers.{has-numbers}
 use Rattle.law_settling.specs.Finished.{IsFinished}
+use Rattle.law_settling.proofs.Steadily.{steady-rests}
 use Rattle.law_settling.proofs.Firsts.{longer-begins}
 use Rattle.law_settling.proofs.Onward.{phases-add}
-use Rattle.law_settling_readers.specs.Streams.{HasStream, ReadersHaveStreams}
+use Rattle.law_settling_readers.specs.Streams.{HasStream, RestingReaderHasStream, ReadersHaveStreams}
 use Rattle.law_settling_readers.proofs.Comings.{run-is}
 use Rattle.law_settling_readers.proofs.Reading.{replica_at, replicas_in, IsReader}
 use Rattle.law_settling_readers.proofs.Watches.{watches-below}
-use Rattle.law_settling_readers.proofs.Heard.{heard-late}
+use Rattle.law_settling_readers.proofs.Heard.{steady-hears, heard-late}
 use Rattle.law_settling_readers.proofs.Readers.{reader-of, whole-late}
 use Rattle.dpc_lists.proofs.Truths.{both-of, eq-test}
 use Rattle.law_safety.proofs.Emptied.{shape-of}
@@ -92,7 +93,7 @@ takers-law script events can live done rest is x p f r q n port took finished =
 -- ---- the readers of a fragment all of whose replicas have finished
 
 -- all points from some one on in a journal have no fewer phases, and those with more phases stand behind it
-longer-then : (before done rest more : List Event) → before ++ rest ≡ done ++ more → phases_in before < phases_in done → length before ≤ length done
+pub longer-then : (before done rest more : List Event) → before ++ rest ≡ done ++ more → phases_in before < phases_in done → length before ≤ length done
 longer-then before done rest more same late =
     (elim (nat_lt (length done) (length before)) as (λ b. nat_lt (length done) (length before) ≡ b → length before ≤ length done) [
       | false ↦ λ e. not-lt (length done) (length before) e
@@ -114,22 +115,27 @@ known-below plan done x p f k i r q v n checked line there low role up known =
     let last = (asking.nodes a f r n (ap (λ (pl : Plan). role_of pl a) (run-plan plan done) ∙ role) up).inc in
     omega (arith, most, last)
 
-pub readers-law : (script : Script) (events : List Event) → ReadersHaveStreams script events
-readers-law script events can live well steady before mid rest f is past finished far x p port =
+pub resting-readers-law : (script : Script) (events : List Event) → RestingReaderHasStream script events
+resting-readers-law script events can live well before mid rest f x p is past rests hears finished far port =
     let plan = script.plan in
     let base = phases_in before in
-    let so_far = live-far script events live in
     let reader = reader-of plan x p f can.once port in
     let line = reader.1 in
-    let counted : (done more : List Event) → events ≡ done ++ more → (progress script done).phase ≡ phases_in done = (λ done more at. phases-counted script done (prefix-live script done more (subst (λ (es : List Event). is_live_so_far script es ≡ true) at so_far))) in
+    let counted : (done more : List Event) → events ≡ done ++ more → (progress script done).phase ≡ phases_in done = (λ done more at. phases-counted script done (prefix-live script done more (subst (λ (es : List Event). is_live_so_far script es ≡ true) at live))) in
     let fin : (done more : List Event) → events ≡ done ++ more → base < (progress script done).phase → (a r : ℕ) (n : PlainNode) → role_of plan a ≡ IsNode f r → (slot_of (run plan done) a).node ≡ Some n → IsFinished (home_of plan (f, r)) n =
     (λ done more at late a r n role up. let phase = counted done more at in finished done more at (longer-then before done (mid ++ rest) more (sym is ∙ at) (omega (arith, phase, late))) a r n (record { role = role; up = up })) in
     let below = (λ (done more : List Event) (at : events ≡ done ++ more) (q : Port) (i r : ℕ) (v : Watch) (n : PlainNode). known-below plan done x p f reader.0 i r q v n can.plan line) in
-    let heard = heard-late script events x p f reader.0 base can line so_far well steady (omega (arith, past)) fin below in
+    let heard = heard-late script events x p f reader.0 base can line live well past rests hears fin below in
     let there : events ≡ (before ++ mid) ++ rest = is ∙ sym (append_assoc before mid rest) in
     let phase = counted (before ++ mid) rest there in
     let many : replicas_in plan f ≡ (nth no_fragment plan.frags f).replicas = ap {B = ℕ} (λ ss. length ss) ((has-numbers plan).fragment f) ∙ length-range_with_len (first_replica plan f) (replicas_at plan f) in
-    let whole = whole-late script events x p f reader.0 (base + 3) can line so_far well steady (omega (arith, past)) (λ done more at late. fin done more at (omega (arith, late)))
+    let whole = whole-late script events x p f reader.0 (base + 3) can line live well (omega (arith, past)) (λ done more at late. rests done more at (omega (arith, late))) (λ done more at late. fin done more at (omega (arith, late)))
     (λ done more at late. heard done more at (omega (arith, late))) (before ++ mid) rest there (omega (arith, phase, many, far)) in
     let at : port_of (run plan (before ++ mid)) x p ≡ Some whole.port = ap (λ (w : World). port_of w x p) (sym (progress-run script (before ++ mid))) ∙ whole.there in
     record { port = whole.port; there = at; has = stream-whole plan (before ++ mid) x p f whole.port can.plan port at whole.bound whole.sure }
+
+pub readers-law : (script : Script) (events : List Event) → ReadersHaveStreams script events
+readers-law script events can live well steady before mid rest f is past finished far x p port =
+    let so_far = live-far script events live in
+    resting-readers-law script events can so_far well before mid rest f x p is (omega (arith, past)) (λ done more at late. steady-rests script events so_far steady x done more at (omega (arith, past, late)))
+    (λ done more now at late. steady-hears script events so_far steady x done more now at (omega (arith, past, late))) finished far port

@@ -13,8 +13,8 @@ use Rattle.dpc_model.specs.declared.scripts.Script.{Script}
 use Rattle.node_model.specs.Nodes.{PlainNode}
 use Rattle.node_model.specs.Clients.{client_stream}
 use Rattle.world_model.specs.Worlds.{World, home_of, slot_of, client_at, run}
-use Rattle.world_model.specs.Schedules.{progress, is_live_so_far, settling_phases}
-use Rattle.world_model.specs.Steady.{IsSteady, OpensWell}
+use Rattle.world_model.specs.Schedules.{progress, is_live_so_far}
+use Rattle.world_model.specs.Steady.{OpensWell}
 use Rattle.law_safety.specs.Plans.{IsCheckedPlan}
 use Rattle.dpc_lists.proofs.Truths.{eq-of, eq-test}
 use Rattle.dpc_lists.proofs.Elements.{some-there}
@@ -29,6 +29,7 @@ use Rattle.law_readers.specs.Settling.{CanSettle}
 use Rattle.law_readers.proofs.Kept.{clients-kept}
 use Rattle.law_session_origins.specs.Numbers.{ReadsOnce}
 use Rattle.law_session_origins.proofs.OnePort.{finds-senders}
+use Rattle.law_settling.specs.Rests.{RestsPast}
 use Rattle.law_settling.specs.Finished.{IsFinished}
 use Rattle.law_settling.proofs.Fresh.{HasWhole}
 use Rattle.law_settling.proofs.Lines.{place-found, place-low}
@@ -80,7 +81,7 @@ kept-here plan events x p f c a r n q checked port client role up there =
     by-place : p ≡ 0 → role_port (run plan events) x p (IsClient c) ≡ Some q → (client_at (run plan events) c).port ≡ q
     by-place first e = some-same (client_at (run plan events) c).port q (ap (λ (b : Bool). cond {A = Option Port} b (Some (client_at (run plan events) c).port) None) (sym (eq-test p 0 first)) ∙ e)
 
-module _ (script : Script) (events : List Event) (x p f k base : ℕ) (can : CanSettle script) (line : IsReader script.plan x p f k) (live : is_live_so_far script events ≡ true) (well : OpensWell script events) (steady : IsSteady script events) (past : length script.phases + settling_phases ≤ base)
+module _ (script : Script) (events : List Event) (x p f k base : ℕ) (can : CanSettle script) (line : IsReader script.plan x p f k) (live : is_live_so_far script events ≡ true) (well : OpensWell script events) (past : length script.phases < base) (rests : RestsPast script events x base)
     (finished : (done rest : List Event) → events ≡ done ++ rest → base < (progress script done).phase → (a r : ℕ) (n : PlainNode) → role_of script.plan a ≡ IsNode f r → (slot_of (run script.plan done) a).node ≡ Some n → IsFinished (home_of script.plan (f, r)) n)
     (heard : (done rest : List Event) → events ≡ done ++ rest → base < (progress script done).phase → (q : Port) → port_of (progress script done).world x p ≡ Some q → AreHeard q.watches) where
   -- a state in which all replicas have finished, and the port heard so
@@ -88,15 +89,14 @@ module _ (script : Script) (events : List Event) (x p f k base : ℕ) (can : Can
   seen-at done rest is far =
       let plan = script.plan in
       let w = run plan done in
-      let late : length script.phases + settling_phases < (progress script done).phase = omega (arith, past, far) in
       let fin = finished done rest is far in
-      let st = stand-at script events done rest x p f k can line live well steady is late fin in
-      let port = port-at script events done rest x p f k can line live well steady is late fin in
+      let st = stand-at script events done rest x p f k can line live well base past rests is far fin in
+      let port = port-at script events done rest x p f k can line live well base past rests is far fin in
       let world = progress-run script done in
       record {
         stand = st;
-        at = quiet-at script events done rest x p f k can line live well steady is late fin;
-        clocked = clocked-at script events done rest x p f k can line live well steady is late fin;
+        at = quiet-at script events done rest x p f k can line live well base past rests is far fin;
+        clocked = clocked-at script events done rest x p f k can line live well base past rests is far fin;
         port = port.0;
         there = port.1;
         heard = heard done rest is far;
@@ -111,5 +111,5 @@ module _ (script : Script) (events : List Event) (x p f k base : ℕ) (can : Can
   pub whole-late : (done rest : List Event) → events ≡ done ++ rest → base + 3 * replicas_in script.plan f + 9 ≤ (progress script done).phase → HasWhole script x p (progress script done)
   whole-late done rest is far =
       whole-last script x p f k (progress script done)
-      (arrives script events live well (IsSeen script x p f k) (Stage script x p f k) (reading_stages script x p f k) base (stages-lead script x p f k) (omega (arith, past))
+      (arrives script events live well (IsSeen script x p f k) (Stage script x p f k) (reading_stages script x p f k) base (stages-lead script x p f k) past
       (λ done rest at far. seen-at done rest at far) (λ z seen. top-stage script x p f k z seen.port seen.there) done rest is (omega (arith, far)))

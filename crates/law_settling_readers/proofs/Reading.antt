@@ -21,9 +21,9 @@ use Rattle.dpc_model.specs.declared.scripts.Script.{Script}
 use Rattle.node_model.specs.Mails.{Plain}
 use Rattle.node_model.specs.Nodes.{PlainNode, own_readers}
 use Rattle.world_model.specs.Worlds.{World, Envelope, home_of, slot_of, run}
-use Rattle.world_model.specs.Steady.{NoneRecovers, IsSteady, OpensWell}
+use Rattle.world_model.specs.Steady.{OpensWell}
 use Rattle.world_model.specs.Safe.{HoldsOf}
-use Rattle.world_model.specs.Schedules.{Progress, progress, may_follow, is_live_so_far, settling_phases}
+use Rattle.world_model.specs.Schedules.{Progress, progress, may_follow, is_live_so_far}
 use Rattle.law_safety.specs.Plans.{IsCheckedPlan}
 use Rattle.dpc_lists.proofs.Truths.{eq-test}
 use Rattle.dpc_lists.proofs.Elements.{some-there}
@@ -40,8 +40,10 @@ use Rattle.law_readers.specs.Newest.{IsPortOf, subs_of, node_subs, KnowsNoNewer}
 use Rattle.law_readers.proofs.Known.{none-newer, run-clients}
 use Rattle.law_readers.proofs.Read.{reached-port}
 use Rattle.law_readers.proofs.Steps.{port-chosen}
+use Rattle.law_settling.specs.Rests.{RestsAt, RestsPast}
 use Rattle.law_settling.specs.Finished.{IsFinished}
-use Rattle.law_settling.proofs.Along.{good-along}
+use Rattle.law_settling.proofs.Along.{IsRunning, running-along}
+use Rattle.law_settling.proofs.Steadily.{rests-along}
 use Rattle.law_settling.proofs.Opening.{IsAllUp}
 use Rattle.law_settling.proofs.Ports.{port-there, clocked-of}
 use Rattle.law_settling.proofs.Walking.{may-of}
@@ -83,7 +85,7 @@ pub record Stand (plan : Plan) (x p f k : ℕ) (w : World) : Type 0 where
   pub most : ℕ
   pub fine : IsFine w most
   pub many : length w.clients ≡ length w.plan.clients
-  pub calm : NoneRecovers w.nodes
+  pub calm : RestsAt w x
   pub up : IsAllUp w
   pub newer : KnowsNoNewer w.plan w x p (Frag f)
   pub done : (a r : ℕ) (n : PlainNode) → role_of w.plan a ≡ IsNode f r → (slot_of w a).node ≡ Some n → IsFinished (home_of w.plan (f, r)) n
@@ -96,7 +98,7 @@ pub record Stand (plan : Plan) (x p f k : ℕ) (w : World) : Type 0 where
   -- the port knows of each replica
   pub watched : (q : Port) → port_of w x p ≡ Some q → (q.chosen < length q.watches) × (length q.watches ≡ replicas_in w.plan f)
 
--- a good state, as the port sees it: past the last recovery, all replicas have finished, and the port has heard so of each
+-- a good state, as the port sees it: its reader does not recover, all replicas have finished, and the port has heard so of each
 pub record IsSeen (script : Script) (x p f k : ℕ) (z : Progress) : Type 0 where
   pub stand : Stand script.plan x p f k z.world
   pub at : IsQuietAt script z
@@ -126,7 +128,7 @@ run-took script events done rest x p f k checked live is line finished q r m n t
     let low = line.low in
     took-whole plan done x p f r a k answered.0 checked line.port q there whole refl role n up line.back low answered.1 m tally (omega (arith, low, many_plan)) all (finished a r n role up)
 
-pub stand-of : (script : Script) (events done rest : List Event) (x p f k : ℕ) → IsCheckedPlan script.plan → is_live_so_far script events ≡ true → events ≡ done ++ rest → IsReader script.plan x p f k → IsAllUp (run script.plan done) → NoneRecovers (run script.plan done).nodes →
+pub stand-of : (script : Script) (events done rest : List Event) (x p f k : ℕ) → IsCheckedPlan script.plan → is_live_so_far script events ≡ true → events ≡ done ++ rest → IsReader script.plan x p f k → IsAllUp (run script.plan done) → RestsAt (run script.plan done) x →
     ((a r : ℕ) (n : PlainNode) → role_of script.plan a ≡ IsNode f r → (slot_of (run script.plan done) a).node ≡ Some n → IsFinished (home_of script.plan (f, r)) n) → Stand script.plan x p f k (run script.plan done)
 stand-of script events done rest x p f k checked live is line up calm finished =
     let plan = script.plan in
@@ -153,21 +155,23 @@ stand-of script events done rest x p f k checked live is line up calm finished =
 
 -- ---- at each point of a live run at which all replicas have finished
 
-module _ (script : Script) (events done rest : List Event) (x p f k : ℕ) (can : CanSettle script) (line : IsReader script.plan x p f k) (live : is_live_so_far script events ≡ true) (well : OpensWell script events) (steady : IsSteady script events)
-    (is : events ≡ done ++ rest) (past : length script.phases + settling_phases < (progress script done).phase)
+module _ (script : Script) (events done rest : List Event) (x p f k : ℕ) (can : CanSettle script) (line : IsReader script.plan x p f k) (live : is_live_so_far script events ≡ true) (well : OpensWell script events) (floor : ℕ) (late : length script.phases < floor) (rests : RestsPast script events x floor)
+    (is : events ≡ done ++ rest) (past : floor < (progress script done).phase)
     (finished : (a r : ℕ) (n : PlainNode) → role_of script.plan a ≡ IsNode f r → (slot_of (run script.plan done) a).node ≡ Some n → IsFinished (home_of script.plan (f, r)) n) where
+  running-at : IsRunning script (progress script done)
+  running-at = running-along script events live well done rest is (omega (arith, late, past))
+
   pub stand-at : Stand script.plan x p f k (progress script done).world
   stand-at =
-      let good = good-along script events live well steady done rest is past in
       let world = progress-run script done in
       subst (λ (v : World). Stand script.plan x p f k v) (sym world)
-      (stand-of script events done rest x p f k can.plan live is line (subst IsAllUp world good.standing.up) (subst (λ (v : World). NoneRecovers v.nodes) world good.calm) finished)
+      (stand-of script events done rest x p f k can.plan live is line (subst IsAllUp world running-at.standing.up) (subst (λ (v : World). RestsAt v x) world (rests-along script events x floor live rests done rest is past)) finished)
 
   pub port-at : (q : Port) × (port_of (progress script done).world x p ≡ Some q)
   port-at = let st = stand-at in port-there (progress script done).world st.most x p (Frag f) st.fine st.up st.line.port.there
 
   pub quiet-at : IsQuietAt script (progress script done)
-  quiet-at = (good-along script events live well steady done rest is past).standing.at
+  quiet-at = running-at.standing.at
 
   pub clocked-at : (a now : ℕ) → may_follow script (progress script done) (Tick a now) ≡ true → Ticks (progress script done).world a now
   clocked-at a now may_it =

@@ -22,13 +22,14 @@ use Rattle.node_model.specs.Mails.{Packet, Plain, SnapFor}
 use Rattle.node_model.specs.Nodes.{PlainNode}
 use Rattle.world_model.specs.Worlds.{World, Envelope, slot_of, client_at, happens}
 use Rattle.world_model.specs.Schedules.{Progress, next_progress, may_follow}
-use Rattle.world_model.specs.Steady.{NoneRecovers, NoneThree, IsHeardAt, AreHeard as AreAllHeard, HeardBy, TickIsHeard}
+use Rattle.world_model.specs.Steady.{NoneThree, IsHeardAt, AreHeard as AreAllHeard, HeardBy, TickIsHeard}
 use Rattle.law_safety.proofs.Pointwise.{sender-of}
 use Rattle.dpc_lists.proofs.Truths.{eq-test}
 use Rattle.dpc_lists.proofs.Somes.{some-same}
 use Rattle.law_granting.specs.Taken.{node_port, role_port, port_of}
 use Rattle.law_granting.proofs.Moves.{get-mapped, get-was}
 use Rattle.law_schedules.specs.Journals.{Ticks}
+use Rattle.law_settling.specs.Rests.{RestsAt}
 use Rattle.law_settling.proofs.Lines.{place-low}
 use Rattle.law_settling.proofs.PortExact.{port_after}
 use Rattle.law_settling.proofs.PortGoing.{PortGoes, port-goes}
@@ -153,7 +154,7 @@ module _ (w : World) (x p : ℕ) (e : Event) where
 abbrev pub NoneThird : ℕ → ℕ → World → Type 0
 NoneThird x p w = (q : Port) → port_of w x p ≡ Some q → 1 < length q.watches → (i : ℕ) (v : Watch) → slice_get q.watches i ≡ Some v → v.ticks ≡ 3 → ⊥
 
--- past the last recovery, all replicas have finished; no beat of a later incarnation is known, and none is three ticks ago once the reader ticked in the phase
+-- its reader does not recover, all replicas have finished; no beat of a later incarnation is known, and none is three ticks ago once the reader ticked in the phase
 pub record IsWatching (script : Script) (x p f k : ℕ) (z : Progress) : Type 0 where
   pub stand : Stand script.plan x p f k z.world
   pub at : IsQuietAt script z
@@ -182,7 +183,7 @@ module _ (script : Script) (x p f k : ℕ) where
     pub at : slice_get port.watches i ≡ Some watch
     pub goes : WatchGoes z.world x p i e watch u
 
-  pub watch-was : (z : Progress) (e : Event) → is_quiet e ≡ true → Stand script.plan x p f k z.world → NoneRecovers (happens z.world e).nodes → (q r : Port) → port_of z.world x p ≡ Some q → port_of (happens z.world e) x p ≡ Some r → (i : ℕ) (u : Watch) → slice_get r.watches i ≡ Some u → WatchWas z e r i u
+  pub watch-was : (z : Progress) (e : Event) → is_quiet e ≡ true → Stand script.plan x p f k z.world → RestsAt (happens z.world e) x → (q r : Port) → port_of z.world x p ≡ Some q → port_of (happens z.world e) x p ≡ Some r → (i : ℕ) (u : Watch) → slice_get r.watches i ≡ Some u → WatchWas z e r i u
   watch-was z e quiet st calm_next q r there now i u at =
       let n = port-goes z.world st.most x p (Frag f) st.fine st.many st.line.port st.calm e quiet calm_next q there in
       let one : n.0 ≡ r = some-same n.0 r (sym n.1 ∙ now) in
@@ -231,13 +232,13 @@ ticked-on script z (Tick a now) x quiet other = ap (λ (t : Bool). t || has z.ti
 ticked-on script z (Mill a r) x quiet other = refl
 
 -- an event of a phase
-pub aware-next : (script : Script) (x p f k : ℕ) (z : Progress) (e : Event) (q : Port) → is_quiet e ≡ true → Stand script.plan x p f k z.world → NoneRecovers (happens z.world e).nodes → port_of z.world x p ≡ Some q → TickIsHeard (happens z.world e) e →
+pub aware-next : (script : Script) (x p f k : ℕ) (z : Progress) (e : Event) (q : Port) → is_quiet e ≡ true → Stand script.plan x p f k z.world → RestsAt (happens z.world e) x → port_of z.world x p ≡ Some q → ((now : ℕ) → e ≡ Tick x now → TickIsHeard (happens z.world (Tick x now)) (Tick x now)) →
     (has z.ticked x ≡ true → NoneThird x p z.world) → has (next_progress script z e).ticked x ≡ true → NoneThird x p (happens z.world e)
 aware-next script x p f k z e q quiet st calm_next there heard aware ticked =
     (elim (is_tick x e) as (λ t. is_tick x e ≡ t → NoneThird x p (happens z.world e)) [
       | true ↦ λ d.
           let same = same-tick x e quiet d in
-          subst (λ (c : Event). NoneThird x p (happens z.world c)) (sym same.1) (tick-heard (happens z.world (Tick x same.0)) x p (subst (λ (c : Event). TickIsHeard (happens z.world c) c) same.1 heard))
+          subst (λ (c : Event). NoneThird x p (happens z.world c)) (sym same.1) (tick-heard (happens z.world (Tick x same.0)) x p (heard same.0 same.1))
       | false ↦ λ d. others d (aware (sym (ticked-on script z e x quiet d) ∙ ticked))
     ]) refl
   where

@@ -8,7 +8,7 @@ ghost use Rattle.dpc_model.specs.declared.plans.Plan.{Plan};
 ghost use Rattle.dpc_model.specs.declared.scripts.Script.{Script};
 ghost use Rattle.law_safety.specs.Plans.{IsCheckedPlan};
 ghost use Rattle.law_settling_readers.specs.Asked.{AreAskedOnce, AreAnsweredOnce};
-ghost use Rattle.law_settling_readers.specs.Streams.{TakersHaveAll, ReadersHaveStreams};
+ghost use Rattle.law_settling_readers.specs.Streams.{TakersHaveAll, RestingReaderHasStream, ReadersHaveStreams};
 
 /// In a run the senders of a stream are asked for each session of its only port by one envelope.
 pub fn sessions_are_asked_for_once()
@@ -25,6 +25,13 @@ pub fn sessions_are_answered_in_one_incarnation()
 /// and nothing that may be corrected.
 pub fn takers_of_a_finished_replica_have_the_stream()
     ensures { (script : Script) (events : List Event) → TakersHaveAll script events }
+{}
+
+/// Where all replicas of a fragment have finished from some point on, and a reader of it, a node or a client, does not recover behind the
+/// point's phase and misses no three beats in a row of one of several replicas: each of its ports that reads the fragment has the whole
+/// failure-free stream 3R + 12 phases later. The run need be live so far alone, and whether others recover does not matter.
+pub fn a_reader_that_rests_has_the_stream()
+    ensures { (script : Script) (events : List Event) → RestingReaderHasStream script events }
 {}
 
 /// Past the last recovery, where all replicas of a fragment have finished from some point on, each port that reads the fragment, of a
