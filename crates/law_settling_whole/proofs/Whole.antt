@@ -21,9 +21,9 @@ use Rattle.dpc_model.specs.declared.scripts.Script.{Script}
 use Rattle.dpc_model.proofs.Numbers.{client-role}
 use Rattle.node_model.specs.Nodes.{no_fragment}
 use Rattle.node_model.specs.Clients.{ClientState, client_stream, client_settled, new_client}
-use Rattle.world_model.specs.Worlds.{World, client_at, run, all_settled}
+use Rattle.world_model.specs.Worlds.{World, client_at, happens, run, new_world, all_settled}
 use Rattle.world_model.specs.Schedules.{is_live, quiet_limit, settling_phases}
-use Rattle.world_model.specs.Steady.{IsSteady, OpensWell, Settles}
+use Rattle.world_model.specs.Steady.{SteadyFrom, IsSteady, OpensWell, Settles, phase_at}
 use Rattle.script_rules.specs.Places.{is_between}
 use Rattle.script_rules.specs.Facts.{is_there, has_sizes}
 use Rattle.script_rules.specs.Checking.{IsChecked}
@@ -44,11 +44,12 @@ use Rattle.world_model.specs.Schedules.{lockstep_journal}
 use Rattle.law_schedules.proofs.Lockstep.{lock-live}
 use Rattle.law_healing.specs.Healing.{heals}
 use Rattle.law_healing.proofs.Opening.{opens-well}
-use Rattle.law_lockstep.specs.Calm.{IsCalm}
+use Rattle.law_lockstep.specs.Calm.{CalmFrom, IsCalm}
 use Rattle.law_lockstep.proofs.Heard.{lock-steady}
 use Rattle.law_calm.specs.Crashes.{has_no_crash}
 use Rattle.law_calm.proofs.Scripts.{script-calm}
 use Rattle.law_settling_readers.proofs.Laws.{readers-law}
+use Rattle.law_settling_whole.specs.Heard.{HeardFrom, IsHeard}
 use Rattle.law_settling_whole.proofs.Fragments.{starts, IsBelow, HasAll, has-here, AreFew, port-has, are-served}
 
 -- ---- how many replicas there are
@@ -159,3 +160,18 @@ healed-settles script checked on healed calm =
 
 pub crashless-settles : (script : Script) → IsChecked script → IsTrue script.settle → heals script ≡ true → has_no_crash script ≡ true → IsTrue (all_settled (run script.plan (lockstep_journal script)))
 crashless-settles script checked on healed none = healed-settles script checked on healed (script-calm script (lockstep_journal script) (can_settle script checked).plan none (lock-live script))
+
+-- ---- by threads
+
+steady-of : (script : Script) (p : ℕ) (w : World) (events : List Event) → CalmFrom script p w events → HeardFrom script p w events → SteadyFrom script p w events
+steady-of script p w [] calm heard = tt
+steady-of script p w (e ∷ events) calm heard = ((λ late. (calm.0 late, heard.0 late)), steady-of script (phase_at p e) (happens w e) events calm.1 heard.1)
+
+pub calm-steady : (script : Script) (events : List Event) → IsCalm script events → IsHeard script events → IsSteady script events
+calm-steady script events calm heard = steady-of script 0 (new_world script.plan) events calm heard
+
+-- in any live run of a script that crashes nobody no more is asked than that readers hear
+pub heard-settles : (script : Script) (events : List Event) → IsChecked script → IsTrue script.settle → heals script ≡ true → has_no_crash script ≡ true → IsTrue (is_live script events) → IsHeard script events → IsTrue (all_settled (run script.plan events))
+heard-settles script events checked on healed none lives heard =
+    let calm = script-calm script events (can_settle script checked).plan none lives in
+    checked-settles script events checked on lives (opens-well script events healed lives) (calm-steady script events calm heard)
