@@ -1,5 +1,5 @@
 -- What is promised of a journal that is replayed, of a script that is upgraded, and of a recorded stream holds.
-use Rattle.std.proofs.Common.{◌≡◌, ◌⊎◌, inl, inr, ℕ, ◌+◌, List, length, Ok, Some, Bool, true, false, refl, ap, ◌∙◌}
+use Rattle.std.proofs.Common.{◌≡◌, ◌⊎◌, inl, inr, ℕ, ◌+◌, List, length, Ok, Some, Bool, true, false, refl, sym, ap, subst, ◌∙◌}
 use Rattle.std.specs.Prelude.{not, ◌&&◌, IsTrue, codes}
 use Rattle.std.proofs.lemmas.Bool.{and_parts}
 use Rattle.dpc_model.specs.declared.messages.Event.{Event}
@@ -9,8 +9,9 @@ use Rattle.script_rules.specs.Reading.{read}
 use Rattle.script_rules.specs.Checking.{IsChecked}
 use Rattle.script_rules.proofs.ReadForms.{reads_have_facts}
 use Rattle.law_scripts.proofs.ReadChecked.{reads_checked}
-use Rattle.law_settling_whole.proofs.Whole.{checked-settles}
+use Rattle.law_settling_whole.proofs.Whole.{checked-settles, healed-settles, heard-settles}
 use Rattle.law_healing.proofs.Opening.{opens-well}
+use Rattle.law_lockstep.specs.Calm.{IsCalm}
 use Rattle.law_fit.specs.Fits.{CanRun}
 use Rattle.law_checked_runs.proofs.Plans.{can_run}
 use Rattle.law_safety.proofs.Law.{run-safe}
@@ -63,6 +64,12 @@ good-run s events can checked is =
       steady = λ well steady. none-open s.settle (all_settled (run s.plan events)) (λ on. checked-settles s events checked on end.live well steady);
       heals = λ healed steady.
           none-open s.settle (all_settled (run s.plan events)) (λ on. checked-settles s events checked on end.live (opens-well s events healed end.live) steady);
+      heard = λ healed none heard.
+          none-open s.settle (all_settled (run s.plan events)) (λ on. heard-settles s events checked on healed none end.live heard);
+      lockstep = λ same healed calm.
+          none-open s.settle (all_settled (run s.plan events)) (λ on.
+          subst (λ (z : List Event). IsTrue (all_settled (run s.plan z))) (sym same)
+          (healed-settles s checked on healed (subst (λ (z : List Event). IsCalm s z) same calm)));
     }
 
 -- a replay that stops at the same place comes to the same
