@@ -69,6 +69,7 @@ impl<'a, N: RunName, R: Wait, G: Gate> Crew<'a, N, R, G> {
             act(self.rt, &post, &mut worker, &mut share);
             seat = worker.milling;
         } else {
+            self.signals.come();
             act(self.rt, &post, &mut seat, &mut share);
         }
         give_share(self.rt, self.shares, share);

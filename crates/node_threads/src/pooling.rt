@@ -6,7 +6,7 @@ ghost use Rattle.mill_pool.specs.Seats.{known};
 
 use crate::milling::Milling;
 use crate::post::{Post, give_up, mill};
-use crate::turn::{MOST_IDLE, Turn, pause};
+use crate::turn::{Turn, pause};
 use crate::worker::Role;
 use dpc_edge::gate::Gate;
 use dpc_lists::steps::Steps;
@@ -126,7 +126,7 @@ impl<'a, N: RunName> PoolSeat<'a, N> {
             }
             if post.signals.is_milling() {
                 idle = 0;
-            } else if idle >= MOST_IDLE {
+            } else if idle >= post.most_idle() {
                 return Turn::Left;
             } else {
                 idle += 1;

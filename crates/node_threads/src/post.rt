@@ -1,11 +1,11 @@
 //! What those who work for a run need, and what each of them does with work of a node.
-ghost use Rattle.std.specs.Prelude.{◌≡◌};
+ghost use Rattle.std.specs.Prelude.{◌≡◌, ◌≤◌};
 ghost use Rattle.law_work.specs.TrueWork.{IsTrueWork};
 ghost use Rattle.node_core.specs.Milling.{CanBeMilled};
 
 use crate::hall::Hall;
 use crate::signals::Signals;
-use crate::turn::Turn;
+use crate::turn::{MOST_ALONE, MOST_IDLE, Turn};
 use dpc_edge::gate::Gate;
 use dpc_lists::steps::Steps;
 use event_shares::names::RunName;
@@ -28,6 +28,21 @@ pub struct Post<'a, N: RunName, G> {
     pub gate: &'a G,
     pub worker: u64,
     pub workers: u64,
+}
+
+impl<N: RunName, G> Post<'_, N, G> {
+    /// How often in a row there may be nothing to do for this one before it leaves. Who is left alone leaves too.
+    pub(crate) fn most_idle(&self) -> u64
+        ensures { result ≤ 1000000 }
+    {
+        if self.signals.is_left() {
+            0
+        } else if self.signals.have_come(self.workers) {
+            MOST_IDLE
+        } else {
+            MOST_ALONE
+        }
+    }
 }
 
 /// Memory was wanting for work: nobody goes on.

@@ -13,6 +13,10 @@ pub struct Signals {
     rested: AtomicU64,
     /// How many are at work now.
     busy: AtomicU64,
+    /// How many have come.
+    come: AtomicU64,
+    /// One left who found nothing to do for long.
+    left: AtomicBool,
     /// The run is at its end, or does not go on.
     over: AtomicBool,
     /// How many orders each seat of a pool put that are not done.
@@ -28,6 +32,8 @@ impl Signals {
             opened: AtomicU64::new(0),
             rested: AtomicU64::new(0),
             busy: AtomicU64::new(0),
+            come: AtomicU64::new(0),
+            left: AtomicBool::new(false),
             over: AtomicBool::new(false),
             out: Vec::new(alloc),
             milling: AtomicU64::new(0),
@@ -51,6 +57,26 @@ impl Signals {
     /// The phase whose work may be taken.
     pub(crate) fn opened(&self) -> u64 {
         self.opened.load(Ordering::SeqCst)
+    }
+
+    /// A worker, or a miller, has come.
+    pub(crate) fn come(&self) {
+        self.come.fetch_add(1, Ordering::SeqCst);
+    }
+
+    /// Whether so many workers have come, and where there is a pool, all who have a seat.
+    pub(crate) fn have_come(&self, workers: u64) -> bool {
+        self.come.load(Ordering::SeqCst) >= workers.max(self.out.len() as u64)
+    }
+
+    /// One leaves who found nothing to do for long.
+    pub(crate) fn leave(&self) {
+        self.left.store(true, Ordering::SeqCst);
+    }
+
+    /// Whether one left.
+    pub(crate) fn is_left(&self) -> bool {
+        self.left.load(Ordering::SeqCst)
     }
 
     /// A worker begins to work.

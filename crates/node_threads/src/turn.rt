@@ -1,9 +1,12 @@
 //! What comes of a try, and how one waits for the next.
 use std::thread;
 
-/// How often in a row somebody finds nothing to do before it leaves what is left to its caller. Where no
-/// thread can be started they run one after another, and each must leave.
+/// How often in a row somebody finds nothing to do before it leaves what is left to its caller.
 pub const MOST_IDLE: u64 = 1_000_000;
+
+/// So often where not all have come. Where no thread can be started they run one after another, and each
+/// must leave.
+pub const MOST_ALONE: u64 = 10_000;
 
 /// The most times that one yields between two looks.
 const MOST_YIELDS: u64 = 16;

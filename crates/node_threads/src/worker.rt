@@ -6,7 +6,7 @@ use crate::looking::{Look, Station, Work};
 use crate::milling::{ByHand, Milling};
 use crate::post::{Post, give_up};
 use crate::signals::Signals;
-use crate::turn::{MOST_IDLE, Turn, pause};
+use crate::turn::{Turn, pause};
 use dpc_edge::gate::Gate;
 use dpc_lists::steps::Steps;
 use dpc_model::messages::Event;
@@ -53,10 +53,11 @@ pub struct Worker<W> {
 }
 
 impl<W> Worker<W> {
-    /// The worker of a post, before its first look. It takes no memory.
+    /// The worker of a post, which has come, before its first look. It takes no memory.
     pub fn new<N: RunName, G>(post: &Post<'_, N, G>, milling: W) -> Worker<W>
         ensures { result.milling ≡ milling }
     {
+        post.signals.come();
         let station = Station {
             worker: post.worker,
             workers: post.workers,
@@ -248,7 +249,8 @@ fn act_counted<N: RunName, A: Role<N>, R: Wait, G: Gate, S: Ledger>(
             Turn::Idle => {
                 if post.signals.is_busy() {
                     idle = 0;
-                } else if idle >= MOST_IDLE {
+                } else if idle >= post.most_idle() {
+                    post.signals.leave();
                     return;
                 } else {
                     idle += 1;
