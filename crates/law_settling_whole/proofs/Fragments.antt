@@ -37,7 +37,7 @@ abbrev pub starts : ℕ → ℕ → ℕ → ℕ
 starts first more zero = first
 starts first more (suc f) = starts first more f + more
 
-last-or-before : (g b : ℕ) → g < suc b → (g ≡ b) ⊎ (g < b)
+pub last-or-before : (g b : ℕ) → g < suc b → (g ≡ b) ⊎ (g < b)
 last-or-before g b low =
     (elim (nat_lt g b) as (λ t. nat_lt g b ≡ t → (g ≡ b) ⊎ (g < b)) [
       | true ↦ λ e. inr (lt-of g b e)
@@ -72,14 +72,14 @@ abbrev pub IsBelow : ℕ → StreamRef → Type 0
 IsBelow b (Source k) = ⊤
 IsBelow b (Frag g) = g < b
 
-below-at : (b : ℕ) (ss : List StreamRef) (i : ℕ) (s : StreamRef) → ReadsBelow b ss → slice_get ss i ≡ Some s → IsBelow b s
+pub below-at : (b : ℕ) (ss : List StreamRef) (i : ℕ) (s : StreamRef) → ReadsBelow b ss → slice_get ss i ≡ Some s → IsBelow b s
 below-at b [] i s h e = cc
 below-at b (Source k ∷ ss) zero s h e = subst (IsBelow b) (same_Some (Source k) s e) tt
 below-at b (Source k ∷ ss) (suc i) s h e = below-at b ss i s h e
 below-at b (Frag g ∷ ss) zero s h e = subst (IsBelow b) (same_Some (Frag g) s e) h.0
 below-at b (Frag g ∷ ss) (suc i) s h e = below-at b ss i s h.1 e
 
-reads-below : (n f : ℕ) (frags : List FragSpec) → ReadBefore n frags → ReadsBelow (n + f) (nth no_fragment frags f).inputs
+pub reads-below : (n f : ℕ) (frags : List FragSpec) → ReadBefore n frags → ReadsBelow (n + f) (nth no_fragment frags f).inputs
 reads-below n f [] h = tt
 reads-below n zero (x ∷ frags) h = let same : n + 0 ≡ n = omega arith in rw same h.0
 reads-below n (suc f) (x ∷ frags) h = let same : n + suc f ≡ n + 1 + f = omega arith in rw same (reads-below (n + 1) f frags h.1)

@@ -54,14 +54,14 @@ use Rattle.law_settling_whole.proofs.Fragments.{starts, IsBelow, HasAll, has-her
 
 -- ---- how many replicas there are
 
-abbrev most_replicas : ℕ → List FragSpec → ℕ
+abbrev pub most_replicas : ℕ → List FragSpec → ℕ
 most_replicas n fs = fold max n (map (λ (f : FragSpec). f.replicas) fs)
 
 most-grows : (n : ℕ) (fs : List FragSpec) → n ≤ most_replicas n fs
 most-grows n [] = omega arith
 most-grows n (f ∷ fs) = let more = most-grows (max n f.replicas) fs in omega (arith, more)
 
-none-more : (n : ℕ) (fs : List FragSpec) (f : ℕ) → (nth no_fragment fs f).replicas ≤ most_replicas n fs
+pub none-more : (n : ℕ) (fs : List FragSpec) (f : ℕ) → (nth no_fragment fs f).replicas ≤ most_replicas n fs
 none-more n [] f = omega arith
 none-more n (x ∷ fs) zero = let more = most-grows (max n x.replicas) fs in omega (arith, more)
 none-more n (x ∷ fs) (suc f) = none-more (max n x.replicas) fs f
@@ -69,7 +69,7 @@ none-more n (x ∷ fs) (suc f) = none-more (max n x.replicas) fs f
 replicas-of : (f : FragSpec) → has_sizes f ≡ true → (1 ≤ f.replicas) × (f.replicas ≤ 4)
 replicas-of f h = between 1 4 f.replicas (and_parts (is_between 1 4 f.replicas) (is_between 1 8 (length f.inputs)) h).0
 
-four-at-most : (fs : List FragSpec) (f : ℕ) → list_all has_sizes fs ≡ true → (nth no_fragment fs f).replicas ≤ 4
+pub four-at-most : (fs : List FragSpec) (f : ℕ) → list_all has_sizes fs ≡ true → (nth no_fragment fs f).replicas ≤ 4
 four-at-most [] f h = omega arith
 four-at-most (x ∷ fs) zero h = (replicas-of x (and_parts (has_sizes x) (list_all has_sizes fs) h).0).1
 four-at-most (x ∷ fs) (suc f) h = four-at-most fs f (and_parts (has_sizes x) (list_all has_sizes fs) h).1
@@ -93,22 +93,22 @@ limit-is-far n (suc f) most some =
 -- ---- clients
 
 -- what a client reads is there
-stream-there : (plan : Plan) (clients : List ClientSpec) (c : ℕ) (s : StreamRef) → list_all (λ (x : ClientSpec). is_there plan x.input) clients ≡ true →
+pub stream-there : (plan : Plan) (clients : List ClientSpec) (c : ℕ) (s : StreamRef) → list_all (λ (x : ClientSpec). is_there plan x.input) clients ≡ true →
     slice_get (nth [] (map (λ (client : ClientSpec). client.input ∷ []) clients) c) 0 ≡ Some s → is_there plan s ≡ true
 stream-there plan [] c s h e = cc
 stream-there plan (x ∷ clients) zero s h e = subst (λ (u : StreamRef). is_there plan u ≡ true) (same_Some x.input s e) (and_parts (is_there plan x.input) (list_all (λ (y : ClientSpec). is_there plan y.input) clients) h).0
 stream-there plan (x ∷ clients) (suc c) s h e = stream-there plan clients c s (and_parts (is_there plan x.input) (list_all (λ (y : ClientSpec). is_there plan y.input) clients) h).1 e
 
-below-all : (plan : Plan) (s : StreamRef) → is_there plan s ≡ true → IsBelow (length plan.frags) s
+pub below-all : (plan : Plan) (s : StreamRef) → is_there plan s ≡ true → IsBelow (length plan.frags) s
 below-all plan (Source k) h = tt
 below-all plan (Frag f) h = lt-of f (length plan.frags) h
 
-none-waits : (test : ClientState → Bool) (xs : List ClientState) → ((c : ℕ) (x : ClientState) → slice_get xs c ≡ Some x → test x ≡ true) → not (list_any (λ x. not (test x)) xs) ≡ true
+pub none-waits : (test : ClientState → Bool) (xs : List ClientState) → ((c : ℕ) (x : ClientState) → slice_get xs c ≡ Some x → test x ≡ true) → not (list_any (λ x. not (test x)) xs) ≡ true
 none-waits test [] h = refl
 none-waits test (x ∷ xs) h = let here = h 0 x refl in rw here (none-waits test xs (λ c y e. h (suc c) y e))
 
 -- a client whose port has all is settled
-client-done : (plan : Plan) (w : World) (a c : ℕ) (x : ClientState) → w.plan ≡ plan → role_of plan a ≡ IsClient c → slice_get w.clients c ≡ Some x → HasAll plan w a 0 → client_settled w.plan x ≡ true
+pub client-done : (plan : Plan) (w : World) (a c : ℕ) (x : ClientState) → w.plan ≡ plan → role_of plan a ≡ IsClient c → slice_get w.clients c ≡ Some x → HasAll plan w a 0 → client_settled w.plan x ≡ true
 client-done plan w a c x same role there has =
     let role_w : role_of w.plan a ≡ IsClient c = ap (λ (z : Plan). role_of z a) same ∙ role in
     let at : client_at w c ≡ x = ap (λ (o : Option ClientState). unwrap_or o (new_client w.plan c)) there in

@@ -43,3 +43,7 @@ pub mod Together
 pub mod Lacking
 pub mod Since
 pub mod Holding
+pub mod Served
+pub mod Feeding
+pub mod Fragmentwise
+pub mod Settling

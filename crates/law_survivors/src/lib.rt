@@ -1,10 +1,12 @@
-//! A replica that a script never crashes never recovers, whoever else is crashed: what its senders forget it holds.
+//! A replica that a script never crashes never recovers, whoever else is crashed: what its senders forget it holds. So a script that
+//! crashes at most one replica of each fragment settles.
 #![tactic(auto)]
 
 ghost use Rattle.std.specs.Prelude.{List};
 ghost use Rattle.dpc_model.specs.declared.messages.Event.{Event};
 ghost use Rattle.dpc_model.specs.declared.scripts.Script.{Script};
 ghost use Rattle.law_survivors.specs.Spared.{SparedStandWhole, KeepsOneWhole, SendersKeepForSpared, SnapshotsSuffice, SparedAreNotRefused, HearWhole, RefusedAreNotAnswered, AckedIsDone, KnowsPresently, KnowNoMore, KeptWhileRecovering, NoneStartsAfresh, StandsOnceTicked, NeverAgain, BeginsOnce, EndsInTime, RecoversTogether, BeginnersLack, RestsOnceWhole};
+ghost use Rattle.law_survivors.specs.Finishing.{FedFragmentsFinish, AllFragmentsFinish, SettlesWithCrashes};
 
 /// In every live run a replica that the script never crashes is up at each point, and does not recover, whichever others are crashed, of
 /// its own fragment and of those that it reads.
@@ -113,4 +115,24 @@ pub fn who_begins_to_recover_lacks_something()
 /// recovers no more so many and four phases behind that one.
 pub fn recoveries_are_over_once_streams_are_whole()
     ensures { (script : Script) → RestsOnceWhole script }
+{}
+
+/// Where the script crashes at most one replica of each fragment, and all replicas of those that a fragment reads have finished from some
+/// phase on, past the seventh quiet one: all of its own have finished 2 (3M + 12) + R (3R + 9) + 5 phases later, for good, M being the most
+/// replicas of one that it reads and R its own. Those that were crashed have gone on from a good snapshot, and recover no more.
+pub fn fragments_whose_inputs_have_finished_finish()
+    ensures { (script : Script) → FedFragmentsFinish script }
+{}
+
+/// So one fragment after another finishes: the first f of them 38 f (R + 1) phases behind the eighth quiet one, R being the most replicas of
+/// one.
+pub fn all_fragments_finish()
+    ensures { (script : Script) → AllFragmentsFinish script }
+{}
+
+/// A script that mends what it breaks, crashes at most one replica of each fragment, of which another one is there, and ends with `settle`
+/// settles, whatever it lost, cut, crashed and held back: every client has its whole stream at the end of the one-thread run, and the
+/// program's answer is not 4.
+pub fn a_script_that_crashes_one_replica_of_each_settles()
+    ensures { (script : Script) → SettlesWithCrashes script }
 {}
