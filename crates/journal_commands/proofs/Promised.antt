@@ -10,6 +10,7 @@ use Rattle.script_rules.specs.Checking.{IsChecked}
 use Rattle.script_rules.proofs.ReadForms.{reads_have_facts}
 use Rattle.law_scripts.proofs.ReadChecked.{reads_checked}
 use Rattle.law_settling_whole.proofs.Whole.{checked-settles, healed-settles, heard-settles}
+use Rattle.law_survivors.proofs.Settling.{settles-with-crashes}
 use Rattle.law_healing.proofs.Opening.{opens-well}
 use Rattle.law_lockstep.specs.Calm.{IsCalm}
 use Rattle.law_fit.specs.Fits.{CanRun}
@@ -70,6 +71,9 @@ good-run s events can checked is =
           none-open s.settle (all_settled (run s.plan events)) (λ on.
           subst (λ (z : List Event). IsTrue (all_settled (run s.plan z))) (sym same)
           (healed-settles s checked on healed (subst (λ (z : List Event). IsCalm s z) same calm)));
+      survives = λ same healed keeps.
+          none-open s.settle (all_settled (run s.plan events))
+          (λ on. subst (λ (z : List Event). IsTrue (all_settled (run s.plan z))) (sym same) (settles-with-crashes s checked on healed keeps));
     }
 
 -- a replay that stops at the same place comes to the same

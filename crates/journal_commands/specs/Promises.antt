@@ -14,6 +14,7 @@ use Rattle.law_healing.specs.Healing.{heals}
 use Rattle.law_lockstep.specs.Calm.{IsCalm}
 use Rattle.law_calm.specs.Crashes.{has_no_crash}
 use Rattle.law_settling_whole.specs.Heard.{IsHeard}
+use Rattle.law_survivors.specs.Spared.{keeps_all_but_one}
 use Rattle.report.specs.Text.{report_text}
 use Rattle.journal_inputs.specs.Parts.{script_part}
 use Rattle.audit_core.specs.declared.verdict.Verdict.{Verdict}
@@ -25,7 +26,7 @@ use Rattle.journal_commands.specs.declared.outcome.JournalCommand.TheVariants.{R
 -- the run is safe in all its parts, and passes no limit; its journal is live to its end; behind settle a client that is not settled had
 -- all quiet phases, and there is none where the run is steady and its quiet phases open well, as they do where the script heals; nor is
 -- there one where the script heals and crashes nobody and readers hear those that they read, or heals, and the journal is that of one
--- thread, and recoveries end
+-- thread, and recoveries end or at most one replica of each fragment is crashed
 pub record IsGoodRun (s : Script) (events : List Event) : Type 0 where
   pub safe : IsSafe s.plan events
   pub live : is_live s events ≡ true
@@ -34,6 +35,7 @@ pub record IsGoodRun (s : Script) (events : List Event) : Type 0 where
   pub steady : OpensWell s events → IsSteady s events → (s.settle && not (all_settled (run s.plan events))) ≡ false
   pub heard : heals s ≡ true → has_no_crash s ≡ true → IsHeard s events → (s.settle && not (all_settled (run s.plan events))) ≡ false
   pub lockstep : events ≡ lockstep_journal s → heals s ≡ true → IsCalm s events → (s.settle && not (all_settled (run s.plan events))) ≡ false
+  pub survives : events ≡ lockstep_journal s → heals s ≡ true → keeps_all_but_one s ≡ true → (s.settle && not (all_settled (run s.plan events))) ≡ false
   pub heals : heals s ≡ true → IsSteady s events → (s.settle && not (all_settled (run s.plan events))) ≡ false
 
 -- the upgraded script has the same live journals and the same one-thread journal; each journal's replay comes to the same, and so does its
