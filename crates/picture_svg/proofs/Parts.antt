@@ -12,6 +12,9 @@ three_parts old a b c = simp append_assoc
 pub four_parts : (old a b c d : List ℕ) → (((old ++ a) ++ b) ++ c) ++ d ≡ old ++ (((a ++ b) ++ c) ++ d)
 four_parts old a b c d = simp append_assoc
 
+pub five_parts : (old a b c d e : List ℕ) → ((((old ++ a) ++ b) ++ c) ++ d) ++ e ≡ old ++ ((((a ++ b) ++ c) ++ d) ++ e)
+five_parts old a b c d e = simp append_assoc
+
 -- the whole text, put together part by part
 pub all_parts : (head axis lanes marks legend end a b c d e f g : List ℕ) → a ≡ head → b ≡ a ++ axis → c ≡ b ++ lanes → d ≡ c ++ marks → e ≡ d ++ legend → f ≡ e ++ end → g ≡ f ++ 10 ∷ [] →
     g ≡ (((((head ++ axis) ++ lanes) ++ marks) ++ legend) ++ end) ++ 10 ∷ []
@@ -19,6 +22,10 @@ all_parts head axis lanes marks legend end a b c d e f g p q r s t u v =
     v ∙ ap (λ (x : List ℕ). x ++ 10 ∷ [])
     (u ∙ ap (λ (x : List ℕ). x ++ end)
     (t ∙ ap (λ (x : List ℕ). x ++ legend) (s ∙ ap (λ (x : List ℕ). x ++ marks) (r ∙ ap (λ (x : List ℕ). x ++ lanes) (q ∙ ap (λ (x : List ℕ). x ++ axis) p)))))
+
+pub take-none : {X : Type 0} (n : ℕ) → ◌≡◌ {A = List X} (take n []) []
+take-none zero = refl
+take-none (suc n) = refl
 
 -- the first so many of two lists
 pub take-both : {X : Type 0} (n : ℕ) (xs ys : List X) → take n xs ++ take (n - length xs) ys ≡ take n (xs ++ ys)

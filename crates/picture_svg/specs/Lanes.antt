@@ -1,5 +1,5 @@
 -- The lanes.
-use Rattle.std.specs.Prelude.{ℕ, ◌+◌, ◌-◌, Bool, not, ◌||◌, ◌==◌, nat_lt, max, if◌then◌else◌, List, [], ◌∷◌, ◌++◌, flat_map, fold, length, codes}
+use Rattle.std.specs.Prelude.{ℕ, ◌+◌, ◌-◌, Bool, not, ◌||◌, ◌==◌, nat_lt, max, if◌then◌else◌, List, [], ◌∷◌, ◌++◌, flat_map, fold, length, codes, decimal}
 use Rattle.dpc_lists.specs.Lists.{nth, range_with_len}
 use Rattle.dpc_model.specs.Words.{Word}
 use Rattle.picture_model.specs.declared.columns.Column.{Column}
@@ -78,21 +78,27 @@ states_shown step y letters = flat_map (state_bars step y letters) (codes "SUCRx
 unfoldable pub replica_lane : ℕ → List Column → Word → ℕ → ℕ → List ℕ
 replica_lane step columns name y r = text_at 10 (y + 16) name ++ states_shown step y (values_of (what.State r) columns)
 
--- ---- a client: a line of its stable tuples, one above it with the tentative ones, undo and rec_done, and the replica that it reads
+-- ---- a client: a line of its stable tuples and how many they are at the end, one above it with the tentative ones, undo and rec_done, and the
+-- replica that it reads
 
 abbrev pub most_in : List ℕ → ℕ
 most_in values = fold max 1 values
 
 unfoldable pub held_lines : ℕ → ℕ → List ℕ → List ℕ → List ℕ
 held_lines step y held stable =
-    path_of (codes "t") (line_over step 28 (y + 32) (most_in held) held) ++ path_of (codes "f") (line_over step 28 (y + 32) (most_in held) stable)
+    path_of (codes "t") (line_over step 22 (y + 34) (most_in held) held) ++ path_of (codes "f") (line_over step 22 (y + 34) (most_in held) stable)
+
+-- the last number, behind its line
+unfoldable pub total_text : ℕ → ℕ → List ℕ → List ℕ
+total_text step y values = text_at (left_at step (length values) + 4) (y + 17) (decimal (nth 0 values (length values - 1)))
 
 unfoldable pub taken_letters : ℕ → List Column → ℕ → ℕ → List ℕ
 taken_letters step columns y c =
-    rose_letters step 1 (y + 12) 117 (values_of (what.Undos c) columns) ++ rose_letters step 9 (y + 12) 100 (values_of (what.Dones c) columns)
-    ++ new_letters step (y + 44) (values_of (what.Reads c) columns)
+    rose_letters step 1 (y + 10) 117 (values_of (what.Undos c) columns) ++ rose_letters step 9 (y + 10) 100 (values_of (what.Dones c) columns)
+    ++ new_letters step (y + 47) (values_of (what.Reads c) columns)
 
 unfoldable pub client_lane : ℕ → List Column → Word → ℕ → ℕ → List ℕ
 client_lane step columns name y c =
-    text_at 10 (y + 28) name ++ text_at 10 (y + 44) (codes "reads") ++ held_lines step y (values_of (what.Held c) columns) (values_of (what.Stable c) columns)
+    text_at 10 (y + 30) name ++ text_at 10 (y + 47) (codes "reads") ++ held_lines step y (values_of (what.Held c) columns) (values_of (what.Stable c) columns)
+    ++ total_text step y (values_of (what.Stable c) columns)
     ++ taken_letters step columns y c

@@ -27,10 +27,10 @@ step_for count = max 6 (min 40 (1200 / max 1 count))
 abbrev pub left_at : ℕ → ℕ → ℕ
 left_at step j = 170 + step * j
 
--- ---- from top to bottom: so many sources, the links, so many replicas, so many clients with twice the height, the legend
+-- ---- from top to bottom: events, so many sources, the links, so many replicas, so many clients with twice the height, the legend
 
 abbrev pub source_top : ℕ → ℕ
-source_top s = 76 + 24 * s
+source_top s = 96 + 24 * s
 
 abbrev pub replica_top : ℕ → ℕ → ℕ
 replica_top sources r = source_top sources + 24 * (r + 1)

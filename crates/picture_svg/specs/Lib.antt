@@ -1,5 +1,6 @@
 pub mod Shapes
 pub mod Layout
 pub mod Values
+pub mod Marks
 pub mod Lanes
 pub mod Svg

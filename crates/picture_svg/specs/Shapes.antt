@@ -1,5 +1,5 @@
 -- Shapes, as SVG writes them. All coordinates are whole numbers.
-use Rattle.std.specs.Prelude.{ℕ, ◌==◌, if◌then◌else◌, List, [], ◌∷◌, ◌++◌, flat_map, codes, decimal}
+use Rattle.std.specs.Prelude.{ℕ, ◌==◌, if◌then◌else◌, List, [], ◌∷◌, ◌++◌, flat_map, length, codes, decimal}
 use Rattle.dpc_model.specs.Words.{Word}
 
 -- a byte of a text: three have a meaning of their own in SVG
@@ -13,16 +13,22 @@ escaped w = flat_map escaped_byte w
 unfoldable pub text_at : ℕ → ℕ → Word → List ℕ
 text_at x y w = codes "<text x='" ++ decimal x ++ codes "' y='" ++ decimal y ++ codes "'>" ++ escaped w ++ codes "</text>" ++ 10 ∷ []
 
--- letters at places of their own: the x of each, with a space behind it
+-- letters at places of their own, where there are any: the x of each, with a space behind it
+unfoldable pub some_letters : List ℕ → ℕ → List ℕ → List ℕ
+some_letters places y letters = codes "<text x='" ++ places ++ codes "' y='" ++ decimal y ++ codes "'>" ++ letters ++ codes "</text>" ++ 10 ∷ []
+
 unfoldable pub letters_at : List ℕ → ℕ → List ℕ → List ℕ
-letters_at places y letters = codes "<text x='" ++ places ++ codes "' y='" ++ decimal y ++ codes "'>" ++ letters ++ codes "</text>" ++ 10 ∷ []
+letters_at places y letters = if length letters == 0 then [] else some_letters places y letters
 
 abbrev pub place_of : ℕ → List ℕ
 place_of x = decimal x ++ 32 ∷ []
 
--- a path of these moves, drawn as its class says
+-- a path of these moves, where there are any, drawn as its class says
+unfoldable pub some_path : Word → List ℕ → List ℕ
+some_path class moves = codes "<path class='" ++ class ++ codes "' d='" ++ moves ++ codes "'/>" ++ 10 ∷ []
+
 unfoldable pub path_of : Word → List ℕ → List ℕ
-path_of class moves = codes "<path class='" ++ class ++ codes "' d='" ++ moves ++ codes "'/>" ++ 10 ∷ []
+path_of class moves = if length moves == 0 then [] else some_path class moves
 
 abbrev pub move_to : ℕ → ℕ → List ℕ
 move_to x y = 77 ∷ decimal x ++ 32 ∷ decimal y

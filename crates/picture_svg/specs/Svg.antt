@@ -5,8 +5,9 @@ use Rattle.dpc_model.specs.Words.{Word, spaced, text_of}
 use Rattle.dpc_model.specs.ScriptText.{source_name, client_name}
 use Rattle.dpc_model.specs.declared.plans.Plan.{Plan}
 use Rattle.picture_model.specs.declared.columns.Column.{Column}
-use Rattle.picture_text.specs.Text.{title_words, mark_lines, replica_labels}
+use Rattle.picture_text.specs.Text.{title_words, mark_lines, summary_lines, last_column, replica_labels}
 use Rattle.picture_svg.specs.Shapes.{escaped, text_at, move_to, down_to}
+use Rattle.picture_svg.specs.Marks.{kinds_in}
 use Rattle.picture_svg.specs.Layout.{each_of, count_of, column_at, step_for, left_at, source_top, replica_top, client_top}
 use Rattle.picture_svg.specs.Lanes.{source_lane, link_lane, replica_lane, client_lane}
 
@@ -17,8 +18,9 @@ step_of columns = step_for (count_of columns)
 abbrev pub places : List Column → List ℕ
 places columns = range_with_len 0 (count_of columns)
 
+-- the legend has room
 abbrev pub width_of : List Column → ℕ
-width_of columns = left_at (step_of columns) (count_of columns) + 30
+width_of columns = max 780 (left_at (step_of columns) (count_of columns) + 60)
 
 abbrev pub node_labels : Plan → List Word
 node_labels plan = flat_map replica_labels plan.frags
@@ -48,15 +50,28 @@ style_text =
 unfoldable pub title_text : Word → List ℕ
 title_text title = codes "<title>" ++ title ++ codes "</title>" ++ 10 ∷ []
 
-unfoldable pub head_text : ℕ → ℕ → Word → List ℕ
-head_text width height title =
-    codes "<svg xmlns='http://www.w3.org/2000/svg' role='img' font-family='sans-serif' font-size='12'" ++ size_text width height ++ 62 ∷ title_text title ++ style_text
+-- for who can't see it
+unfoldable pub desc_text : List ℕ → List ℕ
+desc_text told = codes "<desc>" ++ escaped told ++ codes "</desc>" ++ 10 ∷ []
+
+unfoldable pub head_text : ℕ → ℕ → Word → List ℕ → List ℕ
+head_text width height title told =
+    codes "<svg xmlns='http://www.w3.org/2000/svg' role='img' font-family='sans-serif' font-size='12'" ++ size_text width height ++ 62 ∷ title_text title ++ desc_text told
+    ++ style_text
     ++ text_at 10 20 title
+
+-- what each client has at the end, and what happened to links and nodes, the first hundred lines
+abbrev pub told_of : Plan → List Column → List ℕ
+told_of plan columns = text_of (summary_lines plan (last_column columns).clients) ++ text_of (take 100 (flat_map (mark_lines plan) columns))
 
 -- ---- numbers and clocks of phases, where there is room
 
+-- so much room wants the longest of them, and some more
+abbrev pub label_room : List Column → ℕ
+label_room columns = 8 * length (decimal ((last_column columns).number + (last_column columns).clock)) + 12
+
 abbrev pub every_of : List Column → ℕ
-every_of columns = max 1 (90 / step_of columns)
+every_of columns = label_room columns / step_of columns + 1
 
 abbrev pub tick_text : List Column → ℕ → List ℕ
 tick_text columns j =
@@ -65,9 +80,9 @@ tick_text columns j =
     else []
 
 abbrev pub axis_text : List Column → List ℕ
-axis_text columns = text_at 10 44 (codes "phase") ++ text_at 10 62 (codes "clock") ++ flat_map (tick_text columns) (places columns)
+axis_text columns = text_at 10 44 (codes "phase") ++ text_at 10 62 (codes "clock") ++ text_at 10 84 (codes "events") ++ flat_map (tick_text columns) (places columns)
 
--- ---- what happened to links and nodes: a line through all lanes, which tells the first eight in a place
+-- ---- what happened to links and nodes: a letter for each kind, and a line through all lanes, which tells the first eight in a place
 
 -- the phases of which the one in the j-th place is the last
 abbrev pub group_at : List Column → ℕ → List Column
@@ -77,13 +92,14 @@ group_at columns j = take (each_of columns) (drop (each_of columns * j) columns)
 abbrev pub told_at : Plan → List Column → ℕ → List ℕ
 told_at plan columns j = text_of (take 8 (flat_map (mark_lines plan) (group_at columns j)))
 
-abbrev pub mark_text : ℕ → ℕ → List ℕ → List ℕ
-mark_text x low told =
-    if length told == 0 then []
-    else codes "<path class='m' d='" ++ move_to x 70 ++ down_to low ++ codes "'><title>" ++ escaped told ++ codes "</title></path>" ++ 10 ∷ []
+unfoldable pub mark_line : ℕ → ℕ → List ℕ → List ℕ
+mark_line x low told = codes "<path class='m' d='" ++ move_to x 74 ++ down_to low ++ codes "'><title>" ++ escaped told ++ codes "</title></path>" ++ 10 ∷ []
+
+abbrev pub mark_text : ℕ → ℕ → List ℕ → List ℕ → List ℕ
+mark_text x low kinds told = if length told == 0 then [] else text_at (x + 2) 84 kinds ++ mark_line x low told
 
 abbrev pub mark_at : Plan → List Column → ℕ → List ℕ
-mark_at plan columns j = mark_text (left_at (step_of columns) j) (legend_top plan) (told_at plan columns j)
+mark_at plan columns j = mark_text (left_at (step_of columns) j) (legend_top plan) (kinds_in (group_at columns j)) (told_at plan columns j)
 
 abbrev pub marks_text : Plan → List Column → List ℕ
 marks_text plan columns = flat_map (mark_at plan columns) (places columns)
@@ -119,11 +135,13 @@ all_lanes plan labels columns =
 
 unfoldable pub legend_text : ℕ → List ℕ
 legend_text y =
-    text_at 10 (y + 24) (codes "sources: area, how far all is released; line, how far it is sent; the height is the whole time")
-    ++ text_at 10 (y + 42) (codes "cut links: how many, # ten or more; vertical lines: cuts, heals, crashes, restarts")
-    ++ text_at 10 (y + 60) (codes "replicas: S STABLE, U UP_FAILURE, C STABILIZATION, R recovering, x down")
-    ++ text_at 10 (y + 78) (codes "clients: solid, stable tuples; dashed, with the tentative ones; u undo, d rec_done; reads: the number of the replica")
+    text_at 10 (y + 24) (codes "events: c cut, h heal, x crash, r restart; the line below tells which")
+    ++ text_at 10 (y + 42) (codes "sources: area, how far all is released; line, how far it is sent; the height is the whole time")
+    ++ text_at 10 (y + 60) (codes "cut links: how many, # ten or more")
+    ++ text_at 10 (y + 78) (codes "replicas: S STABLE, U UP_FAILURE, C STABILIZATION, R recovering, x down")
+    ++ text_at 10 (y + 96) (codes "clients: solid, stable tuples, with their number at the end; dashed, with the tentative ones; u undo, d rec_done")
+    ++ text_at 10 (y + 114) (codes "reads: the number of the replica that the client reads")
 
 unfoldable pub picture_svg : Plan → List Column → List ℕ
 picture_svg plan columns =
-    head_text (width_of columns) (legend_top plan + 120) (spaced (title_words columns)) ++ axis_text columns ++ all_lanes plan (node_labels plan) columns ++ marks_text plan columns ++ legend_text (legend_top plan) ++ codes "</svg>" ++ 10 ∷ []
+    head_text (width_of columns) (legend_top plan + 130) (spaced (title_words columns)) (told_of plan columns) ++ axis_text columns ++ all_lanes plan (node_labels plan) columns ++ marks_text plan columns ++ legend_text (legend_top plan) ++ codes "</svg>" ++ 10 ∷ []

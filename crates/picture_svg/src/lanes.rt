@@ -1,9 +1,11 @@
 //! The lanes.
 ghost use Rattle.std.specs.Prelude.{◌≡◌, ◌<◌, ◌≤◌, ◌^◌, ◌++◌, flat_map, codes, OnOk};
 ghost use Rattle.picture_svg.specs.Shapes.{path_of, down_to};
-ghost use Rattle.picture_svg.specs.Lanes.{line_over, bars_of, taken_letters, source_lane, link_lane, state_bars, states_shown, replica_lane, held_lines, client_lane};
+ghost use Rattle.picture_svg.specs.Lanes.{line_over, bars_of, taken_letters, total_text, source_lane, link_lane, state_bars, states_shown, replica_lane, held_lines, client_lane};
 
-use crate::lines::{most_in, put_bars, put_line, put_new_letters, put_rose_letters};
+use crate::axis::put_number;
+use crate::layout::left_at;
+use crate::lines::{at, most_in, put_bars, put_line, put_new_letters, put_rose_letters};
 use crate::shapes::{put_down, put_path, put_text};
 use crate::values::{What, values_of};
 use dpc_lists::faults::NoMemory;
@@ -189,8 +191,20 @@ fn put_held(
     ensures { OnOk result (text.new.items ≡ text.old.items ++ held_lines step y held.now stable.now) }
 {
     let most = most_in(held);
-    put_line_path(text, alloc, b"t", step, 28, y + 32, most, held)?;
-    put_line_path(text, alloc, b"f", step, 28, y + 32, most, stable)?;
+    put_line_path(text, alloc, b"t", step, 22, y + 34, most, held)?;
+    put_line_path(text, alloc, b"f", step, 22, y + 34, most, stable)?;
+    Ok(())
+}
+
+/// The last number, behind its line.
+#[tactic(auto, unfolding(crate::specs::Lanes::total_text))]
+fn put_total(text: &mut Vec<u8>, step: u64, y: u128, values: &[u64]) -> Result<(), NoMemory>
+    requires step { step ≤ 40 }
+    requires top { y < 2 ^ 100 }
+    ensures { OnOk result (text.new.items ≡ text.old.items ++ total_text step y values.now) }
+{
+    let last = at(values, values.len().saturating_sub(1));
+    put_number(text, left_at(step, values.len()) + 4, y + 17, last)?;
     Ok(())
 }
 
@@ -210,9 +224,9 @@ fn put_taken(
     let undos = values_of(alloc, What::Undos(c), columns)?;
     let dones = values_of(alloc, What::Dones(c), columns)?;
     let reads = values_of(alloc, What::Reads(c), columns)?;
-    put_rose_letters(text, alloc, step, 1, y + 12, b'u', undos.as_slice())?;
-    put_rose_letters(text, alloc, step, 9, y + 12, b'd', dones.as_slice())?;
-    put_new_letters(text, alloc, step, y + 44, reads.as_slice())?;
+    put_rose_letters(text, alloc, step, 1, y + 10, b'u', undos.as_slice())?;
+    put_rose_letters(text, alloc, step, 9, y + 10, b'd', dones.as_slice())?;
+    put_new_letters(text, alloc, step, y + 47, reads.as_slice())?;
     Ok(())
 }
 
@@ -232,9 +246,10 @@ pub(crate) fn put_client(
 {
     let held = values_of(alloc, What::Held(c), columns)?;
     let stable = values_of(alloc, What::Stable(c), columns)?;
-    put_text(text, 10, y + 28, name)?;
-    put_text(text, 10, y + 44, b"reads")?;
+    put_text(text, 10, y + 30, name)?;
+    put_text(text, 10, y + 47, b"reads")?;
     put_held(text, alloc, step, y, held.as_slice(), stable.as_slice())?;
+    put_total(text, step, y, stable.as_slice())?;
     put_taken(text, alloc, step, columns, y, c)?;
     Ok(())
 }

@@ -50,7 +50,7 @@ pub(crate) fn source_top(s: usize) -> u128
     ensures top { result ≡ source_top s }
     ensures small { result < 2 ^ 80 }
 {
-    76 + 24 * s as u128
+    96 + 24 * s as u128
 }
 
 /// The top of a replica's lane, below so many sources.

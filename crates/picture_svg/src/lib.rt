@@ -5,6 +5,7 @@ mod axis;
 mod lanes;
 mod layout;
 mod lines;
+mod marks;
 mod shapes;
 mod svg;
 pub mod values;

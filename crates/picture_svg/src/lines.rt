@@ -9,7 +9,7 @@ use dpc_lists::faults::NoMemory;
 use std::alloc::Global;
 
 /// The number at a place, or 0.
-fn at(values: &[u64], j: usize) -> u64
+pub(crate) fn at(values: &[u64], j: usize) -> u64
     ensures { result ≡ nth 0 values.now j }
 {
     values.get(j).copied().unwrap_or(0)

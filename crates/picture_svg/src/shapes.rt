@@ -1,6 +1,6 @@
 //! Shapes, as SVG writes them. All coordinates are whole numbers.
 ghost use Rattle.std.specs.Prelude.{◌≡◌, ◌++◌, ◌∷◌, [], OnOk, decimal};
-ghost use Rattle.picture_svg.specs.Shapes.{escaped_byte, escaped, text_at, letters_at, place_of, path_of, move_to, along, down_to};
+ghost use Rattle.picture_svg.specs.Shapes.{escaped_byte, escaped, text_at, some_letters, letters_at, place_of, some_path, path_of, move_to, along, down_to};
 
 use dpc_lists::faults::NoMemory;
 use itoa::Buffer;
@@ -55,14 +55,14 @@ pub(crate) fn put_text(text: &mut Vec<u8>, x: u128, y: u128, word: &[u8]) -> Res
 }
 
 /// Letters at places of their own.
-#[tactic(auto, unfolding(crate::specs::Shapes::letters_at))]
-pub(crate) fn put_letters(
+#[tactic(auto, unfolding(crate::specs::Shapes::some_letters))]
+fn put_some_letters(
     text: &mut Vec<u8>,
     places: &[u8],
     y: u128,
     letters: &[u8],
 ) -> Result<(), NoMemory>
-    ensures { OnOk result (text.new.items ≡ text.old.items ++ letters_at places.now y letters.now) }
+    ensures { OnOk result (text.new.items ≡ text.old.items ++ some_letters places.now y letters.now) }
 {
     put_first(text, b"<text x='")?;
     put_first(text, places)?;
@@ -74,6 +74,23 @@ pub(crate) fn put_letters(
     end_line(text)
 }
 
+/// Letters at places of their own, where there are any.
+#[tactic(auto, unfolding(crate::specs::Shapes::letters_at))]
+pub(crate) fn put_letters(
+    text: &mut Vec<u8>,
+    places: &[u8],
+    y: u128,
+    letters: &[u8],
+) -> Result<(), NoMemory>
+    ensures { OnOk result (text.new.items ≡ text.old.items ++ letters_at places.now y letters.now) }
+{
+    if letters.is_empty() {
+        return Ok(());
+    }
+    put_some_letters(text, places, y, letters)?;
+    Ok(())
+}
+
 /// The place of a letter.
 pub(crate) fn put_place(places: &mut Vec<u8>, x: u128) -> Result<(), NoMemory>
     ensures { OnOk result (places.new.items ≡ places.old.items ++ place_of x) }
@@ -83,9 +100,9 @@ pub(crate) fn put_place(places: &mut Vec<u8>, x: u128) -> Result<(), NoMemory>
 }
 
 /// A path of these moves, drawn as its class says.
-#[tactic(auto, unfolding(crate::specs::Shapes::path_of))]
-pub(crate) fn put_path(text: &mut Vec<u8>, class: &[u8], moves: &[u8]) -> Result<(), NoMemory>
-    ensures { OnOk result (text.new.items ≡ text.old.items ++ path_of class.now moves.now) }
+#[tactic(auto, unfolding(crate::specs::Shapes::some_path))]
+fn put_some_path(text: &mut Vec<u8>, class: &[u8], moves: &[u8]) -> Result<(), NoMemory>
+    ensures { OnOk result (text.new.items ≡ text.old.items ++ some_path class.now moves.now) }
 {
     put_first(text, b"<path class='")?;
     put_first(text, class)?;
@@ -93,6 +110,18 @@ pub(crate) fn put_path(text: &mut Vec<u8>, class: &[u8], moves: &[u8]) -> Result
     put_first(text, moves)?;
     put_first(text, b"'/>")?;
     end_line(text)
+}
+
+/// A path of these moves, where there are any.
+#[tactic(auto, unfolding(crate::specs::Shapes::path_of))]
+pub(crate) fn put_path(text: &mut Vec<u8>, class: &[u8], moves: &[u8]) -> Result<(), NoMemory>
+    ensures { OnOk result (text.new.items ≡ text.old.items ++ path_of class.now moves.now) }
+{
+    if moves.is_empty() {
+        return Ok(());
+    }
+    put_some_path(text, class, moves)?;
+    Ok(())
 }
 
 /// The pen goes to (x, y).

@@ -2,12 +2,13 @@
 ghost use Rattle.std.specs.Prelude.{◌≡◌, ◌<◌, ◌++◌, ◌^◌, length, flat_map, IfOk, OnOk};
 ghost use Rattle.dpc_model.specs.Words.{spaced};
 ghost use Rattle.picture_text.specs.Text.{title_words};
-ghost use Rattle.picture_svg.specs.Svg.{line_text, size_text, style_text, title_text, head_text, width_of, legend_top, legend_text, node_labels, source_lanes, replica_lanes, client_lanes, all_lanes, picture_svg};
+ghost use Rattle.picture_svg.specs.Svg.{line_text, size_text, style_text, title_text, desc_text, head_text, width_of, legend_top, legend_text, node_labels, source_lanes, replica_lanes, client_lanes, all_lanes, picture_svg};
 
 use crate::axis::{put_all_marks, put_axis, step_of};
 use crate::lanes::{put_client, put_links, put_replica, put_source};
 use crate::layout::{client_top, count_of, left_at, replica_top, source_top};
-use crate::shapes::{put_decimal, put_text};
+use crate::marks::told_of;
+use crate::shapes::{put_decimal, put_escaped, put_text};
 use diagram_printer::names::source_name;
 use dpc_lists::faults::NoMemory;
 use dpc_lists::lists::Name;
@@ -77,9 +78,26 @@ fn put_title(text: &mut Vec<u8>, title: &[u8]) -> Result<(), NoMemory>
     Ok(())
 }
 
+/// What is told to who can't see it.
+fn put_desc(text: &mut Vec<u8>, told: &[u8]) -> Result<(), NoMemory>
+    ensures { OnOk result (text.new.items ≡ text.old.items ++ desc_text told.now) }
+{
+    put_first(text, b"<desc>")?;
+    put_escaped(text, told)?;
+    put_first(text, b"</desc>")?;
+    end_line(text)?;
+    Ok(())
+}
+
 /// The head, with the title twice.
-fn put_head(text: &mut Vec<u8>, width: u128, height: u128, title: &[u8]) -> Result<(), NoMemory>
-    ensures { OnOk result (text.new.items ≡ text.old.items ++ head_text width height title.now) }
+fn put_head(
+    text: &mut Vec<u8>,
+    width: u128,
+    height: u128,
+    title: &[u8],
+    told: &[u8],
+) -> Result<(), NoMemory>
+    ensures { OnOk result (text.new.items ≡ text.old.items ++ head_text width height title.now told.now) }
 {
     put_first(
         text,
@@ -88,6 +106,7 @@ fn put_head(text: &mut Vec<u8>, width: u128, height: u128, title: &[u8]) -> Resu
     put_size(text, width, height)?;
     put_first(text, b">")?;
     put_title(text, title)?;
+    put_desc(text, told)?;
     put_style(text)?;
     put_text(text, 10, 20, title)?;
     Ok(())
@@ -196,25 +215,32 @@ fn put_legend(text: &mut Vec<u8>, y: u128) -> Result<(), NoMemory>
         text,
         10,
         y + 24,
-        b"sources: area, how far all is released; line, how far it is sent; the height is the whole time",
+        b"events: c cut, h heal, x crash, r restart; the line below tells which",
     )?;
     put_text(
         text,
         10,
         y + 42,
-        b"cut links: how many, # ten or more; vertical lines: cuts, heals, crashes, restarts",
+        b"sources: area, how far all is released; line, how far it is sent; the height is the whole time",
     )?;
+    put_text(text, 10, y + 60, b"cut links: how many, # ten or more")?;
     put_text(
         text,
         10,
-        y + 60,
+        y + 78,
         b"replicas: S STABLE, U UP_FAILURE, C STABILIZATION, R recovering, x down",
     )?;
     put_text(
         text,
         10,
-        y + 78,
-        b"clients: solid, stable tuples; dashed, with the tentative ones; u undo, d rec_done; reads: the number of the replica",
+        y + 96,
+        b"clients: solid, stable tuples, with their number at the end; dashed, with the tentative ones; u undo, d rec_done",
+    )?;
+    put_text(
+        text,
+        10,
+        y + 114,
+        b"reads: the number of the replica that the client reads",
     )?;
     Ok(())
 }
@@ -241,7 +267,7 @@ fn title(alloc: Global, columns: &[Column]) -> Result<Vec<u8>, NoMemory>
 fn width_of(columns: &[Column]) -> u128
     ensures { result ≡ width_of columns.now }
 {
-    left_at(step_of(columns), count_of(columns)) + 30
+    (left_at(step_of(columns), count_of(columns)) + 60).max(780)
 }
 
 /// The picture of a run of this plan. It stands alone: no script, and nothing from outside. The only error is want of
@@ -251,9 +277,16 @@ pub fn picture_svg(alloc: Global, plan: &Plan, columns: &[Column]) -> Result<Vec
 {
     let labels = node_labels(alloc, plan)?;
     let title = title(alloc, columns)?;
+    let told = told_of(alloc, plan, columns)?;
     let low = client_top(plan.sources.len(), labels.len(), plan.clients.len());
     let mut text = Vec::new(alloc);
-    put_head(&mut text, width_of(columns), low + 120, title.as_slice())?;
+    put_head(
+        &mut text,
+        width_of(columns),
+        low + 130,
+        title.as_slice(),
+        told.as_slice(),
+    )?;
     put_axis(&mut text, columns)?;
     put_lanes(&mut text, alloc, plan, labels.as_slice(), columns)?;
     put_all_marks(&mut text, alloc, plan, columns, low)?;

@@ -20,7 +20,7 @@ use report::text::{Summary, put_summary};
 use std::alloc::Global;
 
 /// The clients at the end; none where there is no phase.
-fn last_clients(columns: &[Column]) -> &[ClientPoint]
+pub fn last_clients(columns: &[Column]) -> &[ClientPoint]
     ensures { result.now ≡ (last_column columns.now).clients }
 {
     match columns.last() {
@@ -179,7 +179,11 @@ fn put_summary_of(
 }
 
 /// The summaries of all clients.
-fn put_summaries(text: &mut Vec<u8>, plan: &Plan, clients: &[ClientPoint]) -> Result<(), NoMemory>
+pub fn put_summaries(
+    text: &mut Vec<u8>,
+    plan: &Plan,
+    clients: &[ClientPoint],
+) -> Result<(), NoMemory>
     ensures { OnOk result (text.new.items ≡ text.old.items ++ text_of (summary_lines plan.now clients.now)) }
 {
     for client in 0..clients.len() {

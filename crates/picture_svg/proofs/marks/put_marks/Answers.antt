@@ -2,7 +2,7 @@ use Rattle.std.proofs.Common.{◌≡◌, ◌++◌, map, min, length, take, sym, 
 use Rattle.std.proofs.lemmas.List.{take_min, take-map}
 use Rattle.dpc_model.specs.Words.{text_of}
 use Rattle.picture_text.specs.Text.{mark_words}
-use Rattle.picture_svg.proofs.axis.put_marks.Goals as goal
+use Rattle.picture_svg.proofs.marks.put_marks.Goals as goal
 
 pub returns : goal.returns
 returns c =
