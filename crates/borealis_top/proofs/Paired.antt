@@ -1,4 +1,4 @@
--- What holds of the run of a script, of the one stream of two of its clients, and where its nodes save.
+-- What holds of the run of a script, of the one stream of two of its clients, where its nodes save, and where it is drawn.
 use Rattle.std.proofs.Common.{◌≡◌, ℕ, ◌^◌, ◌<◌, List, length, Result, Err, ap, refl, sym, subst, ◌∙◌}
 use Rattle.std.proofs.lemmas.Bool.{lt-ltb}
 use Rattle.dpc_model.specs.Limits.{most_input}
@@ -14,7 +14,9 @@ use Rattle.pair_commands.specs.Pairs.{read_ending}
 use Rattle.pair_commands.proofs.Readers.{named-readers}
 use Rattle.borealis_top.specs.InputEnds.{IsSound}
 use Rattle.saves_commands.specs.Endings.{EndsRead}
-use Rattle.borealis_top.specs.Questions.{pair_question, saves_question}
+use Rattle.picture_commands.specs.Endings.{read_ending as drawn_ending}
+use Rattle.picture_commands.specs.declared.form.PictureForm.{PictureForm}
+use Rattle.borealis_top.specs.Questions.{pair_question, saves_question, picture_question}
 use Rattle.borealis_top.proofs.Runs.{good-run}
 
 long-reading : (text : List ℕ) → most_input < length text → reading text ≡ Err (record { line = 0; reason = PastLimit })
@@ -37,5 +39,12 @@ saves-sound =
       long = λ text ending long.
           let is = long-reading text long in
           (λ e. subst (λ (r : Result Script PlanFault). EndsRead r ending) is e, λ e. subst (λ (r : Result Script PlanFault). EndsRead r ending) (sym is) e);
+      all = λ text s is. good-run s (read-can-run text s is) (reads_checked text s is);
+    }
+
+pub picture-sound : (form : PictureForm) → IsSound (picture_question form)
+picture-sound form =
+    record {
+      long = λ text ending long. let is = ap (drawn_ending form) (long-reading text long) in (λ e. sym e ∙ is, λ e. is ∙ sym e);
       all = λ text s is. good-run s (read-can-run text s is) (reads_checked text s is);
     }

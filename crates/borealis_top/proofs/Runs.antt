@@ -8,6 +8,7 @@ use Rattle.script_rules.specs.Checking.{IsChecked}
 use Rattle.script_rules.proofs.ReadForms.{reads_have_facts}
 use Rattle.law_scripts.proofs.ReadChecked.{reads_checked}
 use Rattle.law_settling_whole.proofs.Whole.{checked-settles, healed-settles, crashless-settles}
+use Rattle.law_survivors.proofs.Settling.{settles-with-crashes}
 use Rattle.law_fit.specs.Fits.{CanRun}
 use Rattle.law_checked_runs.proofs.Plans.{can_run}
 use Rattle.journal_commands.proofs.Promised.{quiet-so, none-open}
@@ -36,6 +37,7 @@ good-run s can checked =
       settles = λ healed none. none-open s.settle (all_settled (run_of s)) (λ on. crashless-settles s checked on healed none);
       steady = λ well steady. none-open s.settle (all_settled (run_of s)) (λ on. checked-settles s (lockstep_journal s) checked on (lock-live s) well steady);
       recovers = λ healed calm. none-open s.settle (all_settled (run_of s)) (λ on. healed-settles s checked on healed calm);
+      survives = λ healed keeps. none-open s.settle (all_settled (run_of s)) (λ on. settles-with-crashes s checked on healed keeps);
     }
 
 pub read-Holds : (what : Reading) (text : List ℕ) (s : Script) → reading text ≡ Ok s → Holds what s

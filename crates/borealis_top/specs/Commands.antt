@@ -6,7 +6,7 @@ use Rattle.borealis_top.specs.declared.command.Form.TheVariants.{Text, Short, Js
 use Rattle.borealis_top.specs.declared.command.Reading.{Reading}
 use Rattle.borealis_top.specs.declared.command.Reading.TheVariants.{Run, Check, Print, Ideal}
 use Rattle.borealis_top.specs.declared.command.Command.{Command}
-use Rattle.borealis_top.specs.declared.command.Command.TheVariants.{Read, Journal, Saves, Gen, Help, Reasons, Version}
+use Rattle.borealis_top.specs.declared.command.Command.TheVariants.{Read, Journal, Saves, Picture, Gen, Help, Reasons, Version}
 use Rattle.borealis_top.specs.declared.command.LiveCommand.{LiveCommand}
 use Rattle.input_parts.specs.declared.notation.Notation.{Notation}
 use Rattle.input_parts.specs.declared.notation.Notation.TheVariants as notation
@@ -14,6 +14,8 @@ use Rattle.journal_commands.specs.declared.outcome.JournalCommand.{JournalComman
 use Rattle.live_commands.specs.declared.beside.Beside.{Beside}
 use Rattle.live_commands.specs.declared.beside.Beside.TheVariants.{Nobody, Millers, Readers}
 use Rattle.journal_commands.specs.declared.outcome.JournalCommand.TheVariants.{Replay, Upgrade, Audit}
+use Rattle.picture_commands.specs.declared.form.PictureForm.{PictureForm}
+use Rattle.picture_commands.specs.declared.form.PictureForm.TheVariants as drawn
 
 -- what is done with a script that is read
 abbrev pub reading_word : List ℕ → Option Reading
@@ -46,7 +48,8 @@ command_word w =
     else (if bytes_eq w (codes "--version") then Some Version
     else (if bytes_eq w (codes "reasons") then Some Reasons
     else (if bytes_eq w (codes "saves") then Some Saves
-    else input_word w)))
+    else (if bytes_eq w (codes "picture") then Some (Picture drawn.Svg)
+    else input_word w))))
 
 -- the number of a generated script: 1 to 1000
 abbrev pub seed_of : List ℕ → Option ℕ
@@ -60,13 +63,18 @@ form_word w =
     else (if bytes_eq w (codes "frames") then Some Frames
     else None))
 
+-- the form of a picture other than SVG
+abbrev pub picture_word : List ℕ → Option PictureForm
+picture_word w = if bytes_eq w (codes "text") then Some drawn.Text else None
+
 -- the command that two words are
 abbrev pub two_words : List ℕ → List ℕ → Option Command
 two_words w v =
     if bytes_eq w (codes "gen") then option_map Gen (seed_of v)
     else (if bytes_eq w (codes "run") then option_map (λ form. Read (Run form)) (form_word v)
+    else (if bytes_eq w (codes "picture") then option_map Picture (picture_word v)
     else (if bytes_eq v (codes "frames") then option_map Journal (told_word notation.Frames w)
-    else None))
+    else None)))
 
 -- how many threads of a kind run a script: 1 to 16
 abbrev pub threads_of : List ℕ → Option ℕ

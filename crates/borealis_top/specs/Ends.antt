@@ -16,6 +16,7 @@ use Rattle.world_model.specs.Schedules.{lockstep_journal, is_live, quiet_limit}
 use Rattle.law_schedules.specs.Journals.{phases_in}
 use Rattle.law_healing.specs.Healing.{heals}
 use Rattle.law_lockstep.specs.Calm.{IsCalm}
+use Rattle.law_survivors.specs.Spared.{keeps_all_but_one}
 use Rattle.law_calm.specs.Crashes.{has_no_crash}
 use Rattle.report.specs.Text.{report_text, report_short, ideal_text}
 use Rattle.client_frames.specs.Framed.{report_frames}
@@ -78,6 +79,8 @@ pub record IsGoodRun (s : Script) : Type 0 where
   -- where its directives mend what they break it leaves no client open, if it crashes no node or recoveries end
   pub settles : heals s ≡ true → has_no_crash s ≡ true → leaves_open (Run Text) s ≡ false
   pub recovers : heals s ≡ true → IsCalm s (lockstep_journal s) → leaves_open (Run Text) s ≡ false
+  -- nor if it crashes at most one replica of each fragment, and another one is there
+  pub survives : heals s ≡ true → keeps_all_but_one s ≡ true → leaves_open (Run Text) s ≡ false
   -- nor where, whatever failed, its quiet phases open with all logs released and all links and nodes up, and the run is steady
   pub steady : OpensWell s (lockstep_journal s) → IsSteady s (lockstep_journal s) → leaves_open (Run Text) s ≡ false
 

@@ -11,6 +11,8 @@ use Rattle.law_pairs.specs.Pairs.{AreReaders, IsOneStream}
 use Rattle.pair_commands.specs.Named.{pair_named}
 use Rattle.pair_commands.specs.Pairs.{pair_ending}
 use Rattle.saves_commands.specs.Endings.{EndsSaves}
+use Rattle.picture_commands.specs.declared.form.PictureForm.{PictureForm}
+use Rattle.picture_commands.specs.Endings.{picture_ending}
 use Rattle.borealis_top.specs.Ends.{IsGoodRun}
 use Rattle.borealis_top.specs.InputEnds.{Question}
 
@@ -35,3 +37,7 @@ pair_question first second = record { most = most_input; comes = λ input ending
 -- of a script whose nodes save
 abbrev pub saves_question : Question
 saves_question = record { most = most_input; comes = EndsSaves; holds = λ input. (s : Script) → read input ≡ Some s → IsGoodRun s }
+
+-- of a script whose run is drawn
+abbrev pub picture_question : PictureForm → Question
+picture_question form = record { most = most_input; comes = λ input ending. picture_ending form input ≡ ending; holds = λ input. (s : Script) → read input ≡ Some s → IsGoodRun s }

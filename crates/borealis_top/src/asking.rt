@@ -11,6 +11,7 @@ use dpc_edge::sink::Sink;
 use dpc_edge::source::Source;
 use dpc_lists::faults::NoMemory;
 use journal_commands::outcome::{JournalCommand, Outcome};
+use picture_commands::form::PictureForm;
 use status_lines::fault_line;
 use std::alloc::Global;
 
@@ -82,6 +83,22 @@ impl Inquiry for NodeSaves {
 
     fn answer(&self, alloc: Global, input: Vec<u8>) -> Result<Outcome, NoMemory> {
         saves_commands::answer(alloc, input)
+    }
+}
+
+impl Inquiry for PictureForm {
+    ghost use Rattle.borealis_top.specs.Questions.{picture_question};
+
+    ghost question = { λ form. picture_question form };
+
+    fn is_sound(&self) {}
+
+    fn most_input(&self) -> usize {
+        MOST_INPUT
+    }
+
+    fn answer(&self, alloc: Global, input: Vec<u8>) -> Result<Outcome, NoMemory> {
+        picture_commands::answer(alloc, *self, input)
     }
 }
 

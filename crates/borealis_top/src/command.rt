@@ -1,10 +1,11 @@
 //! What the words of the command line ask for.
 ghost use Rattle.std.specs.Prelude.{◌≡◌, None, Some, map, string_bytes, bytes_eq, MatchOption};
-ghost use Rattle.borealis_top.specs.Commands.{reading_word, told_word, journal_word, input_word, form_word, seed_of, command_word, two_words, command_of, threads_of, readers_of, live_by, pool_by, watch_by, live_of, pair_of};
+ghost use Rattle.borealis_top.specs.Commands.{reading_word, told_word, journal_word, input_word, form_word, picture_word, seed_of, command_word, two_words, command_of, threads_of, readers_of, live_by, pool_by, watch_by, live_of, pair_of};
 
 use input_parts::notation::Notation;
 use journal_commands::outcome::JournalCommand;
 use live_commands::beside::Beside;
+use picture_commands::form::PictureForm;
 use script_words::spelling::number;
 
 /// How a run is reported.
@@ -60,6 +61,8 @@ pub enum Command {
     Journal(JournalCommand),
     /// Reads a script, and tells what its nodes save.
     Saves,
+    /// Reads a script, and draws its run.
+    Picture(PictureForm),
     /// Writes the generated script of a number.
     Gen(u64),
     /// Writes which words there are.
@@ -149,6 +152,8 @@ fn lone_command(word: &String) -> Option<Command>
         Some(Command::Reasons)
     } else if is_word(word, b"saves") {
         Some(Command::Saves)
+    } else if is_word(word, b"picture") {
+        Some(Command::Picture(PictureForm::Svg))
     } else {
         input_command(word)
     }
@@ -169,6 +174,17 @@ fn form_in(word: &String) -> Option<Form>
     }
 }
 
+/// The form of a picture other than SVG.
+fn picture_form_in(word: &String) -> Option<PictureForm>
+    ensures { result ≡ picture_word (string_bytes word.now) }
+{
+    if is_word(word, b"text") {
+        Some(PictureForm::Text)
+    } else {
+        None
+    }
+}
+
 /// The command that two words are.
 fn command_of_two(first: &String, second: &String) -> Option<Command>
     ensures { result ≡ two_words (string_bytes first.now) (string_bytes second.now) }
@@ -177,6 +193,8 @@ fn command_of_two(first: &String, second: &String) -> Option<Command>
         Some(Command::Gen(seed_in(second)?))
     } else if is_word(first, b"run") {
         Some(Command::Read(Reading::Run(form_in(second)?)))
+    } else if is_word(first, b"picture") {
+        Some(Command::Picture(picture_form_in(second)?))
     } else if is_word(second, b"frames") {
         Some(Command::Journal(told_command_in(first, Notation::Frames)?))
     } else {

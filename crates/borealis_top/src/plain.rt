@@ -7,10 +7,11 @@ ghost use Rattle.ideal_run.specs.IdealPlans.{IsIdealPlan};
 ghost use Rattle.load_gen.specs.Generated.{generated};
 ghost use Rattle.script_rules.specs.ReasonTable.{reasons_text};
 ghost use Rattle.journal_commands.specs.declared.outcome.JournalCommand as journal;
+ghost use Rattle.picture_commands.specs.declared.form.PictureForm as drawn;
 ghost use Rattle.status_lines.specs.Lines as lines;
 ghost use Rattle.borealis_top.specs.Commands.{command_of, pair_of};
 ghost use Rattle.borealis_top.specs.InputEnds.{EndsBy, IsWholeFor};
-ghost use Rattle.borealis_top.specs.Questions.{journal_question, pair_question, saves_question};
+ghost use Rattle.borealis_top.specs.Questions.{journal_question, pair_question, saves_question, picture_question};
 ghost use Rattle.borealis_top.specs.Texts.{help_text, version_text, unknown_words_line};
 ghost use Rattle.borealis_top.specs.Ends.{IsTold, IsToldBoth, IsToldOpen, IsToldAlong, ReadEnds, ReadIsWhole, GenEnds};
 ghost use Rattle.borealis_top.specs.declared.command.Reading as reading;
@@ -55,6 +56,8 @@ borealis live N pool M < SCRIPT   the same as live N, with M threads more, 1 to 
 borealis live N watch R < SCRIPT  the same as live N, with R threads more, 1 to 8, that read what the clients take, and what they saw
 borealis pair X Y < SCRIPT        runs a script, and writes one stream made of what clients X and Y of one stream received
 borealis saves < SCRIPT           runs a script where each node saves its state at the end of each phase, and tells what each has saved
+borealis picture < SCRIPT         runs a script, and draws what happened, as SVG for a browser
+borealis picture text < SCRIPT    the same as text in at most 100 columns
 borealis gen N                    writes the generated script of a number, 1 to 1000
 borealis reasons                  writes the reasons to refuse a line, each with its number
 borealis --help                   writes these lines
@@ -134,6 +137,11 @@ pub fn plain<S: Source, O: Sink, E: Sink>(
     ensures saved { command_of (map string_bytes words.now) ≡ Some Command.Saves
         → IsWholeFor saves_question (S.edge input.old) (S.edge input.new) (O.edge out.old) (O.edge out.new) (E.edge err.old)
         (E.edge err.new) result }
+    ensures picture { (form : drawn.PictureForm) → command_of (map string_bytes words.now) ≡ Some (Command.Picture form)
+        → EndsBy (picture_question form) (S.edge input.old) (S.edge input.new) (O.edge out.old) (O.edge out.new) (E.edge err.old) (E.edge err.new) result }
+    ensures pictured { (form : drawn.PictureForm) → command_of (map string_bytes words.now) ≡ Some (Command.Picture form)
+        → IsWholeFor (picture_question form) (S.edge input.old) (S.edge input.new) (O.edge out.old) (O.edge out.new) (E.edge err.old)
+        (E.edge err.new) result }
     ensures pair { (first second : List ℕ) → pair_of (map string_bytes words.now) ≡ Some (first, second)
         → EndsBy (pair_question first second) (S.edge input.old) (S.edge input.new) (O.edge out.old) (O.edge out.new)
         (E.edge err.old) (E.edge err.new) result }
@@ -153,6 +161,7 @@ pub fn plain<S: Source, O: Sink, E: Sink>(
         Some(Command::Read(reading)) => read(alloc, reading, input, out, err),
         Some(Command::Journal(what)) => ask(alloc, &what, input, out, err),
         Some(Command::Saves) => ask(alloc, &NodeSaves, input, out, err),
+        Some(Command::Picture(form)) => ask(alloc, &form, input, out, err),
     }
 }
 

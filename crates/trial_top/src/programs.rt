@@ -18,14 +18,6 @@ const REPORT: &str =
 const JSON: &str =
     "{\"clients\":[{\"bound\":30,\"items\":[[\"stable\",0,3,[5]],[\"stable\",1,12,[7]],[\"boundary\",30,2]],\"name\":\"c\",\"settled\":true,\"stable\":2,\"tentative\":0}]}\n";
 
-/// A cut that heals.
-const CENTRAL: &str =
-    "borealis 1\nwidth 10\ndelay 5\nend 20\nsource a 1\nlog a 1 10\nlog a 11 11\nsource b 1\nlog b 4 20\nlog b 13 21\nfragment f 1 a b\nunion u a b\nclient c f\nbegin\nrelease a 10\nrelease b 10\ntick 1\ntick 2\ncut b f.0\nrelease a 20\nrelease b 20\ntick 3\ntick 4\ntick 8\nheal b f.0\ntick 9\nsettle\n";
-
-/// Its report.
-const CENTRAL_REPORT: &str =
-    "client c\nstable 0 1 10\nstable 1 4 20\nboundary 10 2\ntentative 11 11\nundo 2\nstable 2 11 11\nstable 3 13 21\nboundary 20 4\nrec_done\nsummary c stable 4 bound 20 tentative 0 settled\n";
-
 /// A script without a log, and the journal of its run.
 const JOURNAL: &str =
     "borealis 1\nwidth 10\ndelay 5\nend 10\nsource a 1\nfragment f 1 a\nfilter k a 1\nclient c f\nbegin\nrelease a 10\ntick 1\njournal\nphase 1\nrelease a 10\ntick a 1\ntick f.0 1\ntick c 1\njournal end\n";
@@ -136,40 +128,6 @@ fn faults_end_a_run(rt: HostRuntime) -> Result<(), Fail> {
         assert_eq!(rt; status, wanted);
         assert!(rt; out.bytes().len() <= most && REPORT.as_bytes().starts_with(out.bytes()));
         assert_eq!(rt; err.bytes().len(), 0);
-    }
-    Ok(())
-}
-
-#[test]
-fn a_sink_may_fill_up_at_each_byte(rt: HostRuntime) -> Result<(), Fail> {
-    let alloc = rt.alloc();
-    let run = words(alloc, "run", "")?;
-    for room in 0..CENTRAL_REPORT.len() {
-        let mut input = source(alloc, CENTRAL, 1000, false)?;
-        let mut out = MemSink::new(vec![in alloc; 0; room]?, 7, Vec::new(alloc));
-        let mut err = sink(alloc, 1000, false)?;
-        let status = plain(alloc, run.as_slice(), &mut input, &mut out, &mut err);
-        assert_eq!(rt; status, Status::WriteFault, "at {room}");
-        assert!(rt;
-            out.bytes().len() == room && CENTRAL_REPORT.as_bytes().starts_with(out.bytes())
-        );
-        assert_eq!(rt; err.bytes().len(), 0);
-    }
-    Ok(())
-}
-
-#[test]
-fn a_source_may_fail_at_each_read(rt: HostRuntime) -> Result<(), Fail> {
-    let alloc = rt.alloc();
-    let run = words(alloc, "run", "")?;
-    for read in 0..CENTRAL.len() as u64 / 16 {
-        let bytes = CENTRAL.as_bytes().to_vec(alloc)?;
-        let mut input = MemSource::new(bytes, 16, vec![in alloc; read]?);
-        let mut out = sink(alloc, 1000, false)?;
-        let mut err = sink(alloc, 1000, false)?;
-        let status = plain(alloc, run.as_slice(), &mut input, &mut out, &mut err);
-        assert_eq!(rt; status, Status::ReadFault, "at {read}");
-        assert_eq!(rt; out.bytes().len() + err.bytes().len(), 0);
     }
     Ok(())
 }

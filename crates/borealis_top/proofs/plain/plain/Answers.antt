@@ -2,7 +2,8 @@
 use Rattle.std.proofs.Common.{◌≡◌, ◌∙◌, ℕ, List, Option, Some, subst, sym}
 use Rattle.journal_commands.specs.declared.outcome.JournalCommand.{JournalCommand}
 use Rattle.borealis_top.specs.InputEnds.{EndsBy, IsWholeFor}
-use Rattle.borealis_top.specs.Questions.{journal_question, pair_question}
+use Rattle.picture_commands.specs.declared.form.PictureForm.{PictureForm}
+use Rattle.borealis_top.specs.Questions.{journal_question, pair_question, picture_question}
 use Rattle.borealis_top.proofs.plain.plain.Goals as goal
 
 -- what is one pair of names is the other
@@ -33,3 +34,25 @@ returns-in-Some-Journal-clause-journal g c =
     subst (λ (w : JournalCommand). EndsBy (journal_question w) (g.S.Source.edge c.args.input.now) (g.S.Source.edge c.ask-in-Some-Journal.new.input) (g.O.Sink.edge c.args.out.now)
     (g.O.Sink.edge c.ask-in-Some-Journal.new.out) (g.E.Sink.edge c.args.err.now) (g.E.Sink.edge c.ask-in-Some-Journal.new.err) c.ask-in-Some-Journal.result)
     same c.ask-in-Some-Journal.ensures.ends
+
+pub returns-in-Some-Picture-clause-picture : goal.returns-in-Some-Picture-clause-picture
+returns-in-Some-Picture-clause-picture g c =
+    λ form is.
+    let said = c.command_in.ensures in
+    let found = c.in-Some-Picture.is in
+    let here = c.in-Some-Picture.field-0-is in
+    let same : c.in-Some-Picture.form ≡ form = cc in
+    subst (λ (f : PictureForm). EndsBy (picture_question f) (g.S.Source.edge c.args.input.now) (g.S.Source.edge c.ask-in-Some-Picture.new.input) (g.O.Sink.edge c.args.out.now)
+    (g.O.Sink.edge c.ask-in-Some-Picture.new.out) (g.E.Sink.edge c.args.err.now) (g.E.Sink.edge c.ask-in-Some-Picture.new.err) c.ask-in-Some-Picture.result)
+    same c.ask-in-Some-Picture.ensures.ends
+
+pub returns-in-Some-Picture-clause-pictured : goal.returns-in-Some-Picture-clause-pictured
+returns-in-Some-Picture-clause-pictured g c =
+    λ form is.
+    let said = c.command_in.ensures in
+    let found = c.in-Some-Picture.is in
+    let here = c.in-Some-Picture.field-0-is in
+    let same : c.in-Some-Picture.form ≡ form = cc in
+    subst (λ (f : PictureForm). IsWholeFor (picture_question f) (g.S.Source.edge c.args.input.now) (g.S.Source.edge c.ask-in-Some-Picture.new.input) (g.O.Sink.edge c.args.out.now)
+    (g.O.Sink.edge c.ask-in-Some-Picture.new.out) (g.E.Sink.edge c.args.err.now) (g.E.Sink.edge c.ask-in-Some-Picture.new.err) c.ask-in-Some-Picture.result)
+    same c.ask-in-Some-Picture.ensures.complete
