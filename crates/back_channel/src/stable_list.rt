@@ -1,5 +1,5 @@
 //! The stable tuples of a stream.
-ghost use Rattle.std.specs.Prelude.{◌≡◌, true, [], length, OnOk};
+ghost use Rattle.std.specs.Prelude.{◌≡◌, true, [], length, OnErr, OnOk};
 ghost use Rattle.dpc_lists.specs.Lists.{push};
 ghost use Rattle.dpc_model.specs.Streams.{count_below};
 ghost use Rattle.back_channel.specs.Merging.{last_time};
@@ -73,7 +73,8 @@ impl StableList {
 
     /// One more. Want of memory changes nothing.
     pub(crate) fn push(&mut self, tuple: Tuple) -> Result<(), NoMemory>
-        ensures { OnOk result (self.new ≡ push self.old tuple) }
+        ensures ok { OnOk result (self.new ≡ push self.old tuple) }
+        ensures err { OnErr result (self.new ≡ self.old) }
     {
         let ordered = self.ordered && is_upto(self.tuples.as_slice(), tuple.stime);
         self.tuples.push(tuple)?;

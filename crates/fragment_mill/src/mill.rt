@@ -246,6 +246,7 @@ impl FragMill {
         ensures after { OnOk result ((before : List Tagged) → MillAfter self.old before k
             → MillAfter self.new (before ++ inputs.now) (k + 1)) }
         ensures idle { OnOk result (self.new.spent ≡ false) }
+        ensures spent { OnErr result (self.new.spent ≡ true) }
         ensures operators { specs_of self.new.stages ≡ specs_of self.old.stages }
         ensures width { self.new.width ≡ self.old.width }
     {

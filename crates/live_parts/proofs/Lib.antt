@@ -5,3 +5,4 @@ pub mod Taking
 pub mod Ends
 pub mod Served
 pub mod Opening
+pub mod Dues

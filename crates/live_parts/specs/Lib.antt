@@ -1,2 +1,3 @@
 pub mod Moments
 pub mod Inboxes
+pub mod Dues

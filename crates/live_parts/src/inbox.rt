@@ -2,6 +2,7 @@
 ghost use Rattle.std.specs.Prelude.{◌≡◌, ◌==◌, ◌<◌, [], ◌∷◌, ◌++◌, false, length, position, slice_index_or, if◌then◌else◌, MatchOption, IfOk, OnOk};
 ghost use Rattle.dpc_lists.specs.Lists.{list_any};
 ghost use Rattle.world_core.specs.Runs.{world_of};
+ghost use Rattle.live_parts.specs.Dues.{deliveries, deliveries_of, deliveries_in};
 ghost use Rattle.live_parts.specs.Inboxes.{is_first_from, made_at, made_from, loses_way, repeats_way, becomes_due, is_kept, opened, newly_awaited, is_due};
 
 use crate::due::Due;
@@ -197,6 +198,52 @@ fn deliver_from(queue: &mut VecDeque<Awaited>, sender: u64)
     }
 }
 
+/// Appends so many deliveries of an envelope to an actor.
+fn add_deliveries(actor: u32, number: u64, left: u64, due: &mut Vec<Due>) -> Result<(), AllocError>
+    ensures { OnOk result (due.new.items ≡ due.old.items ++ deliveries actor number left) }
+{
+    for _ in 0..left {
+        due.push(Due {
+            actor,
+            event: Event::Deliver(number),
+        })?;
+    }
+    Ok(())
+}
+
+/// Appends the deliveries of what waits, where it is pending and may come.
+fn add_one_due(
+    world: &World,
+    actor: u32,
+    one: Awaited,
+    due: &mut Vec<Due>,
+) -> Result<(), AllocError>
+    requires { world.now.spent ≡ false }
+    ensures { OnOk result (due.new.items ≡ due.old.items ++ deliveries_of (world_of world.now) actor one) }
+{
+    if is_due(world, one) {
+        add_deliveries(actor, one.number, one.left, due)?;
+    }
+    Ok(())
+}
+
+/// Appends the deliveries of all that waits.
+#[tactic(auto, using(crate::proofs::Dues::deliveries_more))]
+fn add_all_due(
+    world: &World,
+    actor: u32,
+    queue: &VecDeque<Awaited>,
+    due: &mut Vec<Due>,
+) -> Result<(), AllocError>
+    requires { world.now.spent ≡ false }
+    ensures { OnOk result (due.new.items ≡ due.old.items ++ deliveries_in (world_of world.now) actor queue.now.items) }
+{
+    for i in 0..queue.len() {
+        add_one_due(world, actor, at(queue, i), due)?;
+    }
+    Ok(())
+}
+
 impl Inbox {
     /// Nothing waits.
     pub fn new(alloc: Global) -> Inbox
@@ -255,20 +302,11 @@ impl Inbox {
         self.queue.iter().any(|one| is_due(world, *one))
     }
 
-    /// Appends a delivery of each that is pending and may come, as often as it is still to come.
+    /// Appends a delivery to the actor of each that is pending and may come, as often as it is still to come.
     pub fn add_due(&self, world: &World, actor: u32, due: &mut Vec<Due>) -> Result<(), AllocError>
         requires { world.now.spent ≡ false }
+        ensures { OnOk result (due.new.items ≡ due.old.items ++ deliveries_in (world_of world.now) actor self.now) }
     {
-        for one in &self.queue {
-            if is_due(world, *one) {
-                for _ in 0..one.left {
-                    due.push(Due {
-                        actor,
-                        event: Event::Deliver(one.number),
-                    })?;
-                }
-            }
-        }
-        Ok(())
+        add_all_due(world, actor, &self.queue, due)
     }
 }

@@ -1,10 +1,11 @@
 //! The envelopes that wait, an inbox for each addressee.
-ghost use Rattle.std.specs.Prelude.{◌≡◌, ◌==◌, ◌≤◌, ◌<◌, ◌++◌, ◌∷◌, if◌then◌else◌, ℕ, true, false, not, [], List, length, Some, OnOk, slice_get};
+ghost use Rattle.std.specs.Prelude.{◌≡◌, ◌==◌, ◌≤◌, ◌<◌, ◌++◌, ◌∷◌, if◌then◌else◌, ℕ, true, false, not, [], List, flat_map, length, Some, OnOk, slice_get};
 ghost use Rattle.dpc_lists.specs.Lists.{nth, changed, list_any};
 ghost use Rattle.world_model.specs.Worlds.{World as PlainWorld, Envelope};
 ghost use Rattle.world_model.specs.Schedules.{Undelivered, Progress, may_deliver, is_first_of_its_way, delivery_made, pending_in, newly_sent, all_delivered};
 ghost use Rattle.law_schedules.proofs.Calm.{IsGrown};
 ghost use Rattle.world_core.specs.Runs.{world_of};
+ghost use Rattle.live_parts.specs.Dues.{deliveries_in, deliveries_to};
 ghost use Rattle.live_parts.specs.Inboxes.{StandsForWaiting, is_due, is_first_from, made_from, newly_awaited, opened};
 
 use crate::due::Due;
@@ -79,6 +80,22 @@ fn is_first_in(boxes: &Vec<Inbox>, sender: u64, to: u64, number: u64) -> bool
         Some(inbox) => inbox.is_first(sender, number),
         None => false,
     }
+}
+
+/// Appends the deliveries of what waits at an actor.
+fn add_due_in(
+    boxes: &Vec<Inbox>,
+    world: &World,
+    actor: u32,
+    due: &mut Vec<Due>,
+) -> Result<(), NoMemory>
+    requires { world.now.spent ≡ false }
+    ensures { OnOk result (due.new.items ≡ due.old.items ++ deliveries_in (world_of world.now) actor (nth [] boxes.now.items actor)) }
+{
+    if let Some(inbox) = boxes.get(actor as usize) {
+        inbox.add_due(world, actor, due)?;
+    }
+    Ok(())
 }
 
 /// One more waits at a place.
@@ -190,10 +207,10 @@ impl Inboxes {
     /// come, in order of number.
     pub fn add_due(&self, world: &World, actor: u32, due: &mut Vec<Due>) -> Result<(), NoMemory>
         requires { world.now.spent ≡ false }
+        ensures { OnOk result ((xs : List Undelivered) → StandsForWaiting self.now (world_of world.now) xs
+            → due.new.items ≡ due.old.items ++ flat_map (deliveries_to (world_of world.now) actor) xs) }
     {
-        if let Some(inbox) = self.boxes.get(actor as usize) {
-            inbox.add_due(world, actor, due)?;
-        }
+        add_due_in(&self.boxes, world, actor, due)?;
         Ok(())
     }
 }

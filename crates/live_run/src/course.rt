@@ -1,11 +1,12 @@
 //! How far a run is in its script.
-ghost use Rattle.std.specs.Prelude.{◌≡◌, ◌&&◌, ◌+◌, ◌==◌, ◌∷◌, if◌then◌else◌, [], true, false, length, drop, filter, IfOk, OnOk};
+ghost use Rattle.std.specs.Prelude.{◌≡◌, ◌&&◌, ◌+◌, ◌==◌, ◌∷◌, if◌then◌else◌, [], ◌++◌, true, false, length, drop, filter, IfOk, OnOk};
 ghost use Rattle.dpc_lists.specs.Lists.{is_nil};
 ghost use Rattle.dpc_model.specs.declared.scripts.Script.{Script as PlainScript};
 ghost use Rattle.law_schedules.proofs.Calm.{IsGrown};
 ghost use Rattle.world_core.specs.Runs.{world_of};
 ghost use Rattle.world_model.specs.Worlds.{happens, is_up};
 ghost use Rattle.world_model.specs.Schedules.{Progress, all_delivered, all_milled, all_ticked, first_progress, has_event, is_free, is_next, may_mill, may_deliver, may_follow, noting, next_progress, is_phase_complete, phase_left, pending_in, delivery_made, targets_in};
+ghost use Rattle.live_parts.specs.Dues.{dues_of, tick_in};
 ghost use Rattle.live_run.specs.Courses.{IsOf, Stands};
 
 use crate::goals::Goals;
@@ -158,8 +159,26 @@ impl Course {
         due: &mut Vec<Due>,
     ) -> Result<(), NoMemory>
         requires { world.now.spent ≡ false }
+        ensures { OnOk result ((script : PlainScript) (p : Progress) → IsOf script timetable.now → p.world ≡ world_of world.now
+            → Stands self.now p → due.new.items ≡ due.old.items ++ dues_of script p actor) }
     {
         self.inboxes.add_due(world, actor, due)?;
+        self.add_tick(world, timetable, actor, due)?;
+        Ok(())
+    }
+
+    /// Appends an actor's tick, where it may come.
+    fn add_tick(
+        &self,
+        world: &World,
+        timetable: &Timetable,
+        actor: u32,
+        due: &mut Vec<Due>,
+    ) -> Result<(), NoMemory>
+        requires { world.now.spent ≡ false }
+        ensures { OnOk result ((script : PlainScript) (p : Progress) → IsOf script timetable.now → p.world ≡ world_of world.now
+            → Stands self.now p → due.new.items ≡ due.old.items ++ tick_in script p actor) }
+    {
         if self.moment.may_tick(world, actor) {
             let now = timetable.now(self.moment.phase)?;
             due.push(Due {

@@ -1,5 +1,7 @@
 //! What is to be done in the open phase: a list for who looks for work. `apply` decides what may come.
-ghost use Rattle.std.specs.Prelude.{◌≡◌, false, IfOk};
+ghost use Rattle.std.specs.Prelude.{◌≡◌, ◌++◌, false, length, IfOk, OnOk};
+ghost use Rattle.dpc_model.specs.Actors.{roles_of};
+ghost use Rattle.live_parts.specs.Dues.{dues_of};
 ghost use Rattle.live_parts.specs.Moments.{next_event};
 ghost use Rattle.world_model.specs.Schedules.{progress, is_free, phase_left};
 
@@ -43,7 +45,9 @@ impl LiveRun {
     }
 
     /// How many actors there are.
-    pub fn actor_count(&self) -> usize {
+    pub fn actor_count(&self) -> usize
+        ensures { self.now.spent ≡ false → result ≡ length (roles_of self.now.script.plan) }
+    {
         self.course.moment.ticked.len()
     }
 
@@ -51,8 +55,10 @@ impl LiveRun {
     /// order of number, and to tick.
     pub fn add_due(&self, actor: u32, due: &mut Vec<Due>) -> Result<(), NoMemory>
         requires { self.now.spent ≡ false }
+        ensures { OnOk result (due.new.items ≡ due.old.items ++ dues_of self.now.script (progress self.now.script self.now.events) actor) }
     {
         self.course
-            .add_due(&self.world, &self.timetable, actor, due)
+            .add_due(&self.world, &self.timetable, actor, due)?;
+        Ok(())
     }
 }

@@ -9,7 +9,7 @@ use Rattle.saved_slots.proofs.Ways.{none_yet, way_saved, way_cut, last_push}
 use Rattle.saved_slots.proofs.series.save_each.Goals as goal
 
 pub loop-payload-init : goal.loop-payload-init
-loop-payload-init g c = record { same = refl; number = omega arith; rests = λ rests. rests; way = λ rests. none_yet c.args.slots.now.room _ _ rests.synced; kept = λ rests. refl }
+loop-payload-init g c = record { same = refl; number = omega arith; faults = omega arith; reopens = λ h. h; rests = λ rests. rests; way = λ rests. none_yet c.args.slots.now.room _ _ rests.synced; kept = λ rests. refl }
 
 pub loop-payload-preserved : goal.loop-payload-preserved
 loop-payload-preserved g c =
@@ -36,6 +36,8 @@ loop-payload-preserved g c =
     record {
       same = same;
       number = omega (arith, c.in_ok-save.ensures.number.0, inv.number);
+      faults = omega (arith, inv.faults, c.save.ensures.faults);
+      reopens = λ h. absurd (cc (h, c.in_ok-save.ensures.number.1));
       rests = λ rests. c.in_ok-save.ensures.rests (inv.rests rests);
       way = λ rests. subst (λ (ps : List (List ℕ)). GivesWay room kept ps old new) (sym saved)
           (way_saved room kept (map bytes front) (bytes item) old mid new seen then_seen (inv.way rests) (before rests) (run rests) (c.in_ok-save.ensures.rests (inv.rests rests)).synced (reads rests));

@@ -1,6 +1,6 @@
-use Rattle.std.proofs.Common.{◌≡◌, ◌+◌, map, take}
+use Rattle.std.proofs.Common.{◌≡◌, ◌≤◌, ◌+◌, true, map, take}
 use Rattle.saved_slots.specs.Series.{last_kept, GivesWay}
-use Rattle.saved_slots.specs.Resting.{history_in, room_in, number_in, kept_in, IsResting}
+use Rattle.saved_slots.specs.Resting.{history_in, room_in, number_in, kept_in, faults_in, must_reopen, IsResting}
 use Rattle.saved_slots.proofs.series.save_each.Given as goal
 
 abbrev pub invariant-loop-payload : goal.invariant-loop-payload
@@ -10,6 +10,8 @@ invariant-loop-payload g l =
     record {
       same : room_in l.slots ≡ room_in old;
       number : number_in l.slots ≡ number_in old + l.payload-index;
+      faults : faults_in old ≤ faults_in l.slots;
+      reopens : must_reopen l.slots ≡ true → must_reopen old ≡ true;
       rests : IsResting old → IsResting l.slots;
       way : IsResting old → GivesWay (room_in old) (kept_in old) saved (history_in old) (history_in l.slots);
       kept : IsResting old → kept_in l.slots ≡ last_kept (kept_in old) saved;

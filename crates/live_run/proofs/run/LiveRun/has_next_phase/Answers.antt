@@ -1,4 +1,4 @@
-use Rattle.std.proofs.Common.{◌∙◌, sym, ap}
+use Rattle.std.proofs.Common.{◌∙◌, ap}
 use Rattle.dpc_model.specs.declared.scripts.Script.{Script}
 use Rattle.world_model.specs.Schedules.{progress, phase_left}
 use Rattle.law_schedules.proofs.Journals.{progress-run}

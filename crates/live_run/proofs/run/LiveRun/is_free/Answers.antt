@@ -1,7 +1,6 @@
-use Rattle.std.proofs.Common.{◌∙◌, sym, ap}
+use Rattle.std.proofs.Common.{◌∙◌, ap}
 use Rattle.dpc_model.specs.declared.scripts.Script.{Script}
 use Rattle.world_model.specs.Schedules.{progress, is_free}
-use Rattle.law_schedules.proofs.Journals.{progress-run}
 use Rattle.live_run.specs.Lives.{LiveRunOf, script_of}
 use Rattle.live_run.proofs.run.LiveRun.is_free.Goals as goal
 

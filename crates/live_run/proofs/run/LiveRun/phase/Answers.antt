@@ -1,7 +1,6 @@
 use Rattle.std.proofs.Common.{◌∙◌, sym, ap}
 use Rattle.dpc_model.specs.declared.scripts.Script.{Script}
 use Rattle.world_model.specs.Schedules.{progress}
-use Rattle.law_schedules.proofs.Journals.{progress-run}
 use Rattle.live_run.specs.Lives.{LiveRunOf, script_of}
 use Rattle.live_run.proofs.run.LiveRun.phase.Goals as goal
 
