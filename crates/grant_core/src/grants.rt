@@ -1,6 +1,6 @@
 //! One replica's asks and promises.
-ghost use Rattle.std.specs.Prelude.{◌≡◌, ◌+◌, ◌^◌, ◌<◌, ◌≤◌, is_some, is_none, length, replicate, Some, None, if◌then◌else◌};
-ghost use Rattle.dpc_model.specs.Granting.{new_grants, own_key, promised_other, grants, with_promise, may_enter_by, promise_after, after_peer_beat, after_absence, with_ask, with_ask_over};
+ghost use Rattle.std.specs.Prelude.{◌≡◌, ◌+◌, ◌^◌, ◌<◌, ◌≤◌, ℕ, is_none, length, option_map, replicate, Some, None, if◌then◌else◌};
+ghost use Rattle.dpc_model.specs.Granting.{Key, new_grants, own_key, promised_other, grants, with_promise, may_enter_by, promise_after, after_peer_beat, after_absence, with_ask, with_ask_over};
 
 use crate::keys::{Key, Promise, greater, is_at_most, is_over_by, later};
 use arrayvec::ArrayVec;
@@ -86,11 +86,14 @@ impl GrantCore {
         self.running
     }
 
-    /// Whether another replica has its promise.
-    pub fn promised(&self) -> bool
-        ensures { result ≡ is_some self.now.promise }
+    /// The place of the replica that has its promise.
+    pub fn promised_to(&self) -> Option<usize>
+        ensures { result ≡ option_map (λ (p : ℕ × Key). p.0) self.now.promise }
     {
-        self.promise.is_some()
+        match &self.promise {
+            Some(promise) => Some(promise.to),
+            None => None,
+        }
     }
 
     /// The ask to send to the other replicas: the own one that runs, and where none runs, one begins.

@@ -1,5 +1,6 @@
 //! A replica of a fragment: it delays, processes and corrects.
-ghost use Rattle.std.specs.Prelude.{◌≡◌, ◌↔◌, ℕ, true, false, Err, IsTrue, is_err, IfOk, OnOk};
+ghost use Rattle.std.specs.Prelude.{◌≡◌, ◌↔◌, ℕ, true, false, Err, IsTrue, is_err, option_map, IfOk, OnOk};
+ghost use Rattle.dpc_model.specs.Granting.{Key};
 ghost use Rattle.dpc_model.specs.declared.faults.StepFault.TheVariants as fault;
 ghost use Rattle.node_model.specs.Mails.{Packet as PlainPacket};
 ghost use Rattle.node_model.specs.Nodes.{Home, PlainNode, new_node, restarted_node, ready};
@@ -189,6 +190,13 @@ impl Node {
         ensures { result ≡ self.now.recovering }
     {
         self.recovering
+    }
+
+    /// The place, among the replicas of its fragment, of the one that has its promise.
+    pub fn promised_to(&self) -> Option<usize>
+        ensures { result ≡ option_map (λ (p : ℕ × Key). p.0) self.now.links.known.grants.promise }
+    {
+        self.links.promised_to()
     }
 
     /// The first bucket that is not processed stably.

@@ -1,6 +1,6 @@
 //! Asks, grants and ticks: what the replicas of one fragment tell one another.
-ghost use Rattle.std.specs.Prelude.{◌≡◌, ◌+◌, ◌^◌, ◌<◌, length, if◌then◌else◌};
-ghost use Rattle.dpc_model.specs.Granting.{grants, with_promise, may_enter_by, with_ask, with_ask_over};
+ghost use Rattle.std.specs.Prelude.{◌≡◌, ◌+◌, ◌^◌, ◌<◌, ℕ, length, option_map, if◌then◌else◌};
+ghost use Rattle.dpc_model.specs.Granting.{Key, grants, with_promise, may_enter_by, with_ask, with_ask_over};
 ghost use Rattle.upstream.specs.Upstreams.{with_tick};
 ghost use Rattle.node_links.specs.Linking.{with_upstreams, after_clock_tick, nobody_can_help, asking, after_asking};
 
@@ -90,6 +90,13 @@ impl Links {
         ensures { result ≡ self.now.known.grants.over }
     {
         self.grants.over()
+    }
+
+    /// The place of the replica that has its promise.
+    pub fn promised_to(&self) -> Option<usize>
+        ensures { result ≡ option_map (λ (p : ℕ × Key). p.0) self.now.known.grants.promise }
+    {
+        self.grants.promised_to()
     }
 
     /// How often a recovery began.

@@ -6,7 +6,7 @@ use grant_core::grants::GrantCore;
 fn the_greater_number_yields(rt: HostRuntime) {
     let mut one = GrantCore::new(1, 1, 2);
     assert!(rt; one.want() == Some((1, 1)) && one.running());
-    assert!(rt; one.on_ask(0, 1, 1, NodeState::UpFailure) && one.promised());
+    assert!(rt; one.on_ask(0, 1, 1, NodeState::UpFailure) && one.promised_to() == Some(0));
     assert!(rt; !one.on_grant(1, 1) && one.want().is_none());
     one.on_beat(0, 1, 1);
     assert!(rt; one.on_grant(1, 1));
@@ -28,8 +28,8 @@ fn a_promise_to_an_absent_replica_ends(rt: HostRuntime) {
     let mut zero = GrantCore::new(0, 1, 2);
     assert!(rt; zero.on_ask(1, 1, 1, NodeState::Stable));
     zero.on_tick(&[true, false]);
-    assert!(rt; zero.promised());
+    assert!(rt; zero.promised_to() == Some(1));
     zero.on_tick(&[false, true]);
-    assert!(rt; !zero.promised());
+    assert!(rt; zero.promised_to().is_none());
     assert!(rt; !zero.on_ask(1, 1, 1, NodeState::Stabilization));
 }
