@@ -6,7 +6,7 @@ use Rattle.borealis_top.specs.declared.command.Form.TheVariants.{Text, Short, Js
 use Rattle.borealis_top.specs.declared.command.Reading.{Reading}
 use Rattle.borealis_top.specs.declared.command.Reading.TheVariants.{Run, Check, Print, Ideal}
 use Rattle.borealis_top.specs.declared.command.Command.{Command}
-use Rattle.borealis_top.specs.declared.command.Command.TheVariants.{Read, Journal, Saves, Picture, Gen, Help, Reasons, Version}
+use Rattle.borealis_top.specs.declared.command.Command.TheVariants.{Read, Journal, Saves, Picture, PictureReplay, Gen, Help, Reasons, Version}
 use Rattle.borealis_top.specs.declared.command.LiveCommand.{LiveCommand}
 use Rattle.input_parts.specs.declared.notation.Notation.{Notation}
 use Rattle.input_parts.specs.declared.notation.Notation.TheVariants as notation
@@ -67,14 +67,22 @@ form_word w =
 abbrev pub picture_word : List ℕ → Option PictureForm
 picture_word w = if bytes_eq w (codes "text") then Some drawn.Text else None
 
+-- what is drawn of an input by a word behind `picture`: a journal's run as SVG, or a script's in another form
+abbrev pub drawn_word : List ℕ → Option Command
+drawn_word w = if bytes_eq w (codes "replay") then Some (PictureReplay drawn.Svg) else option_map Picture (picture_word w)
+
 -- the command that two words are
 abbrev pub two_words : List ℕ → List ℕ → Option Command
 two_words w v =
     if bytes_eq w (codes "gen") then option_map Gen (seed_of v)
     else (if bytes_eq w (codes "run") then option_map (λ form. Read (Run form)) (form_word v)
-    else (if bytes_eq w (codes "picture") then option_map Picture (picture_word v)
+    else (if bytes_eq w (codes "picture") then drawn_word v
     else (if bytes_eq v (codes "frames") then option_map Journal (told_word notation.Frames w)
     else None)))
+
+-- the command that three words are: a journal's run, drawn in another form
+abbrev pub three_words : List ℕ → List ℕ → List ℕ → Option Command
+three_words w v u = if bytes_eq w (codes "picture") && bytes_eq v (codes "replay") then option_map PictureReplay (picture_word u) else None
 
 -- how many threads of a kind run a script: 1 to 16
 abbrev pub threads_of : List ℕ → Option ℕ
@@ -123,4 +131,5 @@ abbrev pub command_of : List (List ℕ) → Option Command
 command_of [] = None
 command_of (w ∷ []) = command_word w
 command_of (w ∷ v ∷ []) = two_words w v
-command_of (w ∷ v ∷ u ∷ words) = None
+command_of (w ∷ v ∷ u ∷ []) = three_words w v u
+command_of (w ∷ v ∷ u ∷ t ∷ words) = None

@@ -3,7 +3,7 @@ use Rattle.std.specs.Prelude.{◌≡◌, ℕ, ◌⊎◌, List, Option, None, Som
 use Rattle.dpc_edge.specs.Edges.{Edge}
 use Rattle.script_rules.specs.ReasonTable.{reasons_text}
 use Rattle.borealis_top.specs.declared.command.Command.{Command}
-use Rattle.borealis_top.specs.declared.command.Command.TheVariants.{Read, Journal, Saves, Picture, Gen, Help, Reasons, Version}
+use Rattle.borealis_top.specs.declared.command.Command.TheVariants.{Read, Journal, Saves, Picture, PictureReplay, Gen, Help, Reasons, Version}
 use Rattle.borealis_top.specs.declared.command.LiveCommand.{LiveCommand}
 use Rattle.borealis_top.specs.declared.status.Status.{Status}
 use Rattle.borealis_top.specs.declared.status.Status.TheVariants.{Done, Words, NoMemory}
@@ -12,7 +12,7 @@ use Rattle.borealis_top.specs.Commands.{command_of, live_of, pair_of}
 use Rattle.borealis_top.specs.Texts.{help_text, version_text, unknown_words_line}
 use Rattle.borealis_top.specs.Ends.{IsTold, ReadEnds, ReadIsWhole, GenEnds}
 use Rattle.borealis_top.specs.InputEnds.{EndsBy, IsWholeFor}
-use Rattle.borealis_top.specs.Questions.{journal_question, pair_question, saves_question, picture_question}
+use Rattle.borealis_top.specs.Questions.{journal_question, pair_question, saves_question, picture_question, replay_picture_question}
 use Rattle.borealis_top.specs.LiveEnds.{LiveEnds, LiveIsWhole}
 
 -- how a command ends, or words that are none
@@ -33,6 +33,9 @@ CommandEnds (Some Saves) input input_new out out_new err err_new result =
     EndsBy saves_question input input_new out out_new err err_new result × IsWholeFor saves_question input input_new out out_new err err_new result
 CommandEnds (Some (Picture form)) input input_new out out_new err err_new result =
     EndsBy (picture_question form) input input_new out out_new err err_new result × IsWholeFor (picture_question form) input input_new out out_new err err_new result
+CommandEnds (Some (PictureReplay form)) input input_new out out_new err err_new result =
+    EndsBy (replay_picture_question form) input input_new out out_new err err_new result
+    × IsWholeFor (replay_picture_question form) input input_new out out_new err err_new result
 CommandEnds (Some (Gen seed)) input input_new out out_new err err_new result =
     GenEnds seed out out_new result × (err_new ≡ err) × (input_new ≡ input)
 

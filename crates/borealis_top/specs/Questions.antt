@@ -4,7 +4,9 @@ use Rattle.dpc_model.specs.Limits.{most_input}
 use Rattle.dpc_model.specs.declared.scripts.Script.{Script}
 use Rattle.script_rules.specs.Reading.{read}
 use Rattle.world_model.specs.Schedules.{lockstep_journal}
+use Rattle.input_parts.specs.declared.notation.Notation.TheVariants.{Lines}
 use Rattle.journal_commands.specs.declared.outcome.JournalCommand.{JournalCommand}
+use Rattle.journal_commands.specs.declared.outcome.JournalCommand.TheVariants.{Replay}
 use Rattle.journal_commands.specs.Endings.{most_journal_input, ending_of}
 use Rattle.journal_commands.specs.Promises.{Holds}
 use Rattle.law_pairs.specs.Pairs.{AreReaders, IsOneStream}
@@ -13,6 +15,7 @@ use Rattle.pair_commands.specs.Pairs.{pair_ending}
 use Rattle.saves_commands.specs.Endings.{EndsSaves}
 use Rattle.picture_commands.specs.declared.form.PictureForm.{PictureForm}
 use Rattle.picture_commands.specs.Endings.{picture_ending}
+use Rattle.picture_commands.specs.Replays.{replay_picture_ending}
 use Rattle.borealis_top.specs.Ends.{IsGoodRun}
 use Rattle.borealis_top.specs.InputEnds.{Question}
 
@@ -41,3 +44,7 @@ saves_question = record { most = most_input; comes = EndsSaves; holds = λ input
 -- of a script whose run is drawn
 abbrev pub picture_question : PictureForm → Question
 picture_question form = record { most = most_input; comes = λ input ending. picture_ending form input ≡ ending; holds = λ input. (s : Script) → read input ≡ Some s → IsGoodRun s }
+
+-- of a script and the journal behind it whose run is drawn
+abbrev pub replay_picture_question : PictureForm → Question
+replay_picture_question form = record { most = most_journal_input; comes = λ input ending. replay_picture_ending form input ≡ ending; holds = Holds (Replay Lines) }

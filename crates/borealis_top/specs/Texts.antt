@@ -29,6 +29,8 @@ help_text =
     ∷ codes "borealis saves < SCRIPT           runs a script where each node saves its state at the end of each phase, and tells what each has saved"
     ∷ codes "borealis picture < SCRIPT         runs a script, and draws what happened, as SVG for a browser"
     ∷ codes "borealis picture text < SCRIPT    the same as text in at most 100 columns"
+    ∷ codes "borealis picture replay < BOTH    runs the journal behind a script, and draws what happened, as SVG for a browser"
+    ∷ codes "borealis picture replay text < BOTH  the same as text in at most 100 columns"
     ∷ codes "borealis gen N                    writes the generated script of a number, 1 to 1000"
     ∷ codes "borealis reasons                  writes the reasons to refuse a line, each with its number"
     ∷ codes "borealis --help                   writes these lines"

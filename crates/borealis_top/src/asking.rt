@@ -102,6 +102,28 @@ impl Inquiry for PictureForm {
     }
 }
 
+/// The picture of the run of the journal behind a script, in a form.
+#[derive(Clone, Copy)]
+pub struct ReplayPicture {
+    pub form: PictureForm,
+}
+
+impl Inquiry for ReplayPicture {
+    ghost use Rattle.borealis_top.specs.Questions.{replay_picture_question};
+
+    ghost question = { λ asked. replay_picture_question asked.form };
+
+    fn is_sound(&self) {}
+
+    fn most_input(&self) -> usize {
+        MOST_JOURNAL_INPUT
+    }
+
+    fn answer(&self, alloc: Global, input: Vec<u8>) -> Result<Outcome, NoMemory> {
+        picture_commands::answer_replay(alloc, self.form, input)
+    }
+}
+
 /// Reads a whole input, and tells what it comes to.
 fn outcome_of<S: Source, A: Inquiry>(
     alloc: Global,

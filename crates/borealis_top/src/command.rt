@@ -1,6 +1,6 @@
 //! What the words of the command line ask for.
 ghost use Rattle.std.specs.Prelude.{◌≡◌, None, Some, map, string_bytes, bytes_eq, MatchOption};
-ghost use Rattle.borealis_top.specs.Commands.{reading_word, told_word, journal_word, input_word, form_word, picture_word, seed_of, command_word, two_words, command_of, threads_of, readers_of, live_by, pool_by, watch_by, live_of, pair_of};
+ghost use Rattle.borealis_top.specs.Commands.{reading_word, told_word, journal_word, input_word, form_word, picture_word, drawn_word, seed_of, command_word, two_words, three_words, command_of, threads_of, readers_of, live_by, pool_by, watch_by, live_of, pair_of};
 
 use input_parts::notation::Notation;
 use journal_commands::outcome::JournalCommand;
@@ -63,6 +63,8 @@ pub enum Command {
     Saves,
     /// Reads a script, and draws its run.
     Picture(PictureForm),
+    /// Reads a script and the journal behind it, and draws that journal's run.
+    PictureReplay(PictureForm),
     /// Writes the generated script of a number.
     Gen(u64),
     /// Writes which words there are.
@@ -185,6 +187,17 @@ fn picture_form_in(word: &String) -> Option<PictureForm>
     }
 }
 
+/// What is drawn of an input by a word behind `picture`.
+fn drawing_in(word: &String) -> Option<Command>
+    ensures { result ≡ drawn_word (string_bytes word.now) }
+{
+    if is_word(word, b"replay") {
+        Some(Command::PictureReplay(PictureForm::Svg))
+    } else {
+        Some(Command::Picture(picture_form_in(word)?))
+    }
+}
+
 /// The command that two words are.
 fn command_of_two(first: &String, second: &String) -> Option<Command>
     ensures { result ≡ two_words (string_bytes first.now) (string_bytes second.now) }
@@ -194,9 +207,20 @@ fn command_of_two(first: &String, second: &String) -> Option<Command>
     } else if is_word(first, b"run") {
         Some(Command::Read(Reading::Run(form_in(second)?)))
     } else if is_word(first, b"picture") {
-        Some(Command::Picture(picture_form_in(second)?))
+        drawing_in(second)
     } else if is_word(second, b"frames") {
         Some(Command::Journal(told_command_in(first, Notation::Frames)?))
+    } else {
+        None
+    }
+}
+
+/// The command that three words are, which is a journal's run drawn in another form.
+fn command_of_three(first: &String, second: &String, third: &String) -> Option<Command>
+    ensures { result ≡ three_words (string_bytes first.now) (string_bytes second.now) (string_bytes third.now) }
+{
+    if is_word(first, b"picture") && is_word(second, b"replay") {
+        Some(Command::PictureReplay(picture_form_in(third)?))
     } else {
         None
     }
@@ -325,6 +349,7 @@ pub fn command_in(words: &[String]) -> Option<Command>
     match words {
         [word] => lone_command(word),
         [first, second] => command_of_two(first, second),
+        [first, second, third] => command_of_three(first, second, third),
         _ => None,
     }
 }

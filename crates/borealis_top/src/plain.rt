@@ -11,13 +11,13 @@ ghost use Rattle.picture_commands.specs.declared.form.PictureForm as drawn;
 ghost use Rattle.status_lines.specs.Lines as lines;
 ghost use Rattle.borealis_top.specs.Commands.{command_of, pair_of};
 ghost use Rattle.borealis_top.specs.InputEnds.{EndsBy, IsWholeFor};
-ghost use Rattle.borealis_top.specs.Questions.{journal_question, pair_question, saves_question, picture_question};
+ghost use Rattle.borealis_top.specs.Questions.{journal_question, pair_question, saves_question, picture_question, replay_picture_question};
 ghost use Rattle.borealis_top.specs.Texts.{help_text, version_text, unknown_words_line};
 ghost use Rattle.borealis_top.specs.Ends.{IsTold, IsToldBoth, IsToldOpen, IsToldAlong, ReadEnds, ReadIsWhole, GenEnds};
 ghost use Rattle.borealis_top.specs.declared.command.Reading as reading;
 
 use crate::answer::{Answer, answer_script};
-use crate::asking::{NodeSaves, ask};
+use crate::asking::{NodeSaves, ReplayPicture, ask};
 use crate::command::{Command, Reading, command_in, pair_in};
 use crate::status::Status;
 use crate::transfer::{InputFault, MOST_INPUT, read_whole};
@@ -58,6 +58,8 @@ borealis pair X Y < SCRIPT        runs a script, and writes one stream made of w
 borealis saves < SCRIPT           runs a script where each node saves its state at the end of each phase, and tells what each has saved
 borealis picture < SCRIPT         runs a script, and draws what happened, as SVG for a browser
 borealis picture text < SCRIPT    the same as text in at most 100 columns
+borealis picture replay < BOTH    runs the journal behind a script, and draws what happened, as SVG for a browser
+borealis picture replay text < BOTH  the same as text in at most 100 columns
 borealis gen N                    writes the generated script of a number, 1 to 1000
 borealis reasons                  writes the reasons to refuse a line, each with its number
 borealis --help                   writes these lines
@@ -142,6 +144,12 @@ pub fn plain<S: Source, O: Sink, E: Sink>(
     ensures pictured { (form : drawn.PictureForm) → command_of (map string_bytes words.now) ≡ Some (Command.Picture form)
         → IsWholeFor (picture_question form) (S.edge input.old) (S.edge input.new) (O.edge out.old) (O.edge out.new) (E.edge err.old)
         (E.edge err.new) result }
+    ensures replay_picture { (form : drawn.PictureForm) → command_of (map string_bytes words.now) ≡ Some (Command.PictureReplay form)
+        → EndsBy (replay_picture_question form) (S.edge input.old) (S.edge input.new) (O.edge out.old) (O.edge out.new) (E.edge err.old)
+        (E.edge err.new) result }
+    ensures replay_pictured { (form : drawn.PictureForm) → command_of (map string_bytes words.now) ≡ Some (Command.PictureReplay form)
+        → IsWholeFor (replay_picture_question form) (S.edge input.old) (S.edge input.new) (O.edge out.old) (O.edge out.new) (E.edge err.old)
+        (E.edge err.new) result }
     ensures pair { (first second : List ℕ) → pair_of (map string_bytes words.now) ≡ Some (first, second)
         → EndsBy (pair_question first second) (S.edge input.old) (S.edge input.new) (O.edge out.old) (O.edge out.new)
         (E.edge err.old) (E.edge err.new) result }
@@ -162,6 +170,9 @@ pub fn plain<S: Source, O: Sink, E: Sink>(
         Some(Command::Journal(what)) => ask(alloc, &what, input, out, err),
         Some(Command::Saves) => ask(alloc, &NodeSaves, input, out, err),
         Some(Command::Picture(form)) => ask(alloc, &form, input, out, err),
+        Some(Command::PictureReplay(form)) => {
+            ask(alloc, &ReplayPicture { form }, input, out, err)
+        }
     }
 }
 

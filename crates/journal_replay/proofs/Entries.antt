@@ -11,7 +11,8 @@ use Rattle.world_model.specs.Replays.{Whole, replay_end}
 use Rattle.law_schedules.proofs.Journals.{none-live, one-more}
 use Rattle.law_journals.proofs.Replayed.{whole-where, unfinished-where, refused-where, passes-where, stays-within}
 use Rattle.world_core.specs.Runs.{RunOf}
-use Rattle.live_run.specs.Lives.{LiveRunOf, with_event}
+use Rattle.live_run.specs.Lives.{LiveRunOf, world_in, with_event}
+use Rattle.run_watchers.specs.Watching.{gone_on}
 use Rattle.journal_replay.specs.declared.faults.ReplayFault.{ReplayFault}
 use Rattle.journal_replay.specs.declared.faults.ReplayFault.TheVariants.{NoMemory, TooLong, Refused, Unfinished}
 use Rattle.journal_replay.specs.Stopping.{Happened, StopsAt, StopsSo}
@@ -56,6 +57,12 @@ pub unfinished : (script : Script) (events : List Event) (run : LiveRunOf) → H
     StopsSo script events Unfinished
 unfinished script events run r h =
     (unfinished-where script events).1 (record { so_far = r.so_far; within = r.within; unfinished = subst (λ (l : LiveRunOf). is_live l.script l.events ≡ false) r.state h })
+
+-- an event that happened leads the world on
+pub led-on : (old new : LiveRunOf) (w : RunOf) (e : Event) → old.spent ≡ false → new ≡ with_event old e → w.plan ≡ new.script.plan → w.events ≡ new.events → w.spent ≡ false →
+    w ≡ gone_on (world_in old) e
+led-on old new w e live is plan events spent =
+    rw (← (plan ∙ ap (λ (l : LiveRunOf). l.script.plan) is), ← (events ∙ ap (λ (l : LiveRunOf). l.events) is), ← (spent ∙ sym live)) refl
 
 -- ---- at the code's entries
 

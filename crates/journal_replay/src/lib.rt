@@ -4,4 +4,4 @@
 pub mod faults;
 mod replaying;
 
-pub use replaying::replay;
+pub use replaying::{replay, replay_watched};

@@ -45,7 +45,7 @@ fn run_answer(alloc: Global, form: PictureForm, script: Script) -> Result<Outcom
     ensures { IfOk result (IsEnding (run_ending form script (excess script.plan (lockstep_journal script)))) }
 {
     let settle = script.settle;
-    let mut picturing = Picturing::new(alloc, &script.plan)?;
+    let mut picturing = Picturing::new(alloc, &script)?;
     let world = match run_watched(alloc, script, &mut picturing) {
         Ok(world) => world,
         Err(fault) => return stopped(alloc, fault),
@@ -59,7 +59,7 @@ fn run_answer(alloc: Global, form: PictureForm, script: Script) -> Result<Outcom
 }
 
 /// The line on a run that would pass a limit, with what it would reach.
-fn past_limits(alloc: Global, envelopes: u64, items: u64) -> Result<Outcome, NoMemory>
+pub(crate) fn past_limits(alloc: Global, envelopes: u64, items: u64) -> Result<Outcome, NoMemory>
     ensures { IfOk result (IsEnding (PastLimits (record { envelopes = envelopes; items = items }))) }
 {
     Ok(Outcome::TooLong(too_long_line(alloc, envelopes, items)?))
@@ -76,7 +76,7 @@ fn stopped(alloc: Global, fault: RunFault) -> Result<Outcome, NoMemory>
 }
 
 /// The picture of a run that was watched.
-fn run_text(
+pub(crate) fn run_text(
     alloc: Global,
     form: PictureForm,
     world: &World,
@@ -84,7 +84,7 @@ fn run_text(
 ) -> Result<Vec<u8>, NoMemory>
     requires fresh { world.now.spent ≡ false }
     requires seen { HasDrawn world.now picturing }
-    ensures { IfOk result (λ text. text.items ≡ drawn_run form world.now.plan world.now.events) }
+    ensures { IfOk result (λ text. text.items ≡ drawn_run form picturing.losses.items world.now.plan world.now.events) }
 {
     let columns = picturing.finish(alloc, world)?;
     drawn_text(alloc, form, world.plan(), columns.as_slice())

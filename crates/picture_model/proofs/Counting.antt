@@ -1,16 +1,18 @@
 -- A column for each phase that was opened.
 use Rattle.std.proofs.Common.{◌≡◌, ℕ, ◌+◌, true, false, not, cond, ◌==◌, List, [], ◌∷◌, ◌++◌, length, refl, ap, ◌∙◌, arith}
 use Rattle.std.specs.List.{count_by, list_all}
-use Rattle.std.proofs.lemmas.List.{length-append}
+use Rattle.std.proofs.lemmas.List.{length-append, length-map}
 use Rattle.std.proofs.lemmas.List.Sums.{sum_by-cons}
 use Rattle.dpc_lists.proofs.Truths.{both}
 use Rattle.dpc_model.specs.declared.messages.Event.{Event}
 use Rattle.dpc_model.specs.declared.messages.Event.TheVariants.{Phase, Emit, Release, Cut, Heal, Crash, Restart, Deliver, Tick, Mill}
 use Rattle.dpc_model.specs.declared.plans.Plan.{Plan}
+use Rattle.dpc_model.specs.declared.scripts.Script.{Script}
 use Rattle.world_model.specs.Events.{is_phase}
 use Rattle.world_model.specs.Worlds.{World, happens, new_world, run}
 use Rattle.picture_model.specs.declared.columns.Column.{Column}
-use Rattle.picture_model.specs.Drawing.{Drawing, blank, drawn, column_of, columns_at, opened, drawing_from, drawing, picture_of}
+use Rattle.picture_model.specs.Drawing.{Drawing, blank, drawn, column_of, columns_at, opened, drawing_from, drawing, picture_of, with_losses, whole_picture}
+use Rattle.picture_model.specs.Marking.{losses_of}
 use Rattle.picture_model.specs.Counting.{is_numbered}
 
 -- how many columns there are, with that of the phase that runs
@@ -57,3 +59,7 @@ unfolding picture_of drawing
 each-phase plan events h =
     let all = more plan (new_world plan) (blank plan) events h in
     counted plan (run plan events) (drawing plan events) ∙ all ∙ omega arith
+
+pub losses-add-none : (script : Script) (events : List Event) → length (whole_picture script events) ≡ length (picture_of script.plan events)
+unfolding whole_picture
+losses-add-none script events = length-map (picture_of script.plan events) (with_losses (losses_of script))

@@ -1,3 +1,4 @@
 pub mod Points
+pub mod Marking
 pub mod Drawing
 pub mod Counting

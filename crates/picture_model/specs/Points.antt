@@ -1,6 +1,7 @@
 -- What a picture shows of a source, a replica and a client.
-use Rattle.std.specs.Prelude.{ℕ, Bool, true, false, if◌then◌else◌, length, max, Option, Some, None}
+use Rattle.std.specs.Prelude.{ℕ, Bool, true, false, if◌then◌else◌, length, max, Option, Some, None, option_map}
 use Rattle.std.specs.List.{count_by}
+use Rattle.dpc_model.specs.Granting.{Key}
 use Rattle.dpc_model.specs.declared.messages.NodeState.{NodeState}
 use Rattle.dpc_model.specs.declared.messages.NodeState.TheVariants as state
 use Rattle.dpc_model.specs.declared.plans.Plan.{Plan}
@@ -27,6 +28,11 @@ up_state recovering s = if recovering then shown.Recovering else shown_state s
 abbrev pub replica_state : Option PlainNode → ReplicaState
 replica_state None = shown.Down
 replica_state (Some n) = up_state n.recovering n.state
+
+-- the place, among the replicas of its fragment, of the one to which a node has its promise
+abbrev pub promise_of : Option PlainNode → Option ℕ
+promise_of None = None
+promise_of (Some n) = option_map (λ (p : ℕ × Key). p.0) n.grants.promise
 
 -- ---- sources
 

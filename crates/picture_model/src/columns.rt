@@ -1,6 +1,5 @@
 //! The columns of a picture: one for each phase of a run, as things stand at its end.
 use dpc_lists::lists::Listed;
-use dpc_model::messages::Event;
 
 /// What a replica is. One that recovers has lost its state, and answers nobody before it has another one.
 #[derive(Clone, Copy, PartialEq, Eq)]
@@ -32,8 +31,21 @@ pub struct ClientPoint {
     pub settled: bool,
 }
 
+/// What happened, with actors by number: to the link of two of them; to what the first one sent the second; to a node,
+/// a restart with its incarnation; or the first one, a replica, let the second one of its fragment reconcile.
+#[derive(Clone, Copy)]
+pub enum Mark {
+    Cut(u64, u64),
+    Heal(u64, u64),
+    Lose(u64, u64),
+    Repeat(u64, u64),
+    Crash(u64),
+    Restart(u64, u64),
+    Grant(u64, u64),
+}
+
 /// A phase: its number from 1, its clock, all sources, replicas and clients in order, how many links are
-/// cut at its end, and what happened to links and nodes in it.
+/// cut at its end, and what happened in it.
 #[derive(Drop)]
 pub struct Column {
     pub number: u64,
@@ -42,5 +54,5 @@ pub struct Column {
     pub replicas: Listed<ReplicaState>,
     pub clients: Listed<ClientPoint>,
     pub cuts: u64,
-    pub marks: Listed<Event>,
+    pub marks: Listed<Mark>,
 }

@@ -60,7 +60,7 @@ head_text width height title told =
     ++ style_text
     ++ text_at 10 20 title
 
--- what each client has at the end, and what happened to links and nodes, the first hundred lines
+-- what each client has at the end, and what happened, the first hundred lines
 abbrev pub told_of : Plan → List Column → List ℕ
 told_of plan columns = text_of (summary_lines plan (last_column columns).clients) ++ text_of (take 100 (flat_map (mark_lines plan) columns))
 
@@ -82,7 +82,7 @@ tick_text columns j =
 abbrev pub axis_text : List Column → List ℕ
 axis_text columns = text_at 10 44 (codes "phase") ++ text_at 10 62 (codes "clock") ++ text_at 10 84 (codes "events") ++ flat_map (tick_text columns) (places columns)
 
--- ---- what happened to links and nodes: a letter for each kind, and a line through all lanes, which tells the first eight in a place
+-- ---- what happened: a letter for each kind, and a line through all lanes, which tells the first eight in a place
 
 -- the phases of which the one in the j-th place is the last
 abbrev pub group_at : List Column → ℕ → List Column
@@ -135,7 +135,7 @@ all_lanes plan labels columns =
 
 unfoldable pub legend_text : ℕ → List ℕ
 legend_text y =
-    text_at 10 (y + 24) (codes "events: c cut, h heal, x crash, r restart; the line below tells which")
+    text_at 10 (y + 24) (codes "events: c cut, h heal, l lose, 2 repeat, x crash, r restart, g grant; the line below tells which")
     ++ text_at 10 (y + 42) (codes "sources: area, how far all is released; line, how far it is sent; the height is the whole time")
     ++ text_at 10 (y + 60) (codes "cut links: how many, # ten or more")
     ++ text_at 10 (y + 78) (codes "replicas: S STABLE, U UP_FAILURE, C STABILIZATION, R recovering, x down")

@@ -1,4 +1,4 @@
-//! The numbers and clocks of phases, and what happened to links and nodes.
+//! The numbers and clocks of phases, and what happened in them.
 ghost use Rattle.std.specs.Prelude.{◌≡◌, ◌≤◌, ◌<◌, ◌+◌, ◌*◌, ◌^◌, ◌++◌, length, decimal, OnOk};
 ghost use Rattle.picture_svg.specs.Layout.{count_of};
 ghost use Rattle.picture_svg.specs.Shapes.{text_at};

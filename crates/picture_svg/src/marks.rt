@@ -1,15 +1,14 @@
-//! What happened to links and nodes.
+//! What happened in phases.
 ghost use Rattle.std.specs.Prelude.{◌≡◌, ◌-◌, ◌++◌, length, take, flat_map, IfOk, OnOk};
 ghost use Rattle.dpc_lists.specs.Lists.{list_any};
 ghost use Rattle.dpc_model.specs.Words.{text_of};
-ghost use Rattle.picture_svg.specs.Marks.{event_letter, has_letter, kind_in, kinds_in};
+ghost use Rattle.picture_svg.specs.Marks.{mark_letter, has_letter, kind_in, kinds_in};
 ghost use Rattle.picture_svg.specs.Svg.{told_of};
 ghost use Rattle.picture_text.specs.Text.{mark_lines};
 
 use dpc_lists::faults::NoMemory;
-use dpc_model::messages::Event;
 use dpc_model::plans::Plan;
-use picture_model::columns::Column;
+use picture_model::columns::{Column, Mark};
 use picture_text::text::{last_clients, put_mark, put_summaries};
 use std::alloc::Global;
 
@@ -60,15 +59,17 @@ pub(crate) fn told_of(alloc: Global, plan: &Plan, columns: &[Column]) -> Result<
 }
 
 /// The letter of what happened.
-fn event_letter(event: Event) -> u8
-    ensures { result ≡ event_letter event }
+fn mark_letter(mark: Mark) -> u8
+    ensures { result ≡ mark_letter mark }
 {
-    match event {
-        Event::Cut(..) => b'c',
-        Event::Heal(..) => b'h',
-        Event::Crash(_) => b'x',
-        Event::Restart(..) => b'r',
-        _ => b'.',
+    match mark {
+        Mark::Cut(..) => b'c',
+        Mark::Heal(..) => b'h',
+        Mark::Lose(..) => b'l',
+        Mark::Repeat(..) => b'2',
+        Mark::Crash(_) => b'x',
+        Mark::Restart(..) => b'r',
+        Mark::Grant(..) => b'g',
     }
 }
 
@@ -80,7 +81,7 @@ fn has_letter(column: &Column, letter: u8) -> bool
         .marks
         .as_slice()
         .iter()
-        .any(|event| event_letter(*event) == letter)
+        .any(|mark| mark_letter(*mark) == letter)
 }
 
 /// Whether it happened in one of these.
@@ -107,7 +108,10 @@ pub(crate) fn kinds_in(alloc: Global, columns: &[Column]) -> Result<Vec<u8>, NoM
     let mut kinds = Vec::new(alloc);
     put_kind(&mut kinds, columns, b'c')?;
     put_kind(&mut kinds, columns, b'h')?;
+    put_kind(&mut kinds, columns, b'l')?;
+    put_kind(&mut kinds, columns, b'2')?;
     put_kind(&mut kinds, columns, b'x')?;
     put_kind(&mut kinds, columns, b'r')?;
+    put_kind(&mut kinds, columns, b'g')?;
     Ok(kinds)
 }

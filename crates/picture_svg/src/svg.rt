@@ -215,7 +215,7 @@ fn put_legend(text: &mut Vec<u8>, y: u128) -> Result<(), NoMemory>
         text,
         10,
         y + 24,
-        b"events: c cut, h heal, x crash, r restart; the line below tells which",
+        b"events: c cut, h heal, l lose, 2 repeat, x crash, r restart, g grant; the line below tells which",
     )?;
     put_text(
         text,

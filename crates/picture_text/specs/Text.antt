@@ -3,8 +3,6 @@ use Rattle.std.specs.Prelude.{ℕ, ◌+◌, ◌-◌, ◌*◌, ◌/◌, Bool, fal
 use Rattle.dpc_lists.specs.Lists.{nth, range_with_len, list_all}
 use Rattle.dpc_model.specs.Words.{Word, line_of, text_of}
 use Rattle.dpc_model.specs.ScriptText.{actor_name, client_name}
-use Rattle.dpc_model.specs.declared.messages.Event.{Event}
-use Rattle.dpc_model.specs.declared.messages.Event.TheVariants.{Phase, Emit, Release, Cut, Heal, Crash, Restart, Deliver, Tick, Mill}
 use Rattle.dpc_model.specs.declared.plans.SourceSpec.{SourceSpec}
 use Rattle.dpc_model.specs.declared.plans.FragSpec.{FragSpec}
 use Rattle.dpc_model.specs.declared.plans.ClientSpec.{ClientSpec}
@@ -13,6 +11,8 @@ use Rattle.report.specs.Text.{settled_word, summary_words}
 use Rattle.report.specs.declared.text.Summary.{Summary}
 use Rattle.picture_model.specs.declared.columns.Column.{Column}
 use Rattle.picture_model.specs.declared.columns.ClientPoint.{ClientPoint}
+use Rattle.picture_model.specs.declared.columns.Mark.{Mark}
+use Rattle.picture_model.specs.declared.columns.Mark.TheVariants.{Cut, Heal, Lose, Repeat, Crash, Restart, Grant}
 use Rattle.picture_text.specs.Strips.{Strip, no_column, first_client, strips_of}
 
 -- ---- the first line: how many phases there are, and whether every client is settled at the end
@@ -69,23 +69,23 @@ strips_in strips panel = take 80 (drop (80 * panel) strips)
 abbrev pub panels_text : List Word → List Strip → List ℕ
 panels_text labels strips = flat_map (λ k. panel_text labels (strips_in strips k)) (range_with_len 0 ((length strips + 79) / 80))
 
--- ---- what happened to links and nodes
+-- ---- what happened
 
--- its words, as in a journal; other events are no marks
-abbrev pub event_words : Plan → Event → List Word
-event_words plan (Phase p) = []
-event_words plan (Emit s t) = []
-event_words plan (Release s t) = []
-event_words plan (Cut a b) = codes "cut" ∷ actor_name plan a ∷ actor_name plan b ∷ []
-event_words plan (Heal a b) = codes "heal" ∷ actor_name plan a ∷ actor_name plan b ∷ []
-event_words plan (Crash a) = codes "crash" ∷ actor_name plan a ∷ []
-event_words plan (Restart a i) = codes "restart" ∷ actor_name plan a ∷ decimal i ∷ []
-event_words plan (Deliver k) = []
-event_words plan (Tick a now) = []
-event_words plan (Mill a r) = []
+abbrev pub pair_words : Plan → Word → ℕ → ℕ → List Word
+pair_words plan word a b = word ∷ actor_name plan a ∷ actor_name plan b ∷ []
 
-abbrev pub mark_words : Plan → Column → Event → List Word
-mark_words plan c e = codes "phase" ∷ decimal c.number ∷ codes "clock" ∷ decimal c.clock ∷ event_words plan e
+-- its words: as in a journal, or else in a script, where one of them has it
+abbrev pub told_words : Plan → Mark → List Word
+told_words plan (Cut a b) = pair_words plan (codes "cut") a b
+told_words plan (Heal a b) = pair_words plan (codes "heal") a b
+told_words plan (Lose a b) = pair_words plan (codes "lose") a b
+told_words plan (Repeat a b) = pair_words plan (codes "repeat") a b
+told_words plan (Crash a) = codes "crash" ∷ actor_name plan a ∷ []
+told_words plan (Restart a i) = codes "restart" ∷ actor_name plan a ∷ decimal i ∷ []
+told_words plan (Grant a b) = pair_words plan (codes "grant") a b
+
+abbrev pub mark_words : Plan → Column → Mark → List Word
+mark_words plan c m = codes "phase" ∷ decimal c.number ∷ codes "clock" ∷ decimal c.clock ∷ told_words plan m
 
 abbrev pub mark_lines : Plan → Column → List (List Word)
 mark_lines plan c = map (mark_words plan c) c.marks

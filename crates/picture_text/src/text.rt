@@ -5,17 +5,16 @@ ghost use Rattle.dpc_model.specs.ScriptText.{actor_name, client_name};
 ghost use Rattle.dpc_model.specs.Words.{spaced, line_of, text_of};
 ghost use Rattle.line_writer.specs.Spaces.{behind_spaces};
 ghost use Rattle.report.specs.Text.{settled_word};
-ghost use Rattle.picture_text.specs.Text.{are_settled, all_settled, title_words, event_words, mark_words, mark_lines, summary_at, summary_line, summary_lines, last_column, legend_lines, picture_text};
+ghost use Rattle.picture_text.specs.Text.{are_settled, all_settled, title_words, told_words, mark_words, mark_lines, summary_at, summary_line, summary_lines, last_column, legend_lines, picture_text};
 
 use crate::labels::labels_of;
 use crate::panels::put_panels;
 use crate::strips::{client_point, strips_of};
 use diagram_printer::names::put_actor;
 use dpc_lists::faults::NoMemory;
-use dpc_model::messages::Event;
 use dpc_model::plans::Plan;
 use line_writer::{end_line, put_first, put_number, put_word};
-use picture_model::columns::{ClientPoint, Column};
+use picture_model::columns::{ClientPoint, Column, Mark};
 use report::text::{Summary, put_summary};
 use std::alloc::Global;
 
@@ -76,32 +75,43 @@ fn put_title(text: &mut Vec<u8>, columns: &[Column]) -> Result<(), NoMemory>
 }
 
 /// A word and an actor, each behind a space.
-fn put_named(text: &mut Vec<u8>, plan: &Plan, word: &[u8], actor: u32) -> Result<(), NoMemory>
+fn put_named(text: &mut Vec<u8>, plan: &Plan, word: &[u8], actor: u64) -> Result<(), NoMemory>
     ensures { OnOk result (text.new.items ≡ text.old.items ++ behind_spaces (word.now ∷ actor_name plan.now actor ∷ [])) }
 {
     put_word(text, word)?;
-    put_actor(text, plan, u64::from(actor))
+    put_actor(text, plan, actor)
 }
 
-/// What happened to a link or a node, each word behind a space.
-fn put_event(text: &mut Vec<u8>, plan: &Plan, event: Event) -> Result<(), NoMemory>
-    ensures { OnOk result (text.new.items ≡ text.old.items ++ behind_spaces (event_words plan.now event)) }
+/// A word and two actors, each behind a space.
+fn put_pair(
+    text: &mut Vec<u8>,
+    plan: &Plan,
+    word: &[u8],
+    from: u64,
+    to: u64,
+) -> Result<(), NoMemory>
+    ensures { OnOk result (text.new.items
+        ≡ text.old.items ++ behind_spaces (word.now ∷ actor_name plan.now from ∷ actor_name plan.now to ∷ [])) }
 {
-    match event {
-        Event::Cut(from, to) => {
-            put_named(text, plan, b"cut", from)?;
-            put_actor(text, plan, u64::from(to))
-        }
-        Event::Heal(from, to) => {
-            put_named(text, plan, b"heal", from)?;
-            put_actor(text, plan, u64::from(to))
-        }
-        Event::Crash(node) => put_named(text, plan, b"crash", node),
-        Event::Restart(node, incarnation) => {
+    put_named(text, plan, word, from)?;
+    put_actor(text, plan, to)
+}
+
+/// What happened, each word behind a space.
+fn put_told(text: &mut Vec<u8>, plan: &Plan, mark: Mark) -> Result<(), NoMemory>
+    ensures { OnOk result (text.new.items ≡ text.old.items ++ behind_spaces (told_words plan.now mark)) }
+{
+    match mark {
+        Mark::Cut(from, to) => put_pair(text, plan, b"cut", from, to),
+        Mark::Heal(from, to) => put_pair(text, plan, b"heal", from, to),
+        Mark::Lose(from, to) => put_pair(text, plan, b"lose", from, to),
+        Mark::Repeat(from, to) => put_pair(text, plan, b"repeat", from, to),
+        Mark::Crash(node) => put_named(text, plan, b"crash", node),
+        Mark::Restart(node, incarnation) => {
             put_named(text, plan, b"restart", node)?;
             put_number(text, incarnation)
         }
-        _ => Ok(()),
+        Mark::Grant(replica, asker) => put_pair(text, plan, b"grant", replica, asker),
     }
 }
 
@@ -110,15 +120,15 @@ pub fn put_mark(
     text: &mut Vec<u8>,
     plan: &Plan,
     column: &Column,
-    event: Event,
+    mark: Mark,
 ) -> Result<(), NoMemory>
-    ensures { OnOk result (text.new.items ≡ text.old.items ++ line_of (mark_words plan.now column.now event)) }
+    ensures { OnOk result (text.new.items ≡ text.old.items ++ line_of (mark_words plan.now column.now mark)) }
 {
     put_first(text, b"phase")?;
     put_number(text, column.number)?;
     put_word(text, b"clock")?;
     put_number(text, column.clock)?;
-    put_event(text, plan, event)?;
+    put_told(text, plan, mark)?;
     end_line(text)?;
     Ok(())
 }
@@ -127,8 +137,8 @@ pub fn put_mark(
 fn put_marks(text: &mut Vec<u8>, plan: &Plan, column: &Column) -> Result<(), NoMemory>
     ensures { OnOk result (text.new.items ≡ text.old.items ++ text_of (mark_lines plan.now column.now)) }
 {
-    for event in column.marks.as_slice() {
-        put_mark(text, plan, column, *event)?;
+    for mark in column.marks.as_slice() {
+        put_mark(text, plan, column, *mark)?;
     }
     Ok(())
 }
@@ -225,7 +235,7 @@ fn put_legend(text: &mut Vec<u8>) -> Result<(), NoMemory>
 }
 
 /// The picture of a run of this plan: how many phases there were and whether every client is settled, panels of rows
-/// with a letter for each phase, what happened to links and nodes, each client's summary, and what the letters mean.
+/// with a letter for each phase, what happened in them, each client's summary, and what the letters mean.
 /// The only error is want of memory.
 pub fn picture_text(alloc: Global, plan: &Plan, columns: &[Column]) -> Result<Vec<u8>, NoMemory>
     ensures { IfOk result (λ text. text.items ≡ picture_text plan.now columns.now) }

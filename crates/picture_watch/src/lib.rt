@@ -2,7 +2,9 @@
 #![tactic(auto)]
 
 mod clients;
+mod grants;
 mod links;
+mod losses;
 mod nodes;
 mod sources;
 pub mod tallies;

@@ -1,7 +1,8 @@
 //! What replicas are.
 ghost use Rattle.std.specs.Prelude.{◌≡◌, false, map, length, IfOk};
 ghost use Rattle.dpc_model.specs.Actors.{nodes_from};
-ghost use Rattle.picture_model.specs.Points.{replica_state, shown_state, up_state};
+ghost use Rattle.picture_model.specs.Marking.{promises_of};
+ghost use Rattle.picture_model.specs.Points.{promise_of, replica_state, shown_state, up_state};
 ghost use Rattle.world_core.specs.Runs.{world_of};
 ghost use Rattle.world_model.specs.Schedules.{node_actors};
 ghost use Rattle.world_model.specs.Worlds.{node_at};
@@ -56,19 +57,40 @@ fn count_nodes(frags: &[FragSpec]) -> Result<u64, NoMemory>
     Ok(count)
 }
 
-/// What all replicas are, in order.
-pub(crate) fn replica_states(alloc: Global, world: &World) -> Result<Vec<ReplicaState>, NoMemory>
+/// To whom the node has its promise that an actor is.
+fn promise_of(world: &World, actor: u64) -> Option<usize>
     requires { world.now.spent ≡ false }
-    ensures { IfOk result (λ states. states.items
+    ensures { result ≡ promise_of (node_at (world_of world.now) actor) }
+{
+    match world.node(actor) {
+        Some(node) => node.promised_to(),
+        None => None,
+    }
+}
+
+/// All replicas in order: what they are, and to whom each has its promise.
+#[derive(Drop)]
+pub(crate) struct Replicas {
+    pub(crate) states: Vec<ReplicaState>,
+    pub(crate) promises: Vec<Option<usize>>,
+}
+
+/// Looks at all replicas.
+pub(crate) fn look_at_replicas(alloc: Global, world: &World) -> Result<Replicas, NoMemory>
+    requires { world.now.spent ≡ false }
+    ensures states { IfOk result (λ seen. seen.states.items
         ≡ map (λ a. replica_state (node_at (world_of world.now) a)) (node_actors world.now.plan)) }
+    ensures promises { IfOk result (λ seen. seen.promises.items ≡ promises_of world.now.plan (world_of world.now)) }
 {
     let plan = world.plan();
     let first = plan.sources.len() as u64;
     let count = count_nodes(plan.frags.as_slice())?;
     let end = first.checked_add(count).ok_or(NoMemory)?;
     let mut states = Vec::new(alloc);
+    let mut promises = Vec::new(alloc);
     for actor in first..end {
         states.push(replica_state(world, actor))?;
+        promises.push(promise_of(world, actor))?;
     }
-    Ok(states)
+    Ok(Replicas { states, promises })
 }

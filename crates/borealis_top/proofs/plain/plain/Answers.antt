@@ -3,7 +3,7 @@ use Rattle.std.proofs.Common.{◌≡◌, ◌∙◌, ℕ, List, Option, Some, sub
 use Rattle.journal_commands.specs.declared.outcome.JournalCommand.{JournalCommand}
 use Rattle.borealis_top.specs.InputEnds.{EndsBy, IsWholeFor}
 use Rattle.picture_commands.specs.declared.form.PictureForm.{PictureForm}
-use Rattle.borealis_top.specs.Questions.{journal_question, pair_question, picture_question}
+use Rattle.borealis_top.specs.Questions.{journal_question, pair_question, picture_question, replay_picture_question}
 use Rattle.borealis_top.proofs.plain.plain.Goals as goal
 
 -- what is one pair of names is the other
@@ -56,3 +56,25 @@ returns-in-Some-Picture-clause-pictured g c =
     subst (λ (f : PictureForm). IsWholeFor (picture_question f) (g.S.Source.edge c.args.input.now) (g.S.Source.edge c.ask-in-Some-Picture.new.input) (g.O.Sink.edge c.args.out.now)
     (g.O.Sink.edge c.ask-in-Some-Picture.new.out) (g.E.Sink.edge c.args.err.now) (g.E.Sink.edge c.ask-in-Some-Picture.new.err) c.ask-in-Some-Picture.result)
     same c.ask-in-Some-Picture.ensures.complete
+
+pub returns-in-Some-PictureReplay-clause-replay_picture : goal.returns-in-Some-PictureReplay-clause-replay_picture
+returns-in-Some-PictureReplay-clause-replay_picture g c =
+    λ form is.
+    let said = c.command_in.ensures in
+    let found = c.in-Some-PictureReplay.is in
+    let here = c.in-Some-PictureReplay.field-0-is in
+    let same : c.in-Some-PictureReplay.form ≡ form = cc in
+    subst (λ (f : PictureForm). EndsBy (replay_picture_question f) (g.S.Source.edge c.args.input.now) (g.S.Source.edge c.ask-in-Some-PictureReplay.new.input) (g.O.Sink.edge c.args.out.now)
+    (g.O.Sink.edge c.ask-in-Some-PictureReplay.new.out) (g.E.Sink.edge c.args.err.now) (g.E.Sink.edge c.ask-in-Some-PictureReplay.new.err) c.ask-in-Some-PictureReplay.result)
+    same c.ask-in-Some-PictureReplay.ensures.ends
+
+pub returns-in-Some-PictureReplay-clause-replay_pictured : goal.returns-in-Some-PictureReplay-clause-replay_pictured
+returns-in-Some-PictureReplay-clause-replay_pictured g c =
+    λ form is.
+    let said = c.command_in.ensures in
+    let found = c.in-Some-PictureReplay.is in
+    let here = c.in-Some-PictureReplay.field-0-is in
+    let same : c.in-Some-PictureReplay.form ≡ form = cc in
+    subst (λ (f : PictureForm). IsWholeFor (replay_picture_question f) (g.S.Source.edge c.args.input.now) (g.S.Source.edge c.ask-in-Some-PictureReplay.new.input) (g.O.Sink.edge c.args.out.now)
+    (g.O.Sink.edge c.ask-in-Some-PictureReplay.new.out) (g.E.Sink.edge c.args.err.now) (g.E.Sink.edge c.ask-in-Some-PictureReplay.new.err) c.ask-in-Some-PictureReplay.result)
+    same c.ask-in-Some-PictureReplay.ensures.complete

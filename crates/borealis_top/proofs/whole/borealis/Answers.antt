@@ -33,6 +33,7 @@ returns-in-None g c =
     (λ what e. (done.ensures.journal what e, done.ensures.answered what e))
     (λ e. (done.ensures.saves e, done.ensures.saved e))
     (λ form e. (done.ensures.picture form e, done.ensures.pictured form e))
+    (λ form e. (done.ensures.replay_picture form e, done.ensures.replay_pictured form e))
     (λ names e. (done.ensures.pair names.0 names.1 e, done.ensures.paired names.0 names.1 e)))
 
 pub returns-in-Some : goal.returns-in-Some
