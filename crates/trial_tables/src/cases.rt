@@ -105,6 +105,16 @@ pub(crate) fn all_cases<R: Threads + Wait + Sync>(
             b"<svg xmlns='http://www.w3.org/2000/svg' role='img' ",
         ),
         ("picture text", CENTRAL, b"phases 10 settled\n"),
+        (
+            "picture replay",
+            journal.as_str(),
+            b"<svg xmlns='http://www.w3.org/2000/svg' role='img' ",
+        ),
+        (
+            "picture replay text",
+            journal.as_str(),
+            b"phases 10 settled\n",
+        ),
         ("upgrade", journal.as_str(), b"borealis 3\nwidth 10\n"),
     ] {
         cases.push(Case::new(alloc, words, input, beginning)?)?;
