@@ -1,5 +1,6 @@
 mod Choices
 mod Found
+mod Lengths
 mod Parts
 mod Pieces
 mod Saves

@@ -1,5 +1,5 @@
 -- Saves one after another: what is acknowledged gives way only to what is saved later.
-use Rattle.std.specs.Prelude.{◌≡◌, ◌⊎◌, ℕ, List, [], ◌∷◌}
+use Rattle.std.specs.Prelude.{◌≡◌, ◌⊎◌, ℕ, ◌+◌, nat_lt, if◌then◌else◌, List, [], ◌∷◌, length, Option, Some, None}
 use Rattle.disk_model.specs.Disk.{Image, MayLeave, History, LeavesOnly}
 use Rattle.saved_slots.specs.Slots.{Reading, Holding, read_of}
 use Rattle.saved_slots.specs.Standing.{IsOldOrNew}
@@ -27,3 +27,8 @@ IsCutShort room kept (payload ∷ payloads) old new =
     × LeavesOnly old mid (IsOldOrNew room kept payload)
     × ((image : Image) → MayLeave mid.now image → read_of room image ≡ Holding payload)
     × IsCutShort room (Holding payload) payloads mid new)
+
+-- how many bytes of a slot the first payload needs that is too long for one
+abbrev pub first_too_long : ℕ → List (List ℕ) → Option ℕ
+first_too_long room [] = None
+first_too_long room (payload ∷ payloads) = if nat_lt room (length payload + 32) then Some (length payload + 32) else first_too_long room payloads

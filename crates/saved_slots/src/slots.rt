@@ -187,6 +187,7 @@ impl<D: Disk> SavedSlots<D> {
         ensures faults { faults_in self.old ≤ faults_in self.new }
         ensures refused { (why : _) → refusal_of (must_reopen self.old) (room_in self.old) (length (P.bytes payload.now)) ≡ Some why → (result ≡ Err why) × IsUnchanged self.old self.new }
         ensures reopen { IsErrOf result Reopen → must_reopen self.old ≡ true }
+        ensures fit { OnOk result (length (P.bytes payload.now) + 32 ≤ room_in self.old) }
         ensures full { (need room : ℕ) → result ≡ Err (Full need room) → (must_reopen self.old ≡ false) × (room_in self.old < length (P.bytes payload.now) + 32) }
         ensures stopped { IsErrOf result DiskFault ⊎ IsErrOf result NoMemory → must_reopen self.new ≡ true }
         ensures number { OnOk result ((number_in self.new ≡ number_in self.old + 1) × (must_reopen self.new ≡ false)) }

@@ -1,5 +1,5 @@
-use Rattle.std.proofs.Common.{◌≡◌, ◌≤◌, ◌+◌, true, map, take}
-use Rattle.saved_slots.specs.Series.{last_kept, GivesWay}
+use Rattle.std.proofs.Common.{◌≡◌, ◌≤◌, ◌+◌, true, None, map, take}
+use Rattle.saved_slots.specs.Series.{last_kept, first_too_long, GivesWay}
 use Rattle.saved_slots.specs.Resting.{history_in, room_in, number_in, kept_in, faults_in, must_reopen, IsResting}
 use Rattle.saved_slots.proofs.series.save_each.Given as goal
 
@@ -10,6 +10,7 @@ invariant-loop-payload g l =
     record {
       same : room_in l.slots ≡ room_in old;
       number : number_in l.slots ≡ number_in old + l.payload-index;
+      fits : first_too_long (room_in old) saved ≡ None;
       faults : faults_in old ≤ faults_in l.slots;
       reopens : must_reopen l.slots ≡ true → must_reopen old ≡ true;
       rests : IsResting old → IsResting l.slots;
