@@ -1,2 +1,3 @@
 pub mod Promised
 pub mod Answered
+pub mod Flags

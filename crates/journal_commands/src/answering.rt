@@ -47,8 +47,8 @@ pub fn answer(alloc: Global, command: JournalCommand, input: Vec<u8>) -> Result<
     }
 }
 
-/// The line on a refusal.
-fn refusal_line(alloc: Global, why: Refusal) -> Result<Vec<u8>, AllocError>
+/// The line on a refusal of a script, or of the journal or recorded stream behind it.
+pub fn refusal_line(alloc: Global, why: Refusal) -> Result<Vec<u8>, AllocError>
     ensures { IfOk result (λ line. line.items ≡ line_of why) }
 {
     match why {

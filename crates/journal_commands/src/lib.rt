@@ -5,4 +5,4 @@ mod answering;
 pub mod laws;
 pub mod outcome;
 
-pub use answering::{answer, framed_report, report};
+pub use answering::{answer, framed_report, refusal_line, report};

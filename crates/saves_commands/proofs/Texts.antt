@@ -4,6 +4,7 @@ use Rattle.std.specs.Prelude.{not, ◌&&◌}
 use Rattle.dpc_model.specs.Words.{text_of}
 use Rattle.dpc_model.specs.declared.plans.Plan.{Plan}
 use Rattle.dpc_model.specs.declared.scripts.Script.{Script}
+use Rattle.journal_commands.proofs.Flags.{open-so, told-so}
 use Rattle.journal_commands.specs.Endings.{Ending, Told, LeftOpen, told_or_open}
 use Rattle.saved_runs.specs.Told.{AreSaid}
 use Rattle.saved_runs.specs.declared.saved.Saved.{Saved}
@@ -25,14 +26,6 @@ unfolding saves_text
 whole-text plan told text a k l h = sym (append-nil text) ∙ ap (λ (left : List Saved). text ++ text_of (lines_from plan a left)) (sym (drop-past told k l)) ∙ h
 
 -- ---- what a run comes to
-
-open-so : (a v : Bool) → a ≡ true → v ≡ false → (a && not v) ≡ true
-open-so a v on left = rw (on, left) refl
-
-told-so : (a v : Bool) → (a ≡ false) ⊎ (v ≡ true) → (a && not v) ≡ false
-told-so a v (inl off) = rw off refl
-told-so true v (inr all) = rw all refl
-told-so false v (inr all) = refl
 
 -- what is told of a run that passes no limit
 pub record IsTold (s : Script) (w : RunOf) (told : List Saved) (text : List ℕ) : Type 0 where
