@@ -16,11 +16,12 @@ use Rattle.status_lines.specs.Lines.{fault_line, entry_line}
 use Rattle.world_core.specs.Runs.{RunOf, world_of}
 use Rattle.world_model.specs.Replays.{ReplayEnd, replay_end}
 use Rattle.world_model.specs.Replays as replay
-use Rattle.world_model.specs.Worlds.{all_settled}
+use Rattle.world_model.specs.Worlds.{run, all_settled}
 use Rattle.picture_model.specs.Marking.{losses_of}
 use Rattle.picture_model.specs.declared.columns.Mark.{Mark}
 use Rattle.picture_commands.specs.declared.form.PictureForm.{PictureForm}
 use Rattle.picture_commands.specs.Endings.{drawn_run}
+use Rattle.picture_commands.proofs.Ends.{whole-drawn}
 use Rattle.picture_commands.specs.Replays.{IsHalted, replay_ending, replayed, replay_picture_ending}
 
 -- one that is longer than the longest is refused
@@ -47,9 +48,11 @@ pub whole-is : (form : PictureForm) (s : Script) (losses : List (List Mark)) (ev
     replay_end s events ≡ replay.Whole → IsEnding (told_or_open (s.settle && not (all_settled (world_of w))) (drawn_run form losses w.plan w.events)) outcome →
     IsEnding (replay_ending form s events (replay_end s events)) outcome
 whole-is form s losses events w outcome told same is h =
-    let here : IsEnding (replay_ending form s events replay.Whole) outcome =
-    subst (λ ls. IsEnding (told_or_open (s.settle && not (all_settled (world_of (record { plan = s.plan; events = events; spent = false })))) (drawn_run form ls s.plan events)) outcome) told
+    let settled = s.settle && not (all_settled (run s.plan events)) in
+    let lost : IsEnding (told_or_open settled (drawn_run form (losses_of s) s.plan events)) outcome =
+    subst (λ ls. IsEnding (told_or_open settled (drawn_run form ls s.plan events)) outcome) told
     (subst (λ (v : RunOf). IsEnding (told_or_open (s.settle && not (all_settled (world_of v))) (drawn_run form losses v.plan v.events)) outcome) same h) in
+    let here : IsEnding (replay_ending form s events replay.Whole) outcome = subst (λ text. IsEnding (told_or_open settled text) outcome) (whole-drawn form s events) lost in
     subst (λ (end : ReplayEnd). IsEnding (replay_ending form s events end) outcome) (sym is) here
 
 -- so is the line on what is wrong

@@ -7,8 +7,7 @@ use Rattle.journal_commands.specs.Endings.{Ending, PastLimits, RefusedBy, IsEndi
 use Rattle.journal_commands.specs.declared.outcome.Outcome.{Outcome}
 use Rattle.lockstep.specs.declared.faults.RunFault.{RunFault}
 use Rattle.lockstep.specs.declared.faults.RunFault.TheVariants.{NoMemory, TooLong}
-use Rattle.picture_model.specs.Drawing.{picture_of, with_losses}
-use Rattle.picture_model.specs.Marking.{losses_of}
+use Rattle.picture_model.specs.Drawing.{picture_of, with_losses, whole_picture}
 use Rattle.picture_model.specs.declared.columns.Column.{Column}
 use Rattle.picture_model.specs.declared.columns.Mark.{Mark}
 use Rattle.picture_svg.specs.Svg.{picture_svg}
@@ -26,9 +25,13 @@ abbrev pub drawn_as : PictureForm → Plan → List Column → List ℕ
 drawn_as Svg plan columns = picture_svg plan columns
 drawn_as Text plan columns = picture_text plan columns
 
--- the picture of a run, with what its script loses and repeats by phase
+-- the picture of a run, with what a script loses and repeats by phase
 abbrev pub drawn_run : PictureForm → List (List Mark) → Plan → List Event → List ℕ
 drawn_run form losses plan events = drawn_as form plan (map (with_losses losses) (picture_of plan events))
+
+-- the picture of the run of a script by these events
+abbrev pub drawn_of : PictureForm → Script → List Event → List ℕ
+drawn_of form s events = drawn_as form s.plan (whole_picture s events)
 
 -- code tells of a run that stopped only where it passes a limit
 abbrev pub IsStopped : RunFault → Outcome → Type 0
@@ -39,7 +42,7 @@ IsStopped (TooLong envelopes items) outcome = IsEnding (PastLimits (record { env
 abbrev pub run_ending : PictureForm → Script → Option Sums → Ending
 run_ending form s (Some sums) = PastLimits sums
 run_ending form s None =
-    let events = lockstep_journal s in told_or_open (s.settle && not (all_settled (run s.plan events))) (drawn_run form (losses_of s) s.plan events)
+    let events = lockstep_journal s in told_or_open (s.settle && not (all_settled (run s.plan events))) (drawn_of form s events)
 
 abbrev pub read_ending : PictureForm → Result Script PlanFault → Ending
 read_ending form (Ok s) = run_ending form s (excess s.plan (lockstep_journal s))

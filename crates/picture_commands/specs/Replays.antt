@@ -13,8 +13,7 @@ use Rattle.status_lines.specs.Lines.{fault_line, entry_line}
 use Rattle.world_model.specs.Replays.{ReplayEnd, replay_end}
 use Rattle.world_model.specs.Replays as replay
 use Rattle.world_model.specs.Worlds.{run, all_settled}
-use Rattle.picture_model.specs.Marking.{losses_of}
-use Rattle.picture_commands.specs.Endings.{drawn_run}
+use Rattle.picture_commands.specs.Endings.{drawn_of}
 use Rattle.picture_commands.specs.declared.form.PictureForm.{PictureForm}
 
 -- code tells of a replay of so many entries that stopped: never of want of memory
@@ -29,7 +28,7 @@ abbrev pub replay_ending : PictureForm → Script → List Event → ReplayEnd �
 replay_ending form s events (replay.Refused k) = RefusedBy (entry_line k 2)
 replay_ending form s events (replay.Passes k reached) = PastLimits reached
 replay_ending form s events replay.Unfinished = RefusedBy (entry_line (length events) 3)
-replay_ending form s events replay.Whole = told_or_open (s.settle && not (all_settled (run s.plan events))) (drawn_run form (losses_of s) s.plan events)
+replay_ending form s events replay.Whole = told_or_open (s.settle && not (all_settled (run s.plan events))) (drawn_of form s events)
 
 abbrev pub replayed : PictureForm → Result (Script × List Event) Refusal → Ending
 replayed form (Ok both) = replay_ending form both.0 both.1 (replay_end both.0 both.1)

@@ -1,6 +1,6 @@
 //! What is to be written of the run of a journal as a picture.
 ghost use Rattle.std.specs.Prelude.{◌≡◌, ◌≤◌, ◌&&◌, not, false, vec_len, IfOk};
-ghost use Rattle.journal_commands.specs.Endings.{RefusedBy, most_journal_input, line_of, told_or_open, IsEnding};
+ghost use Rattle.journal_commands.specs.Endings.{RefusedBy, most_journal_input, told_or_open, IsEnding};
 ghost use Rattle.journal_inputs.specs.Inputs.{input_of};
 ghost use Rattle.law_fit.specs.Fits.{CanRun};
 ghost use Rattle.picture_commands.specs.Endings.{drawn_run};
@@ -17,13 +17,14 @@ use dpc_lists::faults::NoMemory;
 use dpc_model::messages::Event;
 use dpc_model::scripts::Script;
 use journal_commands::outcome::Outcome;
-use journal_inputs::faults::{InputFault, Refusal};
+use journal_commands::refusal_line;
+use journal_inputs::faults::InputFault;
 use journal_inputs::read_both;
 use journal_replay::faults::ReplayFault;
 use journal_replay::replay_watched;
 use picture_watch::watch::Picturing;
-use status_lines::{entry_line, fault_line, item_line};
-use std::alloc::{AllocError, Global};
+use status_lines::entry_line;
+use std::alloc::Global;
 use world_core::world::World;
 
 /// The reason of an entry that may not come where it stands.
@@ -39,17 +40,6 @@ pub fn answer_replay(alloc: Global, form: PictureForm, input: Vec<u8>) -> Result
     ensures { IfOk result (IsEnding (replay_picture_ending form input.items)) }
 {
     journal_answer(alloc, form, input)
-}
-
-/// The line on a refusal.
-fn refusal_line(alloc: Global, why: Refusal) -> Result<Vec<u8>, AllocError>
-    ensures { IfOk result (λ line. line.items ≡ line_of why) }
-{
-    match why {
-        Refusal::Script(fault) => fault_line(alloc, fault),
-        Refusal::Journal(entry, reason) => entry_line(alloc, entry, reason),
-        Refusal::Stream(item) => item_line(alloc, item),
-    }
 }
 
 /// What it comes to of an input of any length.
