@@ -12,7 +12,7 @@ module _ (room : ℕ) where
   behind_fit [] rest fit = refl
   behind_fit (first ∷ front) rest fit =
       (elim (nat_lt room (length first + 32)) as (λ c. cond {A = Option ℕ} c (Some (length first + 32)) (first_too_long room front) ≡ None
-          → cond {A = Option ℕ} c (Some (length first + 32)) (first_too_long room (front ++ rest)) ≡ first_too_long room rest) [
+      → cond {A = Option ℕ} c (Some (length first + 32)) (first_too_long room (front ++ rest)) ≡ first_too_long room rest) [
         | true ↦ λ no. absurd (cc no)
         | false ↦ λ yes. behind_fit front rest yes
       ]) fit
